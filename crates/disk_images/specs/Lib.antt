@@ -1,0 +1,4 @@
+pub mod Crash
+pub mod Calls
+pub mod OneFile
+pub mod Gate
