@@ -1,11 +1,11 @@
 -- What creating a file may leave.
-use Rattle.std.proofs.Common.{◌≡◌, ◌≢◌, ◌⊎◌, inl, inr, ⊎_elim, true, false, ℕ, ◌+◌, ◌≤◌, List, [], ◌++◌, length, Option, Some, None, is_some, refl, sym, ◌∙◌, ap, subst, arith}
+use Rattle.std.proofs.Common.{◌≡◌, inl, inr, ⊎_elim, true, false, ℕ, ◌+◌, List, [], ◌++◌, length, Option, Some, None, is_some, refl, ◌∙◌, ap, arith}
 use Rattle.std.proofs.lemmas.List.{append-nil, drop_all}
 use Rattle.log_model.specs.declared.name.Name.{Name}
-use Rattle.log_model.specs.Files.{Files, content, Reads, IsAbsent, SameBut}
-use Rattle.disk_images.specs.Crash.{DiskView, IsImageNow, IsInNoImage, OnlyAt, Torn, TornFile, Throughout, overwritten}
+use Rattle.log_model.specs.Files.{Files, content, IsAbsent}
+use Rattle.disk_images.specs.Crash.{DiskView, IsImageNow, IsInNoImage, OnlyAt, TornFile, Throughout, overwritten}
 use Rattle.disk_images.specs.Calls.{Creates, CreatedIn, IsTrueDisk}
-use Rattle.disk_images.specs.OneFile.{Touches, IsUnmoved, IsDurableFile, TornAt, IsShort}
+use Rattle.disk_images.specs.OneFile.{IsUnmoved, TornAt, IsShort}
 use Rattle.disk_images.proofs.Moments.{in_one_call, joined, weaker}
 
 module _ (name : Name) (u v w : DiskView) (sound : IsTrueDisk u) (absent : IsAbsent u.files name) (not_gone : ¬ u.gone name) where

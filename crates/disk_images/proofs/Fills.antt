@@ -1,11 +1,10 @@
 -- What writes behind a front leave.
-use Rattle.std.proofs.Common.{◌≡◌, ◌⊎◌, inl, inr, ℕ, ◌+◌, ◌≤◌, ◌<◌, List, [], ◌∷◌, ◌++◌, length, take, drop, Option, Some, None, refl, sym, ◌∙◌, ap, subst, arith, length-append, take-append-drop}
-use Rattle.std.proofs.lemmas.List.{take_at, take-take, length-take}
+use Rattle.std.proofs.Common.{◌≡◌, ℕ, ◌≤◌, List, ◌++◌, length, take, drop, Option, Some, None, refl, sym, ◌∙◌, ap, arith, length-append, take-append-drop}
+use Rattle.std.proofs.lemmas.List.{take_at, take-take}
 use Rattle.log_model.specs.declared.name.Name.{Name}
 use Rattle.log_model.specs.Files.{Files, content, Reads}
-use Rattle.disk_images.specs.Crash.{DiskView, IsImageNow, OnlyAt, Torn, TornFile, Throughout, overwritten}
+use Rattle.disk_images.specs.Crash.{DiskView, IsImageNow, OnlyAt, TornFile, Throughout, overwritten}
 use Rattle.disk_images.specs.Calls.{Writes, Syncs}
-use Rattle.disk_images.specs.OneFile.{TornAt, IsDurableFile, IsUnmoved}
 use Rattle.disk_images.specs.Gate.{IsFronted, IsFilled}
 use Rattle.disk_images.proofs.Moments.{in_one_call}
 use Rattle.disk_images.proofs.Torn.{written_image, only_unchanged}

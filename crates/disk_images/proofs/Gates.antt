@@ -1,13 +1,12 @@
 -- What the writes of the gate protocol may leave.
-use Rattle.std.proofs.Common.{◌≡◌, ◌≢◌, ◌⊎◌, inl, inr, ℕ, ◌+◌, ◌<◌, ◌≤◌, List, [], ◌∷◌, ◌++◌, length, Option, Some, refl, sym, ◌∙◌, ap, subst, arith, length-append, append_assoc}
+use Rattle.std.proofs.Common.{◌≡◌, ◌≢◌, ◌⊎◌, inl, inr, ℕ, ◌+◌, ◌≤◌, List, [], ◌∷◌, ◌++◌, length, Some, refl, ◌∙◌, ap, subst, arith, length-append, append_assoc}
 use Rattle.std.proofs.lemmas.Bool.{cases_eq}
 use Rattle.log_model.specs.declared.name.Name.{Name}
-use Rattle.log_model.specs.Files.{Files, Reads}
 use Rattle.disk_images.specs.Crash.{DiskView, Torn, Throughout, OnlyAt, overwritten}
 use Rattle.disk_images.specs.OneFile.{IsDurableFile, TornAt}
 use Rattle.disk_images.specs.Gate.{IsShut, ClosedOrOpen}
 use Rattle.disk_images.proofs.Moments.{weaker}
-use Rattle.disk_images.proofs.Torn.{only_torn, then_only}
+use Rattle.disk_images.proofs.Torn.{only_torn}
 use Rattle.disk_images.proofs.Pieces.{torn_end, torn_byte, overwritten_end, overwritten_byte}
 
 abbrev shut_gate : ℕ

@@ -1,5 +1,5 @@
 -- How what holds at each moment goes on from call to call.
-use Rattle.std.proofs.Common.{◌≡◌, ◌⊎◌, inl, inr, ⊎_elim, ℕ, ◌+◌, ◌≤◌, ◌<◌, refl, sym, subst, arith}
+use Rattle.std.proofs.Common.{◌≡◌, inl, inr, ℕ, ◌+◌, ◌≤◌, subst, arith}
 use Rattle.std.proofs.lemmas.Bool.{cases_lt}
 use Rattle.log_model.specs.Files.{Files}
 use Rattle.disk_images.specs.Crash.{DiskView, IsImageNow, Elapses, Throughout, Since}

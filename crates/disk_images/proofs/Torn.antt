@@ -1,11 +1,11 @@
 -- What a torn write may leave of one file.
-use Rattle.std.proofs.Common.{◌≡◌, ◌≢◌, ◌⊎◌, inl, inr, ⊎_elim, ℕ, ◌+◌, ◌≤◌, max, List, ◌++◌, length, take, drop, Option, Some, None, refl, sym, ◌∙◌, ap, subst, arith}
+use Rattle.std.proofs.Common.{ℕ, ◌+◌, List, length, Option, Some, None, refl, sym, ◌∙◌, subst, arith}
 use Rattle.log_model.specs.declared.name.Name.{Name}
-use Rattle.log_model.specs.Files.{Files, content, Reads, SameBut}
-use Rattle.disk_images.specs.Crash.{DiskView, IsImageNow, IsDurable, OnlyAt, Torn, TornFile, Elapses, Follows, Shrinks, Throughout, overwritten}
-use Rattle.disk_images.specs.Calls.{Writes, WrittenIn, Syncs}
-use Rattle.disk_images.specs.OneFile.{Touches, IsUnmoved, IsDurableFile, TornAt}
-use Rattle.disk_images.proofs.Moments.{in_one_call, goes_on, joined, weaker, at_end}
+use Rattle.log_model.specs.Files.{Files, content}
+use Rattle.disk_images.specs.Crash.{DiskView, IsImageNow, IsDurable, OnlyAt, Torn, TornFile, Follows, Throughout}
+use Rattle.disk_images.specs.Calls.{Writes, WrittenIn}
+use Rattle.disk_images.specs.OneFile.{IsUnmoved, TornAt}
+use Rattle.disk_images.proofs.Moments.{in_one_call, joined, weaker, at_end}
 
 pub untorn : (at n : ℕ) (c : List ℕ) → Torn at n c c
 untorn at n c = record { before = refl; after = refl; no_shorter = omega arith; no_longer = omega arith }

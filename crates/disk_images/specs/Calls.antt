@@ -1,5 +1,5 @@
 -- What each call of a disk does.
-use Rattle.std.specs.Prelude.{◌≡◌, ◌≢◌, ◌⊎◌, ℕ, ◌+◌, ◌-◌, ◌≤◌, ◌^◌, List, [], ◌++◌, length, take, drop, min, Option, Some, None, true, is_some, MatchOption, Result, OnOk, IfOk, IsErr, IsErrOf}
+use Rattle.std.specs.Prelude.{◌≡◌, ◌≢◌, ◌⊎◌, ℕ, ◌+◌, ◌-◌, ◌≤◌, ◌^◌, List, [], length, min, true, is_some, Result, OnOk}
 use Rattle.log_model.specs.declared.name.Name.{Name}
 use Rattle.log_model.specs.Files.{Files, content, IsAbsent, Reads, SameBut, Same, IsName}
 use Rattle.disk_images.specs.Crash.{DiskView, IsImageNow, IsDurable, IsInNoImage, Follows, Shrinks, Elapses, overwritten, Torn, TornFile}

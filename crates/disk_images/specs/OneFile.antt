@@ -1,7 +1,7 @@
 -- A call that works on one file.
-use Rattle.std.specs.Prelude.{◌≡◌, ◌≢◌, ◌⊎◌, ℕ, ◌≤◌, List, length, Option, Some, None}
+use Rattle.std.specs.Prelude.{◌≡◌, ◌⊎◌, ℕ, ◌≤◌, List, length, Option, Some, None}
 use Rattle.log_model.specs.declared.name.Name.{Name}
-use Rattle.log_model.specs.Files.{Files, content, IsAbsent, Reads, SameBut}
+use Rattle.log_model.specs.Files.{Files, content, Reads, SameBut}
 use Rattle.disk_images.specs.Crash.{DiskView, IsImageNow, IsDurable, TornFile}
 
 -- only this file may read otherwise, no name is newly gone, and no file has a new former name

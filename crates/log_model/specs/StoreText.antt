@@ -2,7 +2,7 @@
 use Rattle.std.specs.Prelude.{◌≡◌, ℕ, ◌+◌, ◌-◌, ◌<◌, ◌≤◌, ◌^◌, Bool, not, ◌&&◌, ◌||◌, ◌==◌, nat_lt, nat_le, List, [], ◌∷◌, ◌++◌, length, take, drop, Option, Some, None}
 use Rattle.std.specs.List.{flat_map, AllByRecursion}
 use Rattle.byteorder.specs.Endian.{big_bytes}
-use Rattle.cell_model.specs.Cell.{Cell, IsCell, spelling, number_at, first_fault}
+use Rattle.cell_model.specs.Cell.{IsCell, spelling, number_at, first_fault}
 use Rattle.cell_model.specs.Order.{NumberedCell}
 use Rattle.cell_model.specs.Merge.{IsRising}
 

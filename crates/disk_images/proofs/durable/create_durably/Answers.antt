@@ -1,4 +1,4 @@
-use Rattle.std.proofs.Common.{[], length, ◌∙◌, subst, List, ℕ, arith}
+use Rattle.std.proofs.Common.{[], length, subst, List, ℕ, arith}
 use Rattle.std.proofs.lemmas.Result.{on_ok_weaker}
 use Rattle.disk_images.specs.Crash.{OnlyAt}
 use Rattle.disk_images.specs.OneFile.{IsDurableFile, IsShort}

@@ -1,8 +1,8 @@
 use Rattle.std.proofs.Math.Logic.{∥∥₁_map}
-use Rattle.std.proofs.Common.{length, ◌≡◌, ◌∙◌, ap, sym, subst, arith}
-use Rattle.log_model.specs.Files.{content, Reads}
+use Rattle.std.proofs.Common.{length, sym, subst, arith}
+use Rattle.log_model.specs.Files.{Reads}
 use Rattle.disk_images.specs.Crash.{IsDurable, overwritten}
-use Rattle.disk_images.specs.OneFile.{TornAt, IsDurableFile}
+use Rattle.disk_images.specs.OneFile.{TornAt}
 use Rattle.disk_images.proofs.Moments.{goes_on, more_time}
 use Rattle.std.proofs.lemmas.Result.{on_ok_weaker}
 use Rattle.disk_images.proofs.Torn.{writing, written_image}

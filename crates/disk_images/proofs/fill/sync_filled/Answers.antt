@@ -1,6 +1,6 @@
 use Rattle.std.proofs.Math.Logic.{∥∥₁_map}
 use Rattle.std.proofs.lemmas.Result.{on_ok_weaker}
-use Rattle.std.proofs.Common.{◌∙◌, ◌≡◌, List, ℕ, ap, Some}
+use Rattle.std.proofs.Common.{◌∙◌, ap}
 use Rattle.log_model.specs.Files.{Reads}
 use Rattle.disk_images.specs.Crash.{IsDurable}
 use Rattle.disk_images.proofs.Fills.{sync_moment}

@@ -1,6 +1,5 @@
 use Rattle.std.proofs.Math.Logic.{∥∥₁_map, ∥∥₁_elim}
-use Rattle.std.proofs.Common.{[], ◌∷◌, ◌++◌, length-append, sym, ◌∙◌, arith}
-use Rattle.std.proofs.lemmas.Result.{on_ok_weaker}
+use Rattle.std.proofs.Common.{[], ◌∷◌, ◌++◌, length-append, arith}
 use Rattle.disk_images.specs.Crash.{OnlyAt}
 use Rattle.disk_images.specs.Gate.{ClosedOrOpen}
 use Rattle.disk_images.proofs.Moments.{more_time}
