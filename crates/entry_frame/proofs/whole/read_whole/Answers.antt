@@ -1,0 +1,32 @@
+use Rattle.std.proofs.Common.{◌++◌, List, [], Option, Ok, sym, ◌∙◌, subst}
+use Rattle.std.proofs.lemmas.Result.{err_from_is_err_and}
+use Rattle.log_model.specs.Entry.{Entry}
+use Rattle.log_model.specs.LogText.{FileKey}
+use Rattle.entry_frame.specs.Feed.{IsFed, IsMemoryOrDamage, entry_given}
+use Rattle.entry_frame.proofs.FeedLaws.{refused_by, none_is_drained}
+use Rattle.entry_frame.proofs.whole.read_whole.Goals as goal
+
+pub loop-entries-init : goal.loop-entries-init
+loop-entries-init c = record {
+  key = c.in_ok-give.ensures.key ∙ c.new-feed.ensures.key;
+  fed = subst (λ (es : List Entry). IsFed c.give.new.self c.args.bytes.now es) (sym c.new-entries.ensures.items) (c.in_ok-give.ensures.given [] [] c.new-feed.ensures.fed);
+}
+
+pub loop-entries-preserved : goal.loop-entries-preserved
+loop-entries-preserved c =
+    let fed = c.in_ok-entry.ensures.taken c.args.bytes.now c.loop-entries.entries.items c.loop-entries.invariant.fed in
+    let one = subst (λ (o : Option Entry). IsFed c.take.new.self c.args.bytes.now (c.loop-entries.entries.items ++ entry_given (Ok o))) c.in-Some.is fed in
+    record {
+      key = c.in_ok-entry.ensures.key ∙ c.loop-entries.invariant.key;
+      fed = subst (λ (es : List Entry). IsFed c.take.new.self c.args.bytes.now es) (sym c.in_ok-push.ensures.items) one;
+    }
+
+pub returns-in_err-entry-clause-damaged : goal.returns-in_err-entry-clause-damaged
+returns-in_err-entry-clause-damaged c =
+    let p = err_from_is_err_and c.from_residual-in_err-entry.result c.from_residual-in_err-entry.ensures.1 in
+    let fed = c.in_err-entry.ensures.taken c.args.bytes.now c.loop-entries.entries.items c.loop-entries.invariant.fed in
+    let found = refused_by c.take.new.self c.args.bytes.now (c.loop-entries.entries.items ++ []) c.in_err-entry.field-0.0 c.in_err-entry.ensures.damaged fed in
+    rw (p.1, p.2) (subst (λ (k : FileKey). IsMemoryOrDamage k c.args.bytes.now c.in_err-entry.field-0.0) (c.in_err-entry.ensures.key ∙ c.loop-entries.invariant.key) found)
+
+pub finish-requires : goal.finish-requires
+finish-requires c = none_is_drained c.in_ok-entry.field-0 c.in_ok-entry.ensures.drained c.in_default.not-Some

@@ -1,0 +1,69 @@
+//! The bytes of one entry.
+
+ghost use Rattle.std.specs.Prelude.{◌≡◌, ◌≤◌, ◌<◌, ◌^◌, length};
+ghost use Rattle.log_model.specs.Entry.{Entry, entry_frame};
+ghost use Rattle.entry_frame.specs.Spelling.{IsSpelling, renumbered};
+
+use byteorder::{BigEndian, ByteOrder};
+use std::marker::Model;
+
+/// Kind, length and body of an entry: what stands behind its gate in a log, at most 1,048,581 bytes.
+#[derive(Debug, Drop)]
+pub struct EntryBytes {
+    bytes: Vec<u8>,
+}
+
+impl Model for EntryBytes {
+    ghost use Rattle.std.specs.Prelude.{List, ℕ};
+    ghost use Rattle.entry_frame.specs.Spelling.{IsSpelling};
+
+    ghost Value = { List ℕ };
+
+    ghost view = { λ e. e.bytes.items };
+
+    ghost invariant = { λ e. IsSpelling e.bytes.items };
+}
+
+impl EntryBytes {
+    /// The bytes that spell an entry.
+    pub(crate) fn of_spelling(bytes: Vec<u8>) -> EntryBytes
+        requires { IsSpelling bytes.items }
+        ensures { result ≡ bytes.items }
+    {
+        EntryBytes { bytes }
+    }
+
+    /// How many bytes there are.
+    pub fn len(&self) -> usize
+        ensures len { result ≡ length self.now }
+        ensures within { result ≤ 1048581 }
+    {
+        self.bytes.len()
+    }
+
+    /// The bytes, lent.
+    pub fn as_slice(&self) -> &[u8]
+        ensures value { result.now ≡ self.now }
+        ensures spelled { IsSpelling self.now }
+        ensures within { length self.now ≤ 1048581 }
+    {
+        self.bytes.as_slice()
+    }
+
+    /// Gives the entry another number, and changes nothing else. It takes no memory.
+    pub fn set_number(&mut self, number: u64)
+        requires given { 1 ≤ number }
+        requires number { number < 2 ^ 48 }
+        ensures { (e : Entry) → self.old ≡ entry_frame e → self.new ≡ entry_frame (record e { number = number }) }
+    {
+        write_number(&mut self.bytes, number);
+    }
+}
+
+/// Writes the number over the one that stands behind kind, length and region.
+fn write_number(bytes: &mut [u8], number: u64)
+    requires { 17 ≤ length bytes.old }
+    ensures { bytes.new ≡ renumbered bytes.old number }
+{
+    BigEndian::write_u64(&mut bytes[9..], number);
+}

@@ -1,0 +1,24 @@
+//! An entry of a log.
+
+use kv_cell::Batch;
+use std::marker::Model;
+
+/// The cells that one edit of a region puts, with its number there and its write time in milliseconds.
+/// The region is in 1..=64, the number in 1..=2^48-1, the time at most 2^63-1.
+#[derive(Debug, Drop)]
+pub struct Entry {
+    pub region: u32,
+    pub number: u64,
+    pub time: u64,
+    pub batch: Batch,
+}
+
+impl Model for Entry {
+    ghost use Rattle.log_model.specs.Entry.{Entry as TheEntry, IsEntry};
+
+    ghost Value = { TheEntry };
+
+    ghost view = { λ e. record { region = e.region; number = e.number; time = e.time; cells = e.batch } };
+
+    ghost invariant = { λ e. IsEntry (record { region = e.region; number = e.number; time = e.time; cells = e.batch }) };
+}

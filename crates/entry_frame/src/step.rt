@@ -1,0 +1,122 @@
+//! What comes next in the bytes of a file of which more may come.
+
+ghost use Rattle.std.specs.Prelude.{◌≡◌, ◌++◌, ℕ, ◌<◌, ◌≤◌, ◌+◌, ◌^◌, ◌↔◌, List, length, take, slice_index, IsTrue};
+ghost use Rattle.std.specs.List.{AllByRecursion};
+ghost use Rattle.cell_model.specs.Cell.{number_at};
+ghost use Rattle.log_model.specs.Entry.{Entry};
+ghost use Rattle.log_model.specs.LogText.{IsEntryOf, header};
+ghost use Rattle.entry_frame.specs.Feed.{key_of, passed};
+ghost use Rattle.entry_frame.specs.Step.{IsAtGate, IsNext, IsWhole};
+
+use crate::frame::{EntryRef, Frame};
+use crate::phase::FileKey;
+use crate::reading::next_frame;
+use byteorder::{BigEndian, ByteOrder};
+use kv_cell::u32_at;
+
+/// What a reader does next.
+#[derive(Debug, Drop)]
+pub(crate) enum Step<'a> {
+    /// It takes this entry, and goes so many bytes on.
+    Entry { entry: EntryRef<'a>, used: usize },
+    /// It stops: the text has ended.
+    Ended(Option<u64>),
+    /// It refuses at this offset.
+    Damaged(u64),
+    /// It waits for more bytes. Where none come, the text ends here, or is damaged at this offset.
+    Wait(Option<u64>),
+}
+
+/// The header of a log or edits file: `HWL1`, version 1 and the number of its name.
+pub fn file_header(number: u64) -> [u8; 16]
+    ensures { result ≡ header 1 number }
+{
+    let mut bytes = [72, 87, 76, 49, 0, 0, 0, 1, 0, 0, 0, 0, 0, 0, 0, 0];
+    BigEndian::write_u64(&mut bytes[8..], number);
+    bytes
+}
+
+fn has_header(bytes: &[u8], number: u64) -> bool
+    requires { 16 ≤ length bytes.now }
+    ensures { IsTrue result ↔ (take 16 bytes.now ≡ header 1 number) }
+{
+    let header = file_header(number);
+    &bytes[..16] == header.as_slice()
+}
+
+/// What comes next behind so many entries. The bytes begin at this offset, and with the header where there is no entry.
+pub(crate) fn next_step(file: FileKey, count: u64, at: u64, bytes: &[u8]) -> Step<'_>
+    requires some { 0 < count → 0 < length bytes.now }
+    requires offset { at < 2 ^ 63 }
+    ensures whole { IsWhole bytes.now result }
+    ensures next { (given : List ℕ) (taken : List Entry) → count ≡ length taken → AllByRecursion (IsEntryOf (key_of file)) taken
+        → given ≡ passed (key_of file) taken ++ bytes.now → at ≡ length (passed (key_of file) taken)
+        → IsNext (key_of file) bytes.now given taken result }
+{
+    if count > 0 {
+        return step_at_gate(file, count, at, bytes);
+    }
+    if bytes.len() <= 17 {
+        return Step::Wait(None);
+    }
+    if !has_header(bytes, file.number) {
+        return Step::Damaged(0);
+    }
+    match step_at_gate(file, 0, 16, &bytes[16..]) {
+        Step::Entry { entry, used } => Step::Entry {
+            entry,
+            used: 16 + used,
+        },
+        other => other,
+    }
+}
+
+/// What comes next at a gate behind so many entries of the file, at this offset.
+fn step_at_gate(file: FileKey, count: u64, at: u64, bytes: &[u8]) -> Step<'_>
+    requires { 0 < length bytes.now }
+    ensures { IsAtGate (key_of file) count at bytes.now result }
+{
+    if bytes[0] != 0xA5 {
+        return Step::Ended(None);
+    }
+    if bytes.len() < 7 {
+        return Step::Wait(if bytes.len() == 1 { None } else { Some(at) });
+    }
+    let len = u32_at(bytes, 2) as usize;
+    if len > 1_048_576 {
+        return Step::Damaged(at);
+    }
+    if bytes.len() - 7 < len {
+        return Step::Wait(Some(at));
+    }
+    step_at_frame(file, count, at, bytes)
+}
+
+/// The same where a whole frame and its next gate are there.
+fn step_at_frame(file: FileKey, count: u64, at: u64, bytes: &[u8]) -> Step<'_>
+    requires gate { slice_index bytes.now 0 ≡ 165 }
+    requires whole { 7 + number_at 2 4 bytes.now ≤ length bytes.now }
+    ensures { IsAtGate (key_of file) count at bytes.now result }
+{
+    match next_frame(bytes, 0) {
+        Ok(Frame::Entry { entry, next }) => {
+            if file.region != 0 && entry.region != file.region {
+                return Step::Damaged(at);
+            }
+            Step::Entry { entry, used: next }
+        }
+        Ok(
+            Frame::End {
+                count: told,
+                next: _,
+            },
+        ) => {
+            if told != count {
+                return Step::Damaged(at);
+            }
+            Step::Ended(Some(told))
+        }
+        Ok(Frame::Stop) => Step::Damaged(at),
+        Err(_) => Step::Damaged(at),
+    }
+}

@@ -1,0 +1,133 @@
+//! Worked files.
+
+ghost use Rattle.std.specs.Prelude.{◌≡◌, ◌+◌, ◌<◌, ◌≤◌, length, OnOk};
+ghost use Rattle.entry_frame.specs.Feed.{IsDrained};
+
+use super::*;
+use kv_cell::{Batch, Cell};
+use std::alloc::Global;
+use std::test::*;
+
+/// One put into region 1 with number 1 at time 1000: row `r`, column `f:q`, timestamp 1, value `v`.
+const ONE_PUT: [u8; 53] = [
+    1, 0, 0, 0, 48, 0, 0, 0, 1, 0, 0, 0, 0, 0, 0, 0, 1, 0, 0, 0, 0, 0, 0, 3, 232, 0, 0, 0, 1, 0, 0,
+    0, 15, 0, 0, 0, 1, 0, 1, b'r', 1, b'f', b'q', 0, 0, 0, 0, 0, 0, 0, 1, 4, b'v',
+];
+
+fn one_cell(rt: &HostRuntime) -> Result<Batch, Fail> {
+    let cell = Cell::new(rt.alloc(), b"r", b"f", b"q", 1, 4, b"v")
+        .ok()
+        .ok_or("within the limits")?;
+    let mut cells = Vec::new(rt.alloc());
+    cells.push(cell)?;
+    Ok(Batch::new(cells).ok().ok_or("a batch")?)
+}
+
+#[test]
+fn one_put_is_a_body_of_48_bytes(rt: HostRuntime) -> Result<(), Fail> {
+    let batch = one_cell(&rt)?;
+    let mut bytes = encode_entry(rt.alloc(), 1, 2, 1000, &batch)?;
+    bytes.set_number(1);
+    assert_eq!(rt; bytes.as_slice(), ONE_PUT.as_slice());
+    Ok(())
+}
+
+/// The log of number 1 with the entry of that put, and an end frame.
+const ENDED: [u8; 85] = [
+    b'H', b'W', b'L', b'1', 0, 0, 0, 1, 0, 0, 0, 0, 0, 0, 0, 1, 0xA5, 1, 0, 0, 0, 48, 0, 0, 0, 1,
+    0, 0, 0, 0, 0, 0, 0, 1, 0, 0, 0, 0, 0, 0, 3, 232, 0, 0, 0, 1, 0, 0, 0, 15, 0, 0, 0, 1, 0, 1,
+    b'r', 1, b'f', b'q', 0, 0, 0, 0, 0, 0, 0, 1, 4, b'v', 0xA5, 2, 0, 0, 0, 8, 0, 0, 0, 0, 0, 0, 0,
+    1, 0,
+];
+
+const LOG_1: FileKey = FileKey {
+    region: 0,
+    number: 1,
+};
+
+/// Takes what there is.
+fn take_all(alloc: Global, feed: &mut Feed, entries: &mut Vec<Entry>) -> Result<(), FeedRefusal>
+    ensures reach { feed.new.at + length feed.new.unread ≡ feed.old.at + length feed.old.unread }
+    ensures drained { OnOk result (IsDrained feed.new) }
+{
+    while let Some(entry) = feed.take(alloc)? {
+        entries.push(entry)?;
+    }
+    Ok(())
+}
+
+/// Feeds the bytes in two pieces.
+fn read_cut(
+    alloc: Global,
+    bytes: &[u8],
+    cut: usize,
+) -> Result<(Vec<Entry>, Option<u64>), FeedRefusal>
+    requires cut { cut ≤ length bytes.now }
+    requires short { length bytes.now < 100 }
+{
+    let mut feed = Feed::new(alloc, LOG_1);
+    let mut entries = Vec::new(alloc);
+    feed.give(&bytes[..cut])?;
+    take_all(alloc, &mut feed, &mut entries)?;
+    feed.give(&bytes[cut..])?;
+    take_all(alloc, &mut feed, &mut entries)?;
+    Ok((entries, feed.finish()?))
+}
+
+#[test]
+fn one_put_is_71_bytes_however_they_are_cut(rt: HostRuntime) -> Result<(), Fail> {
+    let mut file = [0; 71];
+    file[..70].copy_from_slice(&ENDED[..70]);
+    for cut in 0..72 {
+        let (entries, ended) = read_cut(rt.alloc(), &file, cut).ok().ok_or("a log")?;
+        assert_eq!(rt; entries.len(), 1);
+        assert!(rt; ended.is_none());
+        assert!(rt;
+            entries
+                .iter()
+                .all(|entry| entry.number == 1 && entry.time == 1000)
+        );
+    }
+    Ok(())
+}
+
+#[test]
+fn damage_is_told_at_its_gate(rt: HostRuntime) -> Result<(), Fail> {
+    let (entries, ended) = read_whole(rt.alloc(), LOG_1, &ENDED).ok().ok_or("a log")?;
+    assert_eq!(rt; entries.len(), 1);
+    assert_eq!(rt; ended, Some(1));
+    let cut = read_whole(rt.alloc(), LOG_1, &ENDED[..60]);
+    assert!(rt; matches!(cut, Err(FeedRefusal::Damaged { at: 16 })));
+    let (entries, ended) = read_whole(rt.alloc(), LOG_1, &ENDED[..17])
+        .ok()
+        .ok_or("a log")?;
+    assert!(rt; entries.is_empty() && ended.is_none());
+    let mut bytes = ENDED;
+    bytes[84] = 0xA5;
+    assert!(rt;
+        matches!(
+            read_whole(rt.alloc(), LOG_1, &bytes),
+            Err(FeedRefusal::Damaged { at: 70 })
+        )
+    );
+    bytes = ENDED;
+    bytes[83] = 2;
+    assert!(rt;
+        matches!(
+            read_whole(rt.alloc(), LOG_1, &bytes),
+            Err(FeedRefusal::Damaged { at: 70 })
+        )
+    );
+    bytes[16] = 0;
+    let (entries, ended) = read_whole(rt.alloc(), LOG_1, &bytes).ok().ok_or("a log")?;
+    assert!(rt; entries.is_empty() && ended.is_none());
+    bytes[3] = b'2';
+    assert!(rt;
+        matches!(
+            read_whole(rt.alloc(), LOG_1, &bytes[..18]),
+            Err(FeedRefusal::Damaged { at: 0 })
+        )
+    );
+    assert!(rt; matches!(read_whole(rt.alloc(), LOG_1, &bytes[..17]), Ok(_)));
+    Ok(())
+}

@@ -1,0 +1,4 @@
+pub mod Codes
+pub mod Draft
+pub mod Layers
+pub mod Walk

@@ -1,0 +1,62 @@
+//! The cells of one edit in order, before the edit has its number.
+
+ghost use Rattle.std.specs.Prelude.{◌≡◌, map, IfOk};
+ghost use Rattle.cell_model.specs.Merge.{at_number};
+ghost use Rattle.mem_segments.specs.Draft.{IsDraftOf};
+
+use crate::ordering::ordered_rows;
+use crate::row::Row;
+use kv_cell::{Batch, Cell, NoMemory};
+use std::alloc::Global;
+use std::marker::Model;
+
+/// Cells of one edit in order, of which each key stands once, whose number comes later. Contracts see the list.
+// Each row has the number 0 until then.
+#[derive(Drop)]
+pub struct Draft {
+    pub(crate) rows: Vec<Row>,
+}
+
+impl Model for Draft {
+    ghost use Rattle.std.specs.Prelude.{◌≡◌, List, map};
+    ghost use Rattle.cell_model.specs.Cell.{Cell as TheCell};
+    ghost use Rattle.cell_model.specs.Order.{NumberedCell};
+    ghost use Rattle.cell_model.specs.Merge.{IsRising, at_number};
+
+    ghost Value = { List TheCell };
+
+    ghost view = { λ d. map (λ (x : NumberedCell). x.1) d.rows.items };
+
+    ghost invariant = { λ d. IsRising d.rows.items × (d.rows.items ≡ at_number 0 (map (λ (x : NumberedCell). x.1) d.rows.items)) };
+}
+
+impl Draft {
+    /// The batch's cells in order, with bytes of their own. Of two with one key the later one stays.
+    pub fn new(alloc: Global, batch: &Batch) -> Result<Draft, NoMemory>
+        ensures { IfOk result (λ draft. IsDraftOf draft batch.now) }
+    {
+        let rows = draft_rows(alloc, batch.as_slice())?;
+        let rows = ordered_rows(alloc, &rows)?;
+        Ok(Draft { rows })
+    }
+}
+
+/// The cells at number 0, in their order.
+fn draft_rows(alloc: Global, cells: &[Cell]) -> Result<Vec<Row>, NoMemory>
+    ensures { IfOk result (λ rows. rows.items ≡ at_number 0 cells.now) }
+{
+    let mut rows = Vec::new(alloc);
+    for cell in cells {
+        rows.push(Row::new(alloc, 0, cell.copy(alloc)?)?)?;
+    }
+    Ok(rows)
+}
+
+/// Writes one number over that of each row.
+pub(crate) fn renumber(rows: &mut [Row], number: u64)
+    ensures { rows.new ≡ map (λ x. (number, x.1)) rows.old }
+{
+    for row in rows.iter_mut() {
+        row.set_number(number);
+    }
+}

@@ -1,0 +1,84 @@
+//! A numbered cell that several segments share.
+
+ghost use Rattle.std.specs.Prelude.{◌≡◌, IfOk};
+ghost use Rattle.cell_model.specs.Order.{numbered_cmp};
+ghost use Rattle.mem_segments.specs.Walk.{is_before};
+
+use kv_cell::{Cell, NoMemory, compare_numbered};
+use std::alloc::Global;
+use std::cmp::Ordering;
+use std::marker::Model;
+use std::sync::Arc;
+
+/// A cell with the number of its edit. Contracts see the pair, number first.
+#[derive(Drop)]
+pub struct Row {
+    number: u64,
+    cell: Arc<Cell, Global>,
+}
+
+impl Model for Row {
+    ghost use Rattle.std.specs.Arc.{arc_value};
+    ghost use Rattle.cell_model.specs.Order.{NumberedCell};
+
+    ghost Value = { NumberedCell };
+
+    ghost view = { λ r. (r.number, arc_value r.cell) };
+}
+
+impl Row {
+    /// A row of its own.
+    pub fn new(alloc: Global, number: u64, cell: Cell) -> Result<Row, NoMemory>
+        ensures { IfOk result (λ row. row ≡ (number, cell)) }
+    {
+        Ok(Row {
+            number,
+            cell: Arc::new(alloc, cell)?,
+        })
+    }
+
+    /// The same cell, shared: no byte is copied. A count of sharers that is full is told as want of memory.
+    pub fn share(&self) -> Result<Row, NoMemory>
+        ensures { IfOk result (λ row. row ≡ self.now) }
+    {
+        Ok(Row {
+            number: self.number,
+            cell: Arc::try_clone(&self.cell)?,
+        })
+    }
+
+    /// Writes another number over the row's.
+    pub(crate) fn set_number(&mut self, number: u64)
+        ensures { self.new ≡ (number, self.old.1) }
+    {
+        self.number = number;
+    }
+
+    /// The number of the cell's edit.
+    pub fn number(&self) -> u64
+        ensures { result ≡ self.now.0 }
+    {
+        self.number
+    }
+
+    /// The cell, lent.
+    pub fn cell(&self) -> &Cell
+        ensures { result.now ≡ self.now.1 }
+    {
+        &self.cell
+    }
+
+    /// The order of numbered cells: row, family and qualifier rise, and timestamp, type and number fall.
+    pub fn compare(&self, other: &Row) -> Ordering
+        ensures { result ≡ numbered_cmp self.now other.now }
+    {
+        compare_numbered(self.cell(), self.number(), other.cell(), other.number())
+    }
+
+    /// Whether the cell's row lies below these bytes.
+    pub(crate) fn is_before(&self, bound: &[u8]) -> bool
+        ensures { result ≡ is_before bound.now self.now }
+    {
+        self.cell().row.as_slice().cmp(bound).is_lt()
+    }
+}

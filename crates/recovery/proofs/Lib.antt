@@ -1,0 +1,16 @@
+pub mod Names
+pub mod Lists
+pub mod Stores
+pub mod Logs
+pub mod Rising
+pub mod Contents
+pub mod Numbers
+pub mod Lasts
+pub mod Likes
+pub mod Archived
+pub mod Flushed
+pub mod Appearing
+pub mod Longer
+pub mod Started
+pub mod OneStore
+pub mod Proved

@@ -1,0 +1,81 @@
+-- How the lines are put together from their parts.
+use Rattle.std.proofs.Common.{◌≡◌, ℕ, ◌≤◌, List, [], ◌∷◌, ◌++◌, length, take, codes, refl, sym, ap, ◌∙◌, append_assoc, arith}
+use Rattle.std.specs.List.{flat_map, join_with_byte}
+use Rattle.std.specs.Fmt.{decimal, digits}
+use Rattle.std.proofs.lemmas.List.{length-append, take-take}
+use Rattle.std.proofs.Math.Seq.{take-append_seam}
+use Rattle.cell_model.specs.Cell.{Cell}
+use Rattle.cell_model.specs.Order.{NumberedCell}
+use Rattle.region_model.specs.Calls.{Answer, PutOk, PutMemory, PutFault, PutSpent, Scanned, ScanMemory, FlushOk, FlushNothing, FlushBusy, FlushFault, FlushMemory, RollOk, RollNothing, RollFault, RollMemory}
+use Rattle.script_model.specs.Report.{Report, ReplyLine, report_text, region_text, reply_text, replies_text, cell_line, cells_told, answer_words, kind_name}
+use Rattle.script_model.specs.Text.{printed}
+use Rattle.report_text.specs.Texts.{columns_text, stamp_text, answer_text}
+
+-- what begins with something longer begins with its beginning
+pub kept_past : (n m : ℕ) (old more mid new : List ℕ) → n ≡ length old → m ≡ length mid → mid ≡ old ++ more → take m new ≡ mid → take n new ≡ old
+kept_past n m old more mid new a b is h =
+    let less : n ≤ m = omega (arith, ap length is, length-append old more) in
+    let first : take n (take m new) ≡ take n new = take-take n m new less in
+    sym first ∙ ap (take n) (h ∙ is) ∙ rw a (take-append_seam old more)
+
+regroup_cell : (n r f q t k v : List ℕ) → (n ++ (32 ∷ (r ++ (32 ∷ (f ++ (32 ∷ (q ++ (32 ∷ (t ++ (32 ∷ (k ++ (32 ∷ v)))))))))))) ++ (10 ∷ []) ≡ n ++ ((32 ∷ (r ++ (32 ∷ (f ++ (32 ∷ q))))) ++ ((32 ∷ (t ++ (32 ∷ (k ++ (32 ∷ v))))) ++ (10 ∷ [])))
+regroup_cell n r f q t k v = simp append_assoc
+
+regroup_reply : (h c a cells : List ℕ) → ((h ++ (32 ∷ (c ++ (32 ∷ a)))) ++ (10 ∷ [])) ++ cells ≡ h ++ (32 ∷ (c ++ (32 ∷ (a ++ (10 ∷ cells)))))
+regroup_reply h c a cells = simp append_assoc
+
+cell_parts : (number : ℕ) (x : NumberedCell) → x.0 ≡ number → cell_line x ≡ codes "cell " ++ (decimal number ++ (columns_text x.1.row x.1.family x.1.qualifier ++ (stamp_text x.1.ts x.1.kind x.1.value ++ codes "\n")))
+unfolding cell_line columns_text stamp_text
+cell_parts number x e =
+    rw e (ap (λ (t : List ℕ). codes "cell " ++ t) (regroup_cell (decimal number) (printed x.1.row) (printed x.1.family) (printed x.1.qualifier) (decimal x.1.ts) (kind_name x.1.kind) (printed x.1.value)))
+
+answer_joined : (w : List ℕ) (answer : Answer) → join_with_byte 32 (w ∷ answer_words answer) ≡ w ++ (32 ∷ answer_text answer)
+unfolding answer_text
+answer_joined w (PutOk n) = refl
+answer_joined w (PutMemory n) = refl
+answer_joined w (PutFault n) = refl
+answer_joined w (PutSpent n) = refl
+answer_joined w (Scanned p cells) = refl
+answer_joined w ScanMemory = refl
+answer_joined w (FlushOk n) = refl
+answer_joined w (FlushNothing n) = refl
+answer_joined w (FlushBusy h c) = refl
+answer_joined w FlushFault = refl
+answer_joined w FlushMemory = refl
+answer_joined w (RollOk f n) = refl
+answer_joined w (RollNothing f) = refl
+answer_joined w RollFault = refl
+answer_joined w RollMemory = refl
+
+reply_parts : (r : ReplyLine) → reply_text r ≡ codes "reply " ++ (decimal r.handler ++ (32 ∷ (decimal r.call ++ (32 ∷ (answer_text r.answer ++ (10 ∷ flat_map cell_line (cells_told r.answer)))))))
+unfolding reply_text
+reply_parts r = rw (answer_joined (decimal r.call) r.answer) (ap (λ (t : List ℕ). codes "reply " ++ t) (regroup_reply (decimal r.handler) (decimal r.call) (answer_text r.answer) (flat_map cell_line (cells_told r.answer))))
+
+pub report_parts : (r : Report) → report_text r ≡ codes "hwal 1\n" ++ (flat_map region_text r.regions ++ replies_text r.replies r.status)
+unfolding report_text digits
+report_parts r = refl
+
+joined_cell : (o w n a b z : List ℕ) → (((o ++ (w ++ n)) ++ a) ++ b) ++ z ≡ o ++ (w ++ (n ++ (a ++ (b ++ z))))
+joined_cell o w n a b z = simp append_assoc
+
+-- a cell's line, appended part by part
+pub cell_appended : (n : ℕ) (x : Cell) (o o1 o2 o3 o4 : List ℕ) → o1 ≡ o ++ (codes "cell " ++ decimal n) → o2 ≡ o1 ++ columns_text x.row x.family x.qualifier
+    → o3 ≡ o2 ++ stamp_text x.ts x.kind x.value → o4 ≡ o3 ++ codes "\n" → o4 ≡ o ++ cell_line (n, x)
+cell_appended n x o o1 o2 o3 o4 e1 e2 e3 e4 =
+    e4 ∙ ap (λ (t : List ℕ). t ++ codes "\n") (e3 ∙ ap (λ (t : List ℕ). t ++ stamp_text x.ts x.kind x.value) (e2 ∙ ap (λ (t : List ℕ). t ++ columns_text x.row x.family x.qualifier) e1))
+    ∙ joined_cell o (codes "cell ") (decimal n) (columns_text x.row x.family x.qualifier) (stamp_text x.ts x.kind x.value) (codes "\n")
+    ∙ ap (λ (t : List ℕ). o ++ t) (sym (cell_parts n (n, x) refl))
+
+joined_reply : (o x s a n cells : List ℕ) → ((((o ++ x) ++ s) ++ a) ++ n) ++ cells ≡ o ++ (x ++ (s ++ (a ++ (n ++ cells))))
+joined_reply o x s a n cells = simp append_assoc
+
+behind_pair : (w h c rest : List ℕ) → (w ++ (h ++ (32 ∷ c))) ++ rest ≡ w ++ (h ++ (32 ∷ (c ++ rest)))
+behind_pair w h c rest = simp append_assoc
+
+-- a reply's lines, appended part by part
+pub reply_appended : (r : ReplyLine) (o o1 o2 o3 o4 o5 : List ℕ) → o1 ≡ o ++ (codes "reply " ++ (decimal r.handler ++ (32 ∷ decimal r.call))) → o2 ≡ o1 ++ codes " "
+    → o3 ≡ o2 ++ answer_text r.answer → o4 ≡ o3 ++ codes "\n" → o5 ≡ o4 ++ flat_map cell_line (cells_told r.answer) → o5 ≡ o ++ reply_text r
+reply_appended r o o1 o2 o3 o4 o5 e1 e2 e3 e4 e5 =
+    e5 ∙ ap (λ (t : List ℕ). t ++ flat_map cell_line (cells_told r.answer)) (e4 ∙ ap (λ (t : List ℕ). t ++ codes "\n") (e3 ∙ ap (λ (t : List ℕ). t ++ answer_text r.answer) (e2 ∙ ap (λ (t : List ℕ). t ++ codes " ") e1)))
+    ∙ joined_reply o (codes "reply " ++ (decimal r.handler ++ (32 ∷ decimal r.call))) (codes " ") (answer_text r.answer) (codes "\n") (flat_map cell_line (cells_told r.answer))
+    ∙ ap (λ (t : List ℕ). o ++ t) (behind_pair (codes "reply ") (decimal r.handler) (decimal r.call) (32 ∷ (answer_text r.answer ++ (10 ∷ flat_map cell_line (cells_told r.answer)))) ∙ sym (reply_parts r))

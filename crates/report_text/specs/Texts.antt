@@ -1,0 +1,17 @@
+-- Parts of the lines of a report.
+use Rattle.std.specs.Prelude.{ℕ, List, ◌∷◌, ◌++◌}
+use Rattle.std.specs.Fmt.{decimal}
+use Rattle.region_model.specs.Calls.{Answer}
+use Rattle.script_model.specs.Text.{printed}
+use Rattle.script_model.specs.Report.{spaced, kind_name, answer_words}
+
+-- the row, the family and the qualifier of a cell, each behind a space
+unfoldable pub columns_text : (row family qualifier : List ℕ) → List ℕ
+columns_text row family qualifier = 32 ∷ (printed row ++ (32 ∷ (printed family ++ (32 ∷ printed qualifier))))
+
+-- the timestamp, the kind by its code, and the value, each behind a space
+unfoldable pub stamp_text : (ts kind : ℕ) (value : List ℕ) → List ℕ
+stamp_text ts kind value = 32 ∷ (decimal ts ++ (32 ∷ (kind_name kind ++ (32 ∷ printed value))))
+
+unfoldable pub answer_text : Answer → List ℕ
+answer_text answer = spaced (answer_words answer)

@@ -1,0 +1,33 @@
+//! The report of a run.
+
+ghost use Rattle.std.specs.Prelude.{◌≡◌, ◌++◌, IfOk, OnOk};
+ghost use Rattle.std.specs.List.{flat_map};
+ghost use Rattle.script_model.specs.Report.{report_text, region_text};
+
+use crate::edits::append_journal;
+use crate::replies::append_replies;
+use crate::report_lines::{RegionLine, Report};
+use crate::words::append;
+use kv_cell::{NoMemory, Octets};
+use std::alloc::Global;
+
+fn append_regions(out: &mut Vec<u8>, regions: &[RegionLine]) -> Result<(), NoMemory>
+    ensures { OnOk result (out.new.items ≡ out.old.items ++ flat_map region_text regions.now) }
+{
+    for region in regions {
+        append_journal(out, region)?;
+    }
+    Ok(())
+}
+
+/// The text of a report.
+#[tactic(auto, using(crate::proofs::LineLaws::report_parts))]
+pub fn write_report(alloc: Global, report: &Report) -> Result<Octets, NoMemory>
+    ensures { IfOk result (λ text. text ≡ report_text report.now) }
+{
+    let mut out = Vec::new(alloc);
+    append(&mut out, b"hwal 1\n")?;
+    append_regions(&mut out, report.regions.as_slice())?;
+    append_replies(&mut out, report.replies.as_slice(), report.status)?;
+    Ok(Octets::of(out))
+}

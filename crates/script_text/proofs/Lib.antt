@@ -1,0 +1,4 @@
+pub mod FewLaws
+pub mod GroupLaws
+pub mod ReadingLaws
+pub mod TextLaws

@@ -1,0 +1,28 @@
+//! Scripts, read from their text: exactly the texts of the grammar are taken, each with exactly what it says, and
+//! any other is refused with its first wrong line and that line's cause. What a script does when it is run is not
+//! decided here.
+#![tactic(auto)]
+
+mod calls;
+mod cells;
+mod faults;
+mod fields;
+mod grouping;
+mod here;
+mod laws;
+mod numbers;
+mod parse;
+mod pieces;
+mod script;
+mod state;
+mod tokens;
+mod walk;
+
+pub use faults::{CellField, ParseRefusal, ScriptWhy};
+pub use laws::one_reading;
+pub use parse::parse_script;
+pub use script::{Call, CallList, HandlerList, Script};
+pub use script_model::Command;
+
+#[cfg(test)]
+mod tests;

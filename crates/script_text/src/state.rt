@@ -1,0 +1,332 @@
+//! What the lines so far have said.
+
+ghost use Rattle.std.specs.Prelude.{◌≡◌, ◌+◌, ◌-◌, ◌^◌, ◌<◌, ◌≤◌, ◌∷◌, [], ◌++◌, All, IfNone, IfOk, IfSome, None, OnOk, Some, length, map, unwrap_or, false, codes};
+ghost use Rattle.cell_model.specs.Batch.{body_length};
+ghost use Rattle.cell_model.specs.Cell.{spelling_length};
+ghost use Rattle.script_model.specs.Calls.{IsScript, by_handler, script_of};
+ghost use Rattle.script_model.specs.Script.{after_cell, after_spoken, end_fault, nothing_said, say, with_call, with_cell, words_fault};
+ghost use Rattle.script_model.specs.Tables.{begins_with, call_fault, cell_in, due_fault, head_fault, second_number, spoken_of};
+ghost use Rattle.script_text.specs.Calls.{call_of, is_sync};
+ghost use Rattle.script_text.specs.Spoken.{IsCallOf};
+ghost use Rattle.script_text.specs.State.{InScript, handler_call};
+ghost use Rattle.script_text.specs.Why.{Tells};
+
+use crate::calls::{Spoken, call_line, head_line};
+use crate::cells::due_line;
+use crate::faults::{LineError, ScriptWhy};
+use crate::grouping::group;
+use crate::script::{Call, Script};
+use kv_cell::{Batch, Cell, Durability, NoMemory};
+use std::alloc::Global;
+use std::marker::Model;
+
+/// A call with its handler.
+#[derive(Debug, Drop)]
+pub struct HandlerCall {
+    pub handler: u64,
+    pub call: Call,
+}
+
+/// The head lines so far, the calls so far, and the put whose cells are not all there.
+#[derive(Debug, Drop)]
+pub struct State {
+    time: Option<u64>,
+    regions: Option<u32>,
+    handlers: Option<u64>,
+    calls: Vec<HandlerCall>,
+    handler: u64,
+    region: u32,
+    durability: Durability,
+    cells: Vec<Cell>,
+    due: u64,
+    body: usize,
+}
+
+impl Model for State {
+    ghost use Rattle.std.specs.Prelude.{map};
+    ghost use Rattle.script_model.specs.Script.{Said};
+
+    ghost Value = { Said };
+
+    ghost use Rattle.script_text.specs.Calls.{is_sync};
+    ghost use Rattle.script_text.specs.State.{IsBehindHead, IsFilling, IsHead, IsOpen, handler_call};
+
+    ghost view = { λ s. record { time = s.time; regions = s.regions; handlers = s.handlers; calls = map handler_call s.calls.items; open_put = (s.handler, s.region, is_sync s.durability); cells = s.cells.items; due = s.due } };
+
+    ghost invariant = { λ s. (IsHead s.time s.regions s.handlers) × ((IsBehindHead s.regions s.handlers (map handler_call s.calls.items) s.due) × ((IsOpen s.handlers s.regions s.handler s.region s.due) × (IsFilling s.cells.items s.due s.body))) };
+}
+
+impl State {
+    /// No line has been read.
+    pub fn new(alloc: Global) -> State
+        ensures { result ≡ nothing_said }
+    {
+        State {
+            time: None,
+            regions: None,
+            handlers: None,
+            calls: Vec::new(alloc),
+            handler: 0,
+            region: 0,
+            durability: Durability::Async,
+            cells: Vec::new(alloc),
+            due: 0,
+            body: 24,
+        }
+    }
+
+    fn time(&self) -> Option<u64>
+        ensures value { result ≡ self.now.time }
+        ensures within { IfSome result (λ t. t < 2 ^ 63 - 1) }
+    {
+        self.time
+    }
+
+    fn regions(&self) -> Option<u32>
+        ensures value { result ≡ self.now.regions }
+        ensures within { IfSome result (λ n. (1 ≤ n) × (n ≤ 64)) }
+    {
+        self.regions
+    }
+
+    fn handlers(&self) -> Option<u64>
+        ensures value { result ≡ self.now.handlers }
+        ensures within { IfSome result (λ n. (1 ≤ n) × (n ≤ 16)) }
+    {
+        self.handlers
+    }
+
+    /// The number of cells that are due.
+    fn due(&self) -> u64
+        ensures { result ≡ self.now.due }
+    {
+        self.due
+    }
+
+    /// The length in bytes of the body of the open put's log entry so far.
+    fn body(&self) -> usize
+        ensures value { result ≡ body_length self.now.cells }
+        ensures within { result ≤ 1048576 }
+    {
+        self.body
+    }
+
+    fn say_time(&mut self, words: &[&[u8]]) -> Result<(), LineError>
+        ensures exact { Tells result (head_fault false (codes "time") 0 (2 ^ 63 - 2) (map (λ w. w.now) words.now)) }
+        ensures said { OnOk result (self.new ≡ record self.old { time = Some (second_number (map (λ w. w.now) words.now)) }) }
+    {
+        let time = head_line(false, words, b"time", 0, 0x7FFF_FFFF_FFFF_FFFE)?;
+        self.time = Some(time);
+        Ok(())
+    }
+
+    fn say_regions(&mut self, log: bool, words: &[&[u8]]) -> Result<(), LineError>
+        requires { self.old.regions ≡ None }
+        ensures exact { Tells result (head_fault log (codes "regions") 1 64 (map (λ w. w.now) words.now)) }
+        ensures said { OnOk result (self.new ≡ record self.old { regions = Some (second_number (map (λ w. w.now) words.now)) }) }
+    {
+        let regions = head_line(log, words, b"regions", 1, 64)?;
+        self.regions = Some(regions as u32);
+        Ok(())
+    }
+
+    fn say_handlers(&mut self, log: bool, words: &[&[u8]]) -> Result<(), LineError>
+        requires first { self.old.handlers ≡ None }
+        requires behind { self.old.regions ≡ None → ⊥ }
+        ensures exact { Tells result (head_fault log (codes "handlers") 1 16 (map (λ w. w.now) words.now)) }
+        ensures said { OnOk result (self.new ≡ record self.old { handlers = Some (second_number (map (λ w. w.now) words.now)) }) }
+    {
+        let handlers = head_line(log, words, b"handlers", 1, 16)?;
+        self.handlers = Some(handlers);
+        Ok(())
+    }
+
+    /// Says a call.
+    fn add_call(&mut self, handler: u64, call: Call) -> Result<(), NoMemory>
+        requires within { InScript self.old.handlers self.old.regions (handler, call_of call) }
+        ensures { OnOk result (self.new ≡ with_call self.old handler (call_of call)) }
+    {
+        self.calls.push(HandlerCall { handler, call })?;
+        Ok(())
+    }
+
+    /// Says a put whose cells follow.
+    fn open(&mut self, handler: u64, region: u32, durability: Durability, count: u64)
+        requires none { self.old.due ≡ 0 }
+        requires behind { self.old.handlers ≡ None → ⊥ }
+        requires handler { (1 ≤ handler) × (handler ≤ unwrap_or self.old.handlers 0) }
+        requires region { (1 ≤ region) × (region ≤ unwrap_or self.old.regions 0) }
+        requires count { count ≤ 1024 }
+        ensures { self.new ≡ record self.old { open_put = (handler, region, is_sync durability); due = count } }
+    {
+        self.handler = handler;
+        self.region = region;
+        self.durability = durability;
+        self.due = count;
+    }
+
+    /// Says a cell of the open put, and with the last of them the put.
+    fn add_cell(&mut self, alloc: Global, cell: Cell) -> Result<(), NoMemory>
+        requires due { 0 < self.old.due }
+        requires room { body_length self.old.cells + spelling_length cell ≤ 1048576 }
+        ensures { OnOk result (self.new ≡ with_cell self.old cell) }
+    {
+        let more = cell.encoded_len();
+        self.cells.push(cell)?;
+        self.body += more;
+        self.due -= 1;
+        if self.due == 0 {
+            let cells = std::mem::replace(&mut self.cells, Vec::new(alloc));
+            self.body = 24;
+            let call = Call::Put {
+                region: self.region,
+                durability: self.durability,
+                batch: batch_of(cells),
+            };
+            self.add_call(self.handler, call)?;
+        }
+        Ok(())
+    }
+
+    /// Says a line where a cell is due.
+    fn say_due(
+        &mut self,
+        alloc: Global,
+        log: bool,
+        time: u64,
+        words: &[&[u8]],
+    ) -> Result<(), LineError>
+        requires due { 0 < self.old.due }
+        requires time { time < 9223372036854775808 }
+        ensures exact { Tells result (due_fault log time (body_length self.old.cells) (map (λ w. w.now) words.now)) }
+        ensures said { OnOk result (self.new ≡ after_cell self.old (cell_in time (map (λ w. w.now) words.now))) }
+    {
+        let body = self.body();
+        let cell = due_line(alloc, log, time, body, words)?;
+        self.add_cell(alloc, cell)?;
+        Ok(())
+    }
+
+    /// Says a line of calls.
+    fn say_call(
+        &mut self,
+        alloc: Global,
+        log: bool,
+        handlers: u64,
+        regions: u32,
+        words: &[&[u8]],
+    ) -> Result<(), LineError>
+        requires none { self.old.due ≡ 0 }
+        requires handlers { self.old.handlers ≡ Some handlers }
+        requires regions { self.old.regions ≡ Some regions }
+        ensures exact { Tells result (call_fault log handlers regions (map (λ w. w.now) words.now)) }
+        ensures said { OnOk result (self.new ≡ after_spoken self.old (spoken_of (map (λ w. w.now) words.now))) }
+    {
+        match call_line(alloc, log, handlers, regions, words)? {
+            Spoken::Calls { handler, call } => self.add_call(handler, call)?,
+            Spoken::Opens {
+                handler,
+                region,
+                durability,
+                count,
+            } => self.open(handler, region, durability, count),
+        }
+        Ok(())
+    }
+
+    /// Says a line with words, for the command `log` or for `run`.
+    pub fn say(&mut self, alloc: Global, log: bool, words: &[&[u8]]) -> Result<(), LineError>
+        ensures exact { Tells result (words_fault log self.old (map (λ w. w.now) words.now)) }
+        ensures said { OnOk result (self.new ≡ say self.old (map (λ w. w.now) words.now)) }
+    {
+        let Some(time) = self.time() else {
+            return self.say_time(words);
+        };
+        let Some(regions) = self.regions() else {
+            return self.say_regions(log, words);
+        };
+        let Some(handlers) = self.handlers() else {
+            return self.say_handlers(log, words);
+        };
+        if self.due() > 0 {
+            return self.say_due(alloc, log, time, words);
+        }
+        if begins_with(b"cell", words) {
+            return Err(LineError::Wrong(ScriptWhy::Count));
+        }
+        self.say_call(alloc, log, handlers, regions, words)
+    }
+
+    /// Whether the text may end here.
+    pub fn end(&self) -> Result<(), LineError>
+        ensures exact { Tells result (end_fault self.now) }
+    {
+        let Some(_handlers) = self.handlers() else {
+            return Err(LineError::Wrong(ScriptWhy::Word));
+        };
+        if self.due() > 0 {
+            return Err(LineError::Wrong(ScriptWhy::Count));
+        }
+        Ok(())
+    }
+
+    /// The script that was said, where the text may end.
+    pub fn into_script(self, alloc: Global) -> Result<Script, NoMemory>
+        requires ended { end_fault self ≡ None }
+        requires few { length self.calls ≤ 16777216 }
+        ensures value { IfOk result (λ script. script ≡ script_of self) }
+        ensures within { IfOk result (λ script. IsScript script) }
+    {
+        make_script(
+            alloc,
+            self.time.unwrap_or(0),
+            self.regions.unwrap_or(0),
+            self.handlers.unwrap_or(0),
+            self.calls,
+        )
+    }
+}
+
+/// The script of these calls.
+fn make_script(
+    alloc: Global,
+    time: u64,
+    regions: u32,
+    handlers: u64,
+    calls: Vec<HandlerCall>,
+) -> Result<Script, NoMemory>
+    requires time { time < 2 ^ 63 - 1 }
+    requires regions { (1 ≤ regions) × (regions ≤ 64) }
+    requires handlers { (1 ≤ handlers) × (handlers ≤ 16) }
+    requires calls { All (λ c. IsCallOf handlers regions c.0 c.1) (map handler_call calls.items) }
+    requires few { length (map handler_call calls.items) ≤ 16777216 }
+    ensures value { IfOk result (λ script. script ≡ record { time = time; regions = regions; handlers = by_handler handlers 1 (map handler_call calls.items) }) }
+    ensures within { IfOk result (λ script. IsScript script) }
+{
+    let handlers = group(alloc, handlers as usize, calls)?;
+    Ok(Script {
+        time,
+        regions,
+        handlers,
+    })
+}
+
+fn begins_with(name: &[u8], words: &[&[u8]]) -> bool
+    ensures { result ≡ begins_with name.now (map (λ w. w.now) words.now) }
+{
+    match words {
+        [first, ..] => *first == name,
+        [] => false,
+    }
+}
+
+/// The batch of cells that are within its limits.
+#[tactic(auto, using(std::proofs::lemmas::Bool::Decides::nat_tests), unfolding(cell_model::specs::Batch::first_batch_limit))]
+fn batch_of(cells: Vec<Cell>) -> Batch
+    requires given { 1 ≤ length cells.items }
+    requires count { length cells.items ≤ 1024 }
+    requires body { body_length cells.items ≤ 1048576 }
+    ensures { result ≡ cells.items }
+{
+    Batch::new(cells).unwrap()
+}

@@ -1,0 +1,60 @@
+//! The walk over the lines of a script.
+
+ghost use Rattle.std.specs.Prelude.{◌≡◌, ◌≤◌, None, OnOk, length};
+ghost use Rattle.script_model.specs.Script.{after_line, end_fault, first_wrong, line_fault, said_by};
+ghost use Rattle.script_model.specs.Text.{lines_of};
+ghost use Rattle.script_text.specs.Why.{Tells, TellsLine};
+
+use crate::faults::{LineError, ParseRefusal, ScriptWhy};
+use crate::pieces::{next_line, words};
+use crate::state::State;
+use std::alloc::Global;
+
+/// Says a line, unless it is skipped.
+fn one_line(state: &mut State, alloc: Global, log: bool, line: &[u8]) -> Result<(), LineError>
+    ensures exact { Tells result (line_fault log state.old line.now) }
+    ensures said { OnOk result (state.new ≡ after_line state.old line.now) }
+{
+    if line.len() > 524_288 {
+        return Err(LineError::Wrong(ScriptWhy::TooLong));
+    }
+    if line.is_empty() || line[0] == b'#' {
+        return Ok(());
+    }
+    let words = words(alloc, line)?;
+    if words.is_empty() {
+        return Ok(());
+    }
+    state.say(alloc, log, words.as_slice())
+}
+
+/// Says each line of a text, up to the first wrong one.
+pub fn all_lines(
+    state: &mut State,
+    alloc: Global,
+    log: bool,
+    text: &[u8],
+) -> Result<(), ParseRefusal>
+    requires { length text.now ≤ 16777216 }
+    ensures exact { TellsLine result (first_wrong log 1 state.old (lines_of text.now)) }
+    ensures said { OnOk result (state.new ≡ said_by state.old (lines_of text.now)) }
+    ensures ended { OnOk result (end_fault state.new ≡ None) }
+{
+    let mut n: u64 = 1;
+    let mut rest = text;
+    while !rest.is_empty() {
+        let (line, behind) = next_line(rest);
+        match one_line(state, alloc, log, line) {
+            Ok(()) => {}
+            Err(LineError::Memory) => return Err(ParseRefusal::Memory),
+            Err(LineError::Wrong(why)) => return Err(ParseRefusal::Fault { line: n, why }),
+        }
+        n += 1;
+        rest = behind;
+    }
+    match state.end() {
+        Ok(()) => Ok(()),
+        Err(LineError::Memory) => Err(ParseRefusal::Memory),
+        Err(LineError::Wrong(why)) => Err(ParseRefusal::Fault { line: n, why }),
+    }
+}
