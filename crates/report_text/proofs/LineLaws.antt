@@ -1,5 +1,5 @@
 -- How the lines are put together from their parts.
-use Rattle.std.proofs.Common.{◌≡◌, ℕ, ◌≤◌, List, [], ◌∷◌, ◌++◌, length, take, codes, refl, sym, ap, ◌∙◌, append_assoc, arith}
+use Rattle.std.proofs.Common.{◌≡◌, ℕ, ◌≤◌, List, [], ◌∷◌, ◌++◌, length, take, codes, refl, sym, ap, ◌∙◌, append_assoc, append-nil, arith}
 use Rattle.std.specs.List.{flat_map, join_with_byte}
 use Rattle.std.specs.Fmt.{decimal, digits}
 use Rattle.std.proofs.lemmas.List.{length-append, take-take}
@@ -9,7 +9,7 @@ use Rattle.cell_model.specs.Order.{NumberedCell}
 use Rattle.region_model.specs.Calls.{Answer, PutOk, PutMemory, PutFault, PutSpent, Scanned, ScanMemory, FlushOk, FlushNothing, FlushBusy, FlushFault, FlushMemory, RollOk, RollNothing, RollFault, RollMemory}
 use Rattle.script_model.specs.Report.{Report, ReplyLine, report_text, region_text, reply_text, replies_text, cell_line, cells_told, answer_words, kind_name}
 use Rattle.script_model.specs.Text.{printed}
-use Rattle.report_text.specs.Texts.{columns_text, stamp_text, answer_text}
+use Rattle.report_text.specs.Texts.{columns_text, stamp_text, answer_text, reply_head}
 
 -- what begins with something longer begins with its beginning
 pub kept_past : (n m : ℕ) (old more mid new : List ℕ) → n ≡ length old → m ≡ length mid → mid ≡ old ++ more → take m new ≡ mid → take n new ≡ old
@@ -21,7 +21,7 @@ kept_past n m old more mid new a b is h =
 regroup_cell : (n r f q t k v : List ℕ) → (n ++ (32 ∷ (r ++ (32 ∷ (f ++ (32 ∷ (q ++ (32 ∷ (t ++ (32 ∷ (k ++ (32 ∷ v)))))))))))) ++ (10 ∷ []) ≡ n ++ ((32 ∷ (r ++ (32 ∷ (f ++ (32 ∷ q))))) ++ ((32 ∷ (t ++ (32 ∷ (k ++ (32 ∷ v))))) ++ (10 ∷ [])))
 regroup_cell n r f q t k v = simp append_assoc
 
-regroup_reply : (h c a cells : List ℕ) → ((h ++ (32 ∷ (c ++ (32 ∷ a)))) ++ (10 ∷ [])) ++ cells ≡ h ++ (32 ∷ (c ++ (32 ∷ (a ++ (10 ∷ cells)))))
+regroup_reply : (h c a cells : List ℕ) → ((h ++ (32 ∷ (c ++ (32 ∷ a)))) ++ (10 ∷ [])) ++ cells ≡ (h ++ (32 ∷ (c ++ (32 ∷ (a ++ (10 ∷ [])))))) ++ cells
 regroup_reply h c a cells = simp append_assoc
 
 cell_parts : (number : ℕ) (x : NumberedCell) → x.0 ≡ number → cell_line x ≡ codes "cell " ++ (decimal number ++ (columns_text x.1.row x.1.family x.1.qualifier ++ (stamp_text x.1.ts x.1.kind x.1.value ++ codes "\n")))
@@ -47,9 +47,13 @@ answer_joined w (RollNothing f) = refl
 answer_joined w RollFault = refl
 answer_joined w RollMemory = refl
 
-reply_parts : (r : ReplyLine) → reply_text r ≡ codes "reply " ++ (decimal r.handler ++ (32 ∷ (decimal r.call ++ (32 ∷ (answer_text r.answer ++ (10 ∷ flat_map cell_line (cells_told r.answer)))))))
-unfolding reply_text
+reply_parts : (r : ReplyLine) → reply_text r ≡ reply_head r.handler r.call r.answer ++ flat_map cell_line (cells_told r.answer)
+unfolding reply_text reply_head
 reply_parts r = rw (answer_joined (decimal r.call) r.answer) (ap (λ (t : List ℕ). codes "reply " ++ t) (regroup_reply (decimal r.handler) (decimal r.call) (answer_text r.answer) (flat_map cell_line (cells_told r.answer))))
+
+pub cells_left_out : (handler call : ℕ) (answer : Answer) → cells_told answer ≡ [] → reply_text (record { handler = handler; call = call; answer = answer }) ≡ reply_head handler call answer
+cells_left_out handler call answer none =
+    reply_parts (record { handler = handler; call = call; answer = answer }) ∙ ap (λ (cells : List NumberedCell). reply_head handler call answer ++ flat_map cell_line cells) none ∙ append-nil _
 
 pub report_parts : (r : Report) → report_text r ≡ codes "hwal 1\n" ++ (flat_map region_text r.regions ++ replies_text r.replies r.status)
 unfolding report_text digits
@@ -66,16 +70,20 @@ cell_appended n x o o1 o2 o3 o4 e1 e2 e3 e4 =
     ∙ joined_cell o (codes "cell ") (decimal n) (columns_text x.row x.family x.qualifier) (stamp_text x.ts x.kind x.value) (codes "\n")
     ∙ ap (λ (t : List ℕ). o ++ t) (sym (cell_parts n (n, x) refl))
 
-joined_reply : (o x s a n cells : List ℕ) → ((((o ++ x) ++ s) ++ a) ++ n) ++ cells ≡ o ++ (x ++ (s ++ (a ++ (n ++ cells))))
-joined_reply o x s a n cells = simp append_assoc
+joined_head : (x h c a : List ℕ) → (((x ++ (h ++ (32 ∷ c))) ++ (32 ∷ [])) ++ a) ++ (10 ∷ []) ≡ x ++ (h ++ (32 ∷ (c ++ (32 ∷ (a ++ 10 ∷ [])))))
+joined_head x h c a = simp append_assoc
 
-behind_pair : (w h c rest : List ℕ) → (w ++ (h ++ (32 ∷ c))) ++ rest ≡ w ++ (h ++ (32 ∷ (c ++ rest)))
-behind_pair w h c rest = simp append_assoc
+-- a reply's line, part by part
+pub head_appended : (handler call : ℕ) (answer : Answer) (o o1 o2 o3 o4 : List ℕ) → o ≡ [] → o1 ≡ o ++ (codes "reply " ++ (decimal handler ++ (32 ∷ decimal call))) → o2 ≡ o1 ++ codes " "
+    → o3 ≡ o2 ++ answer_text answer → o4 ≡ o3 ++ codes "\n" → o4 ≡ reply_head handler call answer
+unfolding reply_head
+head_appended handler call answer o o1 o2 o3 o4 e e1 e2 e3 e4 =
+    e4 ∙ ap (λ (t : List ℕ). t ++ codes "\n") (e3 ∙ ap (λ (t : List ℕ). t ++ answer_text answer) (e2 ∙ ap (λ (t : List ℕ). t ++ codes " ") (e1 ∙ ap (λ (t : List ℕ). t ++ (codes "reply " ++ (decimal handler ++ (32 ∷ decimal call)))) e)))
+    ∙ joined_head (codes "reply ") (decimal handler) (decimal call) (answer_text answer)
 
--- a reply's lines, appended part by part
-pub reply_appended : (r : ReplyLine) (o o1 o2 o3 o4 o5 : List ℕ) → o1 ≡ o ++ (codes "reply " ++ (decimal r.handler ++ (32 ∷ decimal r.call))) → o2 ≡ o1 ++ codes " "
-    → o3 ≡ o2 ++ answer_text r.answer → o4 ≡ o3 ++ codes "\n" → o5 ≡ o4 ++ flat_map cell_line (cells_told r.answer) → o5 ≡ o ++ reply_text r
-reply_appended r o o1 o2 o3 o4 o5 e1 e2 e3 e4 e5 =
-    e5 ∙ ap (λ (t : List ℕ). t ++ flat_map cell_line (cells_told r.answer)) (e4 ∙ ap (λ (t : List ℕ). t ++ codes "\n") (e3 ∙ ap (λ (t : List ℕ). t ++ answer_text r.answer) (e2 ∙ ap (λ (t : List ℕ). t ++ codes " ") e1)))
-    ∙ joined_reply o (codes "reply " ++ (decimal r.handler ++ (32 ∷ decimal r.call))) (codes " ") (answer_text r.answer) (codes "\n") (flat_map cell_line (cells_told r.answer))
-    ∙ ap (λ (t : List ℕ). o ++ t) (behind_pair (codes "reply ") (decimal r.handler) (decimal r.call) (32 ∷ (answer_text r.answer ++ (10 ∷ flat_map cell_line (cells_told r.answer)))) ∙ sym (reply_parts r))
+-- a reply's line and those of its cells, appended
+pub reply_appended : (r : ReplyLine) (o o1 o2 : List ℕ) → o1 ≡ o ++ reply_head r.handler r.call r.answer → o2 ≡ o1 ++ flat_map cell_line (cells_told r.answer) → o2 ≡ o ++ reply_text r
+reply_appended r o o1 o2 e1 e2 =
+    e2 ∙ ap (λ (t : List ℕ). t ++ flat_map cell_line (cells_told r.answer)) e1
+    ∙ append_assoc o (reply_head r.handler r.call r.answer) (flat_map cell_line (cells_told r.answer))
+    ∙ ap (λ (t : List ℕ). o ++ t) (sym (reply_parts r))

@@ -1,5 +1,5 @@
 -- Parts of the lines of a report.
-use Rattle.std.specs.Prelude.{ℕ, List, ◌∷◌, ◌++◌}
+use Rattle.std.specs.Prelude.{ℕ, List, [], ◌∷◌, ◌++◌, codes}
 use Rattle.std.specs.Fmt.{decimal}
 use Rattle.region_model.specs.Calls.{Answer}
 use Rattle.script_model.specs.Text.{printed}
@@ -15,3 +15,7 @@ stamp_text ts kind value = 32 ∷ (decimal ts ++ (32 ∷ (kind_name kind ++ (32 
 
 unfoldable pub answer_text : Answer → List ℕ
 answer_text answer = spaced (answer_words answer)
+
+-- the line of a reply, without the cells that it tells
+unfoldable pub reply_head : (handler call : ℕ) → Answer → List ℕ
+reply_head handler call answer = codes "reply " ++ (decimal handler ++ (32 ∷ (decimal call ++ (32 ∷ (answer_text answer ++ 10 ∷ [])))))

@@ -23,7 +23,7 @@ pub use laws::{one_reading, tokens_read_again};
 pub use names::append_name;
 pub use refusal::Refusal;
 pub use refusal_lines::refusal_line;
-pub use replies::{append_end, append_reply, write_replies};
+pub use replies::{append_end, append_reply, end_line, reply_line, write_replies};
 pub use reply::{ReplyLine, ReplyLines};
 pub use report::write_report;
 pub use report_lines::{EditLine, EditLines, RegionLine, RegionLines, Report};

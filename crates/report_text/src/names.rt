@@ -8,22 +8,13 @@ use crate::words::append;
 use kv_cell::NoMemory;
 use log_model::{Name, NameKind};
 
-fn push_numbered(line: &mut Line, word: &str, n: u64)
-    requires { length line.old + length word.now + 20 ≤ 160 }
-    ensures text { line.new ≡ line.old ++ (word.now ++ decimal n) }
-    ensures len { length line.new ≤ length line.old + length word.now + 20 }
-{
-    line.push(word);
-    line.push_number(n)
-}
-
 fn push_pair(line: &mut Line, word: &str, n: u64, m: u64)
     requires { length line.old + length word.now + 41 ≤ 160 }
     ensures text { line.new ≡ line.old ++ (word.now ++ (decimal n ++ (45 ∷ decimal m))) }
     ensures len { length line.new ≤ length line.old + length word.now + 41 }
 {
-    push_numbered(line, word, n);
-    push_numbered(line, "-", m)
+    line.push_numbered(word, n);
+    line.push_numbered("-", m)
 }
 
 /// Adds a name, as `log-1` or `store-1-1`.
@@ -34,8 +25,8 @@ pub(crate) fn push_name(line: &mut Line, name: &Name)
     ensures len { length line.new ≤ length line.old + 47 }
 {
     match name.kind {
-        NameKind::Log => push_numbered(line, "log-", name.number),
-        NameKind::Old => push_numbered(line, "old-", name.number),
+        NameKind::Log => line.push_numbered("log-", name.number),
+        NameKind::Old => line.push_numbered("old-", name.number),
         NameKind::Store => push_pair(line, "store-", name.region as u64, name.number),
         NameKind::Edits => push_pair(line, "edits-", name.region as u64, name.number),
     }

@@ -1,53 +1,83 @@
 //! Reply lines, each with the cells that its answer tells, and the last line.
 
-ghost use Rattle.std.specs.Prelude.{◌≡◌, ◌++◌, IfOk, OnOk, take, vec_len};
+ghost use Rattle.std.specs.Prelude.{◌≡◌, ◌≤◌, ◌+◌, [], ◌++◌, IfOk, OnOk, length, take, vec_len};
 ghost use Rattle.std.specs.List.{flat_map};
 ghost use Rattle.script_model.specs.Report.{cell_line, cells_told, end_line, replies_text, reply_text};
 ghost use Rattle.report_text.specs.Answers.{answer_of};
-ghost use Rattle.report_text.specs.Texts.{answer_text};
+ghost use Rattle.report_text.specs.Texts.{answer_text, reply_head};
 
 use crate::answer::Answer;
 use crate::cells::append_cells;
 use crate::reply::{ReplyLine, ReplyLines};
-use crate::words::{append, append_number, append_numbers};
+use crate::short_line::Line;
+use crate::words::append;
 use kv_cell::{NoMemory, Octets};
 use std::alloc::Global;
 
-/// Appends the words of an answer.
+/// Adds the words of an answer.
 #[tactic(auto, unfolding(crate::specs::Texts::answer_text))]
-fn append_answer(out: &mut Vec<u8>, answer: &Answer) -> Result<(), NoMemory>
-    ensures ok { OnOk result (out.new.items ≡ out.old.items ++ answer_text (answer_of answer.now)) }
-    ensures kept { take (vec_len out.old) out.new.items ≡ out.old.items }
+fn push_answer(line: &mut Line, answer: &Answer)
+    requires { length line.old + 55 ≤ 160 }
+    ensures text { line.new ≡ line.old ++ answer_text (answer_of answer.now) }
+    ensures len { length line.new ≤ length line.old + 55 }
 {
     match answer {
-        Answer::PutOk { number } => append_number(out, b"put ok ", *number),
-        Answer::PutMemory => append(out, b"put memory"),
-        Answer::PutMemoryAt { number } => append_number(out, b"put memory ", *number),
-        Answer::PutFault => append(out, b"put fault"),
-        Answer::PutFaultAt { number } => append_number(out, b"put fault ", *number),
-        Answer::PutSpent { last } => append_number(out, b"put spent ", *last),
-        Answer::Scanned { point, cells } => append_numbers(
-            out,
-            b"scan ",
-            *point,
-            cells.len() as u64,
-        ),
-        Answer::ScanMemory => append(out, b"scan memory"),
-        Answer::FlushOk { number } => append_number(out, b"flush ok ", *number),
-        Answer::FlushNothing { number } => append_number(out, b"flush nothing ", *number),
-        Answer::FlushBusy { handler, call } => append_numbers(
-            out,
-            b"flush busy ",
-            *handler as u64,
-            *call as u64,
-        ),
-        Answer::FlushFault => append(out, b"flush fault"),
-        Answer::FlushMemory => append(out, b"flush memory"),
-        Answer::RollOk { file, entries } => append_numbers(out, b"roll ok ", *file, *entries),
-        Answer::RollNothing { file } => append_number(out, b"roll nothing ", *file),
-        Answer::RollFault => append(out, b"roll fault"),
-        Answer::RollMemory => append(out, b"roll memory"),
+        Answer::PutOk { number } => line.push_numbered("put ok ", *number),
+        Answer::PutMemory => line.push("put memory"),
+        Answer::PutMemoryAt { number } => line.push_numbered("put memory ", *number),
+        Answer::PutFault => line.push("put fault"),
+        Answer::PutFaultAt { number } => line.push_numbered("put fault ", *number),
+        Answer::PutSpent { last } => line.push_numbered("put spent ", *last),
+        Answer::Scanned { point, cells } => line.push_two("scan ", *point, cells.len() as u64),
+        Answer::ScanMemory => line.push("scan memory"),
+        Answer::FlushOk { number } => line.push_numbered("flush ok ", *number),
+        Answer::FlushNothing { number } => line.push_numbered("flush nothing ", *number),
+        Answer::FlushBusy { handler, call } => {
+            line.push_two("flush busy ", *handler as u64, *call as u64)
+        }
+        Answer::FlushFault => line.push("flush fault"),
+        Answer::FlushMemory => line.push("flush memory"),
+        Answer::RollOk { file, entries } => line.push_two("roll ok ", *file, *entries),
+        Answer::RollNothing { file } => line.push_numbered("roll nothing ", *file),
+        Answer::RollFault => line.push("roll fault"),
+        Answer::RollMemory => line.push("roll memory"),
     }
+}
+
+/// The line of a reply, without the cells that its answer tells.
+#[tactic(auto, unfolding(crate::specs::Texts::reply_head))]
+fn head_line(handler: u32, call: u32, answer: &Answer) -> Line
+    ensures text { result ≡ reply_head handler call (answer_of answer.now) }
+    ensures len { length result ≤ 160 }
+{
+    let mut line = Line::new();
+    line.push_two("reply ", handler as u64, call as u64);
+    line.push(" ");
+    push_answer(&mut line, answer);
+    line.push("\n");
+    line
+}
+
+/// The line of a reply that tells no cells. It takes no memory.
+#[tactic(auto, using(crate::proofs::LineLaws::cells_left_out))]
+pub fn reply_line(handler: u32, call: u32, answer: &Answer) -> Line
+    requires told { cells_told (answer_of answer.now) ≡ [] }
+    ensures text { result ≡ reply_text (record { handler = handler; call = call; answer = answer_of answer.now }) }
+    ensures len { length result ≤ 160 }
+{
+    head_line(handler, call, answer)
+}
+
+/// The last line of an output. It takes no memory.
+#[tactic(auto, unfolding(script_model::specs::Report::end_line))]
+pub fn end_line(status: u32) -> Line
+    ensures text { result ≡ end_line status }
+    ensures len { length result ≤ 160 }
+{
+    let mut line = Line::new();
+    line.push_numbered("end ", status as u64);
+    line.push("\n");
+    line
 }
 
 /// Appends the lines of the cells that an answer tells.
@@ -66,22 +96,18 @@ pub fn append_reply(out: &mut Vec<u8>, reply: &ReplyLine) -> Result<(), NoMemory
     ensures ok { OnOk result (out.new.items ≡ out.old.items ++ reply_text reply.now) }
     ensures kept { take (vec_len out.old) out.new.items ≡ out.old.items }
 {
-    append_numbers(out, b"reply ", reply.handler as u64, reply.call as u64)?;
-    append(out, b" ")?;
-    append_answer(out, &reply.answer)?;
-    append(out, b"\n")?;
+    let line = head_line(reply.handler, reply.call, &reply.answer);
+    append(out, line.as_slice())?;
     append_told(out, &reply.answer)?;
     Ok(())
 }
 
 /// Appends the last line of an output. After a refusal the vector begins with what it had.
-#[tactic(auto, unfolding(script_model::specs::Report::end_line))]
 pub fn append_end(out: &mut Vec<u8>, status: u32) -> Result<(), NoMemory>
     ensures ok { OnOk result (out.new.items ≡ out.old.items ++ end_line status) }
     ensures kept { take (vec_len out.old) out.new.items ≡ out.old.items }
 {
-    append_number(out, b"end ", status as u64)?;
-    append(out, b"\n")
+    append(out, end_line(status).as_slice())
 }
 
 /// Appends the reply lines and the last line.

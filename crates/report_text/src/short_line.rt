@@ -1,6 +1,6 @@
 //! A line of at most 160 bytes, which needs no memory of its own.
 
-ghost use Rattle.std.specs.Prelude.{◌≡◌, ◌+◌, ◌≤◌, [], ◌++◌, decimal, length};
+ghost use Rattle.std.specs.Prelude.{◌≡◌, ◌+◌, ◌≤◌, [], ◌∷◌, ◌++◌, decimal, length};
 
 use arrayvec::ArrayString;
 use itoa::Buffer;
@@ -44,8 +44,29 @@ impl Line {
         self.push(Buffer::new().format(n))
     }
 
+    /// Adds some words and a number.
+    pub(crate) fn push_numbered(&mut self, words: &str, n: u64)
+        requires { length self.old + length words.now + 20 ≤ 160 }
+        ensures text { self.new ≡ self.old ++ (words.now ++ decimal n) }
+        ensures len { length self.new ≤ length self.old + length words.now + 20 }
+    {
+        self.push(words);
+        self.push_number(n)
+    }
+
+    /// Adds some words and two numbers with a space between them.
+    pub(crate) fn push_two(&mut self, words: &str, n: u64, m: u64)
+        requires { length self.old + length words.now + 41 ≤ 160 }
+        ensures text { self.new ≡ self.old ++ (words.now ++ (decimal n ++ (32 ∷ decimal m))) }
+        ensures len { length self.new ≤ length self.old + length words.now + 41 }
+    {
+        self.push_numbered(words, n);
+        self.push_numbered(" ", m)
+    }
+
     pub fn as_slice(&self) -> &[u8]
-        ensures { result.now ≡ self.now }
+        ensures text { result.now ≡ self.now }
+        ensures len { length result.now ≤ 160 }
     {
         self.text.as_str().as_bytes()
     }

@@ -1,6 +1,7 @@
 use super::*;
-use kv_cell::{Cell, Durability, Kind};
+use kv_cell::Cell;
 use std::alloc::Global;
+use std::process::Abort;
 use std::test::*;
 
 const HEAD: &str = "time 1000\nregions 2\nhandlers 2\n";
@@ -10,6 +11,60 @@ const PUT: &str = "time 1000\nregions 2\nhandlers 2\nput 1 1 sync 1\n";
 const LOG: &str = "time 1000\nregions 1\nhandlers 1\n";
 
 const LOG_PUT: &str = "time 1000\nregions 1\nhandlers 1\nput 1 1 sync 1\n";
+
+/// Lines that are wrong behind the head lines, each with its cause.
+const WRONG_CALLS: &str = "\
+word:time 1
+word:merge 1 1
+word:roll 1 1
+word: # no comment
+word:put 1 1 late 1
+number:roll +1
+number:roll 18446744073709551616
+token:scan 1 1 a%4 -
+region:flush 1 3
+handler:roll 3
+count:put 1 1 sync 1025
+count:cell r f q 1 put v";
+
+/// Lines that are wrong where a cell is due.
+const WRONG_CELLS: &str = "\
+word:cell r f q 1 put
+number:cell r f q later put v
+token:cell %g f q 1 put v
+count:roll 1
+cell-1:cell - f q 1 put v
+cell-2:cell r - q 1 put v
+cell-5:cell r f q 9223372036854775808 put v
+cell-6:cell r f q 1 merge v";
+
+/// Lines of a script for `log` that are wrong in two ways.
+const TWICE_WRONG_CALLS: &str = "\
+word:put 2 2 late
+number:put x 2 late 0
+handler:put 2 x late 0
+region:put 1 2 late 0
+word:put 1 1 late x
+count:put 1 1 async 0
+not-here:put 1 1 async 1
+region:scan 1 2 % -
+token:scan 1 1 - %
+not-here:scan 1 1 - -
+handler:flush 2 2
+not-here:roll 1
+count:cell r";
+
+/// The same where a cell is due.
+const TWICE_WRONG_CELLS: &str = "\
+count:merge
+word:cell - - % x merge
+token:cell %g - % x merge %
+cell-2:cell r - % x merge %
+number:cell r f q x merge %
+cell-5:cell r f q 9300000000000000000 merge %
+cell-6:cell r f q 1 merge %
+token:cell r f q 1 delete %
+not-here:cell r f q 1 delete v";
 
 /// As a user writes it.
 const USER: &str = "# two handlers on two regions
@@ -28,6 +83,20 @@ flush 1 1
 roll 2
 scan 2 2 k1 k%32";
 
+/// One byte, repeated.
+fn repeated(alloc: Global, byte: u8, count: usize) -> Result<Vec<u8>, Fail> {
+    let mut bytes = Vec::new(alloc);
+    for _ in 0..count {
+        bytes.push(byte)?;
+    }
+    Ok(bytes)
+}
+
+/// The script that a text is.
+fn parsed(alloc: Global, text: &str) -> Result<Script, Fail> {
+    Ok(parse_script(alloc, text.as_bytes(), Command::Run)?)
+}
+
 /// The fault of a text of two parts, where it has one.
 fn fault(
     alloc: Global,
@@ -38,155 +107,129 @@ fn fault(
     let mut text = Vec::from_slice(alloc, front.as_bytes())?;
     text.extend_from_slice(rest)?;
     match parse_script(alloc, text.as_slice(), command) {
+        Ok(_) => Ok(None),
         Err(ParseRefusal::Fault { line, why }) => Ok(Some((line, why))),
-        parsed => {
-            let _script = parsed?;
-            Ok(None)
-        }
+        Err(ParseRefusal::Memory) => Err("no memory")?,
     }
 }
 
-#[test]
-fn each_cause_where_it_comes_first(rt: HostRuntime) -> Result<(), Fail> {
-    for (front, rest, line, why) in [
-        ("", "", 1, ScriptWhy::Word),
-        ("", "regions 1", 1, ScriptWhy::Word),
-        ("time 1\nregions 1\n", "", 3, ScriptWhy::Word),
-        (HEAD, "time 1", 4, ScriptWhy::Word),
-        (HEAD, "merge 1 1", 4, ScriptWhy::Word),
-        (HEAD, "roll 1 1", 4, ScriptWhy::Word),
-        (HEAD, " # no comment", 4, ScriptWhy::Word),
-        (HEAD, "put 1 1 late 1", 4, ScriptWhy::Word),
-        (PUT, "cell r f q 1 put", 5, ScriptWhy::Word),
-        ("", "time 9223372036854775807", 1, ScriptWhy::Number),
-        ("time 1\n", "regions 65", 2, ScriptWhy::Number),
-        ("time 1\nregions 64\n", "handlers 17", 3, ScriptWhy::Number),
-        (HEAD, "roll 18446744073709551616", 4, ScriptWhy::Number),
-        (HEAD, "roll +1", 4, ScriptWhy::Number),
-        (PUT, "cell r f q later put v", 5, ScriptWhy::Number),
-        (HEAD, "scan 1 1 a%4 -", 4, ScriptWhy::Token),
-        (HEAD, "# one\n\n  \nscan 1 1 - %", 7, ScriptWhy::Token),
-        (HEAD, "flush 1 3", 4, ScriptWhy::Region),
-        (HEAD, "roll 3", 4, ScriptWhy::Handler),
-        (HEAD, "put 1 1 sync 1025", 4, ScriptWhy::Count),
-        (HEAD, "cell r f q 1 put v", 4, ScriptWhy::Count),
-        (PUT, "roll 1", 5, ScriptWhy::Count),
-        (PUT, "", 5, ScriptWhy::Count),
-        (
-            PUT,
-            "cell - f q 1 put v",
-            5,
-            ScriptWhy::Cell(CellField::Row),
-        ),
-        (
-            PUT,
-            "cell r - q 1 put v",
-            5,
-            ScriptWhy::Cell(CellField::Family),
-        ),
-        (
-            PUT,
-            "cell r f q 1 merge v",
-            5,
-            ScriptWhy::Cell(CellField::Kind),
-        ),
-        (
-            PUT,
-            "cell r f q 9223372036854775808 put v",
-            5,
-            ScriptWhy::Cell(CellField::Timestamp),
-        ),
-    ] {
-        let told = fault(rt.alloc(), front, rest.as_bytes(), Command::Run)?;
-        assert_eq!(rt; told, Some((line, why)), "{rest}");
+/// Asserts that each line of a table is refused behind the front, as that line and for the cause before it.
+fn assert_refused<R: Abort>(
+    rt: &R,
+    alloc: Global,
+    front: &str,
+    at: u64,
+    table: &str,
+    command: Command,
+) -> Result<(), Fail> {
+    for row in table.lines() {
+        let (name, line) = row.split_once(':').ok_or("a cause and a line")?;
+        let told = fault(alloc, front, line.as_bytes(), command)?;
+        let (number, why) = told.ok_or("a fault")?;
+        assert_eq!(rt; number, at);
+        assert_eq!(rt; format!(in alloc; "{why}")?.as_str(), name);
     }
     Ok(())
 }
 
 #[test]
+fn each_cause_where_it_comes_first(rt: HostRuntime) -> Result<(), Fail> {
+    let alloc = rt.alloc();
+    assert_refused(&rt, alloc, HEAD, 4, WRONG_CALLS, Command::Run)?;
+    assert_refused(&rt, alloc, PUT, 5, WRONG_CELLS, Command::Run)?;
+    assert_refused(
+        &rt,
+        alloc,
+        "",
+        1,
+        "word:regions 1\nnumber:time 9223372036854775807",
+        Command::Run,
+    )?;
+    assert_refused(
+        &rt,
+        alloc,
+        "time 1\n",
+        2,
+        "number:regions 65\nnumber:regions 0",
+        Command::Run,
+    )?;
+    assert_refused(
+        &rt,
+        alloc,
+        "time 1\n",
+        2,
+        "not-here:regions 2",
+        Command::Log,
+    )?;
+    assert_refused(&rt, alloc, "# one\n\n  \n", 4, "word:cell", Command::Run)?;
+    Ok(())
+}
+
+#[test]
 fn first_of_two_causes_in_a_line(rt: HostRuntime) -> Result<(), Fail> {
-    for (front, rest, why) in [
-        (LOG, "put 2 2 late", ScriptWhy::Word),
-        (LOG, "put x 2 late 0", ScriptWhy::Number),
-        (LOG, "put 2 x late 0", ScriptWhy::Handler),
-        (LOG, "put 1 2 late 0", ScriptWhy::Region),
-        (LOG, "put 1 1 late x", ScriptWhy::Word),
-        (LOG, "put 1 1 async 0", ScriptWhy::Count),
-        (LOG, "put 1 1 async 1", ScriptWhy::NotHere),
-        (LOG, "scan 1 2 % -", ScriptWhy::Region),
-        (LOG, "scan 1 1 - %", ScriptWhy::Token),
-        (LOG, "scan 1 1 - -", ScriptWhy::NotHere),
-        (LOG, "flush 2 2", ScriptWhy::Handler),
-        (LOG, "roll 1", ScriptWhy::NotHere),
-        (LOG, "cell r", ScriptWhy::Count),
-        (LOG_PUT, "merge", ScriptWhy::Count),
-        (LOG_PUT, "cell - - % x merge", ScriptWhy::Word),
-        (LOG_PUT, "cell %g - % x merge %", ScriptWhy::Token),
-        (
-            LOG_PUT,
-            "cell r - % x merge %",
-            ScriptWhy::Cell(CellField::Family),
-        ),
-        (LOG_PUT, "cell r f q x merge %", ScriptWhy::Number),
-        (
-            LOG_PUT,
-            "cell r f q 9300000000000000000 merge %",
-            ScriptWhy::Cell(CellField::Timestamp),
-        ),
-        (
-            LOG_PUT,
-            "cell r f q 1 merge %",
-            ScriptWhy::Cell(CellField::Kind),
-        ),
-        (LOG_PUT, "cell r f q 1 delete %", ScriptWhy::Token),
-        (LOG_PUT, "cell r f q 1 delete v", ScriptWhy::NotHere),
-    ] {
-        let told = fault(rt.alloc(), front, rest.as_bytes(), Command::Log)?;
-        let line = if front.len() == LOG.len() { 4 } else { 5 };
-        assert_eq!(rt; told, Some((line, why)), "{rest}");
-    }
+    let alloc = rt.alloc();
+    assert_refused(&rt, alloc, LOG, 4, TWICE_WRONG_CALLS, Command::Log)?;
+    assert_refused(&rt, alloc, LOG_PUT, 5, TWICE_WRONG_CELLS, Command::Log)
+}
+
+#[test]
+fn end_of_a_text(rt: HostRuntime) -> Result<(), Fail> {
+    let alloc = rt.alloc();
     assert_eq!(rt;
-        fault(rt.alloc(), "time 1\n", b"regions 2", Command::Log)?,
-        Some((2, ScriptWhy::NotHere))
+        fault(alloc, "", b"", Command::Run)?,
+        Some((1, ScriptWhy::Word))
     );
-    assert_eq!(rt; fault(rt.alloc(), LOG, b"", Command::Log)?, None);
+    assert_eq!(rt;
+        fault(alloc, "time 1\nregions 1\n", b"", Command::Run)?,
+        Some((3, ScriptWhy::Word))
+    );
+    assert_eq!(rt;
+        fault(alloc, PUT, b"", Command::Run)?,
+        Some((5, ScriptWhy::Count))
+    );
+    assert_eq!(rt; fault(alloc, LOG, b"", Command::Log)?, None);
     Ok(())
 }
 
 #[test]
 fn one_byte_past_a_limit(rt: HostRuntime) -> Result<(), Fail> {
     let alloc = rt.alloc();
-    for (length, name, told) in [
-        (32_767, " f q 1 put v", None),
-        (
-            32_768,
-            " f q 1 put v",
-            Some((5, ScriptWhy::Cell(CellField::Row))),
-        ),
-    ] {
-        let mut line = Vec::from_slice(alloc, b"cell ")?;
-        line.extend_from_slice(vec![in alloc; b'r'; length]?.as_slice())?;
-        line.extend_from_slice(name.as_bytes())?;
-        assert_eq!(rt; fault(alloc, PUT, line.as_slice(), Command::Run)?, told);
-    }
-    let comment = vec![in alloc; b'#'; 524_289]?;
+    let mut line = Vec::from_slice(alloc, b"cell ")?;
+    line.extend_from_slice(repeated(alloc, b'r', 32_768)?.as_slice())?;
+    line.extend_from_slice(b" f q 1 put v")?;
+    assert_eq!(rt;
+        fault(alloc, PUT, line.as_slice(), Command::Run)?,
+        Some((5, ScriptWhy::Cell(CellField::Row)))
+    );
+    line.remove(5);
+    assert_eq!(rt; fault(alloc, PUT, line.as_slice(), Command::Run)?, None);
+    let mut comment = repeated(alloc, b'#', 524_289)?;
     assert_eq!(rt;
         fault(alloc, HEAD, comment.as_slice(), Command::Run)?,
         Some((4, ScriptWhy::TooLong))
     );
-    assert_eq!(rt;
-        fault(alloc, HEAD, &comment.as_slice()[1..], Command::Run)?,
-        None
-    );
-    let lines = vec![in alloc; b'\n'; 16_777_217]?;
+    comment.pop();
+    assert_eq!(rt; fault(alloc, HEAD, comment.as_slice(), Command::Run)?, None);
+    let mut lines = repeated(alloc, b'\n', 16_777_217)?;
     assert_eq!(rt;
         fault(alloc, "", lines.as_slice(), Command::Run)?,
         Some((0, ScriptWhy::TooLong))
     );
+    lines.pop();
     assert_eq!(rt;
-        fault(alloc, "", &lines.as_slice()[1..], Command::Run)?,
+        fault(alloc, "", lines.as_slice(), Command::Run)?,
         Some((16_777_217, ScriptWhy::Word))
     );
+    Ok(())
+}
+
+/// Appends the line of a cell.
+fn push_cell(lines: &mut Vec<u8>, kind: &[u8], value: &[u8]) -> Result<(), Fail> {
+    lines.extend_from_slice(b"cell r f q 1 ")?;
+    lines.extend_from_slice(kind)?;
+    lines.extend_from_slice(b" ")?;
+    lines.extend_from_slice(value)?;
+    lines.extend_from_slice(b"\n")?;
     Ok(())
 }
 
@@ -194,120 +237,83 @@ fn one_byte_past_a_limit(rt: HostRuntime) -> Result<(), Fail> {
 fn sixteenth_cell_passes_the_length_of_an_entry(rt: HostRuntime) -> Result<(), Fail> {
     let alloc = rt.alloc();
     let mut lines = Vec::from_slice(alloc, b"put 1 1 sync 16\n")?;
-    let value = vec![in alloc; b'v'; 65_536]?;
-    for name in [
-        "put ", "put ", "put ", "put ", "put ", "put ", "put ", "put ", "put ", "put ", "put ",
-        "put ", "put ", "put ", "put ", "delete ",
-    ] {
-        lines.extend_from_slice(b"cell r f q 1 ")?;
-        lines.extend_from_slice(name.as_bytes())?;
-        lines.extend_from_slice(value.as_slice())?;
-        lines.extend_from_slice(b"\n")?;
+    let value = repeated(alloc, b'v', 65_536)?;
+    for _ in 0..15 {
+        push_cell(&mut lines, b"put", value.as_slice())?;
     }
+    push_cell(&mut lines, b"delete", value.as_slice())?;
     let told = fault(alloc, LOG, lines.as_slice(), Command::Log)?;
     assert_eq!(rt; told, Some((20, ScriptWhy::EntryLength)));
     Ok(())
 }
 
-/// Whether a cell has these fields.
-fn has(cell: &Cell, fields: [&str; 4], ts: u64, kind: Kind) -> bool {
-    let [row, family, qualifier, value] = fields;
-    cell.row.as_slice() == row.as_bytes()
-        && cell.family.as_slice() == family.as_bytes()
-        && cell.qualifier.as_slice() == qualifier.as_bytes()
-        && cell.value.as_slice() == value.as_bytes()
-        && cell.ts == ts
-        && cell.kind == kind
+/// Appends a cell's fields.
+fn spell_cell(alloc: Global, cell: &Cell, out: &mut Vec<u8>) -> Result<(), Fail> {
+    out.extend_from_slice(cell.row.as_slice())?;
+    out.extend_from_slice(b" ")?;
+    out.extend_from_slice(cell.family.as_slice())?;
+    out.extend_from_slice(b" ")?;
+    out.extend_from_slice(cell.qualifier.as_slice())?;
+    let ts = cell.ts;
+    let kind = cell.kind.code();
+    out.extend_from_slice(format!(in alloc; " {ts} {kind} ")?.as_bytes())?;
+    out.extend_from_slice(cell.value.as_slice())?;
+    out.extend_from_slice(b"\n")?;
+    Ok(())
 }
 
-#[test]
-fn script_of_a_user(rt: HostRuntime) -> Result<(), Fail> {
-    let script = parse_script(rt.alloc(), USER.as_bytes(), Command::Run)?;
-    assert_eq!(rt; script.time, 1_700_000_000_000);
-    assert_eq!(rt; script.regions, 2);
-    assert_eq!(rt; script.handlers.len(), 2);
-    let [first, second] = script.handlers.as_slice() else {
-        return Err("two handlers")?;
-    };
-    assert_eq!(rt; (first.len(), second.len()), (3, 3));
-    let [
+/// Appends what a call says.
+fn spell_call(alloc: Global, call: &Call, out: &mut Vec<u8>) -> Result<(), Fail> {
+    match call {
         Call::Put {
-            region: 1,
+            region,
             durability,
             batch,
-        },
-        Call::Scan {
-            region: 1,
-            from,
-            to,
-        },
-        Call::Flush { region: 1 },
-    ] = first.as_slice()
-    else {
-        return Err("a put, a scan and a flush")?;
-    };
-    assert_eq!(rt; *durability, Durability::Sync);
-    let [name, mail] = batch.as_slice() else {
-        return Err("two cells")?;
-    };
-    assert!(rt;
-        has(
-            name,
-            ["user1", "info", "name", "Ann"],
-            1_700_000_000_000,
-            Kind::Put
-        )
-    );
-    assert!(rt;
-        has(
-            mail,
-            ["user1", "info", "mail", "ann@x"],
-            1_700_000_000_000,
-            Kind::Put
-        )
-    );
-    assert_eq!(rt; (from.len(), to.len()), (0, 0));
-    let [
-        Call::Put {
-            region: 2,
-            durability,
-            batch,
-        },
-        Call::Roll,
-        Call::Scan {
-            region: 2,
-            from,
-            to,
-        },
-    ] = second.as_slice()
-    else {
-        return Err("a put, a roll and a scan")?;
-    };
-    assert_eq!(rt; *durability, Durability::Async);
-    let [cell] = batch.as_slice() else {
-        return Err("one cell")?;
-    };
-    assert!(rt; has(cell, ["k1", "f", "-", ""], 5, Kind::DeleteColumn));
-    assert_eq!(rt; from.as_slice(), b"k1".as_slice());
-    assert_eq!(rt; to.as_slice(), b"k2".as_slice());
+        } => {
+            out.extend_from_slice(format!(in alloc; "put {region} {durability:?}\n")?.as_bytes())?;
+            for cell in batch.as_slice() {
+                spell_cell(alloc, cell, out)?;
+            }
+        }
+        Call::Scan { region, from, to } => {
+            out.extend_from_slice(format!(in alloc; "scan {region} [")?.as_bytes())?;
+            out.extend_from_slice(from.as_slice())?;
+            out.extend_from_slice(b", ")?;
+            out.extend_from_slice(to.as_slice())?;
+            out.extend_from_slice(b")\n")?;
+        }
+        Call::Flush { region } => {
+            out.extend_from_slice(format!(in alloc; "flush {region}\n")?.as_bytes())?;
+        }
+        Call::Roll => out.extend_from_slice(b"roll\n")?,
+    }
     Ok(())
 }
 
 #[test]
-fn each_cause_has_a_name(rt: HostRuntime) -> Result<(), Fail> {
-    for (why, name) in [
-        (ScriptWhy::Word, "word"),
-        (ScriptWhy::Number, "number"),
-        (ScriptWhy::Token, "token"),
-        (ScriptWhy::Region, "region"),
-        (ScriptWhy::Handler, "handler"),
-        (ScriptWhy::Count, "count"),
-        (ScriptWhy::TooLong, "too-long"),
-        (ScriptWhy::Cell(CellField::Value), "cell-4"),
-        (ScriptWhy::NotHere, "not-here"),
-        (ScriptWhy::EntryLength, "entry-length"),
-    ] {
-        assert_eq!(rt; format!(in rt.alloc(); "{why}")?.as_str(), name);
+fn script_of_a_user(rt: HostRuntime) -> Result<(), Fail> {
+    let alloc = rt.alloc();
+    let script = parsed(alloc, USER)?;
+    assert_eq!(rt; script.time, 1_700_000_000_000);
+    assert_eq!(rt; script.regions, 2);
+    let mut out = Vec::new(alloc);
+    for calls in script.handlers.as_slice() {
+        out.extend_from_slice(b"handler\n")?;
+        for call in calls.as_slice() {
+            spell_call(alloc, call, &mut out)?;
+        }
     }
+    let want = "handler
+put 1 Sync
+user1 info name 1700000000000 4 Ann
+user1 info mail 1700000000000 4 ann@x
+scan 1 [, )
+flush 1
+handler
+put 2 Async
+k1 f - 5 12 \nroll
+scan 2 [k1, k2)
+";
+    assert_eq!(rt; out.as_slice(), want.as_bytes());
     Ok(())
 }

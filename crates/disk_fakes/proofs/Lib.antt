@@ -1,0 +1,6 @@
+pub mod Names
+pub mod Steps
+pub mod Candidates
+pub mod Played
+pub mod SafeSteps
+pub mod SafeNoted

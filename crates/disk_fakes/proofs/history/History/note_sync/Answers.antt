@@ -1,0 +1,15 @@
+use Rattle.std.proofs.Common.{◌≡◌, ◌∙◌, ap, [], ◌∷◌, ◌++◌, List}
+use Rattle.disk_fakes.specs.declared.op.Op.{Op}
+use Rattle.disk_fakes.specs.declared.op.Op.TheVariants.{Sync}
+use Rattle.disk_fakes.specs.Table.{files_in}
+use Rattle.disk_fakes.proofs.Steps.{tied_sync, met_more}
+use Rattle.disk_fakes.proofs.history.History.note_sync.Goals as goal
+
+pub invariant_of-self-2 : goal.invariant_of-self-2
+invariant_of-self-2 c =
+    let noted : c.note.new.ops.items ≡ c.args.self.now.ops.items ++ Sync c.args.name ∷ [] = c.note.ensures ∙ ap (λ (l : List Op). l ++ Sync c.args.name ∷ []) c.reserve.ensures.items in
+    record {
+      tied = tied_sync (files_in c.args.self.now.first) (files_in c.args.self.now.table) c.args.self.now.ops.items c.note.new.ops.items c.args.name c.args.self.now.tied noted;
+      met = met_more (files_in c.args.self.now.first) c.args.self.now.ops.items c.note.new.ops.items (Sync c.args.name) c.args.self.now.met noted c.requires;
+      named = c.args.self.now.named;
+    }

@@ -1,0 +1,26 @@
+use Rattle.std.proofs.Common.{ℕ, [], Ok, Err, Vec, refl, ap}
+use Rattle.std.specs.declared.alloc.Global.{Global}
+use Rattle.disk_images.specs.Calls.{Removes}
+use Rattle.disk_images.specs.declared.disk.Failed.{Failed}
+use Rattle.disk_fakes.specs.declared.safe_call.SafeCall.{SafeCall}
+use Rattle.disk_fakes.specs.declared.safe_call.SafeCall.TheVariants.{Remove}
+use Rattle.disk_fakes.specs.SafeViews.{safe_view, safe_files}
+use Rattle.disk_fakes.proofs.Steps.{is_there, removes_not}
+use Rattle.disk_fakes.proofs.SafeNoted.{carried_over, stayed, removes}
+use Rattle.disk_fakes.proofs.safe_disk.SafeDiskDisk.remove.Goals as goal
+
+pub returns-then-not-has_room-clause-removes : goal.returns-then-not-has_room-clause-removes
+returns-then-not-has_room-clause-removes c =
+    stayed (λ w. Removes {T = Unit {0}} {E = Failed} c.args.name (Err c.fault.result) (safe_view c.args.self.now) w)
+    c.args.self.now.arena.items c.fault.new.self.arena.items c.args.self.now.calls.items c.fault.new.self.calls.items
+    (ap (λ (v : Vec ℕ Global). v.items) c.fault.ensures.arena) (ap (λ (v : Vec SafeCall Global). v.items) c.fault.ensures.calls)
+    (removes_not _ (safe_view c.args.self.now) c.args.name refl)
+
+pub note-requires-clause-met : goal.note-requires-clause-met
+note-requires-clause-met c = is_there (safe_files c.args.self.now) c.args.name c.requires
+
+pub returns-clause-removes : goal.returns-clause-removes
+returns-clause-removes c =
+    carried_over (λ w. Removes {T = Unit {0}} {E = Failed} c.args.name (Ok tt) (safe_view c.args.self.now) w)
+    c.args.self.now.arena.items c.note.new.self.arena.items [] c.args.self.now.calls.items c.note.new.self.calls.items (Remove c.args.name) c.note.ensures.arena c.note.ensures.calls
+    (removes _ c.args.self.now.arena.items [] c.args.self.now.calls.items (Remove c.args.name) c.args.self.now.met c.args.name refl)

@@ -1,0 +1,13 @@
+pub mod Order
+pub mod Table
+pub mod History
+pub mod Conditions
+pub mod Laws
+pub mod Views
+pub mod Plan
+pub mod Streams
+pub mod Candidate
+pub mod Watch
+pub mod Safe
+pub mod SafeLaws
+pub mod SafeViews

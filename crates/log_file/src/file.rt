@@ -1,0 +1,188 @@
+//! A log file that is written.
+
+ghost use Rattle.std.specs.Prelude.{◌≡◌, ◌≤◌, ◌<◌, ◌+◌, ◌^◌, ℕ, [], ◌∷◌, ◌++◌, List, Some, length, IsTrue, IfOk, OnOk, OnErr, IsErr, IsErrOf, ◌↔◌};
+ghost use Rattle.log_model.specs.Entry.{Entry, entry_frame};
+ghost use Rattle.log_model.specs.LogText.{IsEntryOf};
+ghost use Rattle.log_model.specs.Files.{IsAbsent, IsName, HoldsEntries, content, key_of};
+ghost use Rattle.disk_images.specs.Crash.{Throughout, OnlyAt};
+ghost use Rattle.disk_images.specs.OneFile.{Touches, IsDurableFile};
+ghost use Rattle.disk_images.specs.Calls.{HasCause};
+ghost use Rattle.recovery.specs.Change.{HasText, HasEntries};
+ghost use Rattle.log_file.specs.LogText.{ended_text};
+ghost use Rattle.log_file.specs.Open.{IsOpen, IsStaged, HasEither, HasEnding};
+
+use crate::error::{DiskFault, FileRefusal, StageFull};
+use crate::stage::Stage;
+use crate::text::{end_text, new_text};
+use disk_images::{Disk, Name, commit_behind_gate, create_durably};
+use entry_frame::EntryBytes;
+use std::alloc::Global;
+use std::marker::Model;
+
+/// A log file that is written: its next gate stands closed, and the stage's bytes go behind it.
+#[derive(Debug, Drop)]
+pub struct LogFile {
+    name: Name,
+    gate: u64,
+    entries: u64,
+    stage: Stage,
+    staged: u64,
+}
+
+impl Model for LogFile {
+    ghost use Rattle.log_file.specs.Open.{OpenLog, IsBounded};
+
+    ghost Value = { OpenLog };
+
+    ghost view = { λ f. record { name = f.name; gate = f.gate; entries = f.entries; bytes = f.stage; staged = f.staged } };
+
+    ghost invariant = { λ f. IsBounded (record { name = f.name; gate = f.gate; entries = f.entries; bytes = f.stage; staged = f.staged }) };
+}
+
+impl LogFile {
+    /// Begins a file without entries, whose name is neither there nor gone. Memory is taken before the first disk call,
+    /// of which there are three.
+    pub fn begin<D: Disk>(alloc: Global, disk: &mut D, name: Name) -> Result<LogFile, FileRefusal>
+        requires absent { IsTrue D.told → IsAbsent (D.view disk.old).files name × (¬ (D.view disk.old).gone name) }
+        requires named { IsName name }
+        requires kind { HoldsEntries name.kind }
+
+        ensures begun { IsTrue D.told → IfOk result (λ log. IsOpen log (D.view disk.new) []) }
+        ensures name { IfOk result (λ log. log.name ≡ name) }
+        ensures empty { IfOk result (λ log. (log.entries ≡ 0) × IsStaged log []) }
+
+        // At each moment each image of the file is absent or has no entries.
+        ensures any_moment { IsTrue D.told → Throughout (OnlyAt name (HasEntries name []) (D.view disk.old)) 3 (D.view disk.old) (D.view disk.new) }
+        ensures touches { IsTrue D.told → Touches name (D.view disk.old) (D.view disk.new) }
+        ensures memory { IsErrOf result FileRefusal.Memory → disk.new ≡ disk.old }
+        ensures cause { HasCause (D.faults disk.old) (D.faults disk.new) (IsErrOf result FileRefusal.DiskFault) }
+    {
+        let stage = Stage::new(alloc)?;
+        let log = LogFile::begin_with(disk, name, stage)?;
+        Ok(log)
+    }
+
+    /// Begins a file without entries, whose name is neither there nor gone, with a stage, which is emptied. It takes no
+    /// memory, and makes three disk calls.
+    pub fn begin_with<D: Disk>(disk: &mut D, name: Name, stage: Stage) -> Result<LogFile, DiskFault>
+        requires absent { IsTrue D.told → IsAbsent (D.view disk.old).files name × (¬ (D.view disk.old).gone name) }
+        requires named { IsName name }
+        requires kind { HoldsEntries name.kind }
+
+        ensures begun { IsTrue D.told → IfOk result (λ log. IsOpen log (D.view disk.new) []) }
+        ensures name { IfOk result (λ log. log.name ≡ name) }
+        ensures empty { IfOk result (λ log. (log.entries ≡ 0) × IsStaged log []) }
+
+        // At each moment each image of the file is absent or has no entries.
+        ensures any_moment { IsTrue D.told → Throughout (OnlyAt name (HasEntries name []) (D.view disk.old)) 3 (D.view disk.old) (D.view disk.new) }
+        ensures touches { IsTrue D.told → Touches name (D.view disk.old) (D.view disk.new) }
+        ensures cause { HasCause (D.faults disk.old) (D.faults disk.new) (IsErr result) }
+    {
+        // Until the sync a crash leaves no file, or one of at most these 17 bytes: either has no entries.
+        create_durably(disk, name, &new_text(name.number))?;
+        let mut stage = stage;
+        stage.clear();
+        Ok(LogFile {
+            name,
+            gate: 16,
+            entries: 0,
+            stage,
+            staged: 0,
+        })
+    }
+
+    /// Stages an entry that may stand in this file. It is refused exactly where the staged bytes, these and one gate byte
+    /// pass 4,194,304; then nothing changes. It takes no memory, and makes no disk call.
+    pub fn stage(&mut self, bytes: &EntryBytes) -> Result<(), StageFull>
+        requires { ∥ ((e : Entry) × (bytes.now ≡ entry_frame e) × IsEntryOf (key_of self.old.name) e) ∥₁ }
+
+        ensures staged { (batch : List Entry) (e : Entry) → IsStaged self.old batch → bytes.now ≡ entry_frame e → IsEntryOf (key_of self.old.name) e → OnOk result (IsStaged self.new (batch ++ e ∷ [])) }
+        ensures counted { OnOk result (self.new.staged ≡ self.old.staged + 1) }
+        ensures full { IsErr result ↔ (4194304 < length self.old.bytes + length bytes.now + 1) }
+        ensures same { OnErr result (self.new ≡ self.old) }
+        ensures elsewhere { (self.new.name ≡ self.old.name) × (self.new.gate ≡ self.old.gate) × (self.new.entries ≡ self.old.entries) }
+    {
+        let frame = bytes.as_slice();
+        if self.stage.is_full_for(frame.len()) {
+            return Err(StageFull);
+        }
+        self.stage.add(frame);
+        self.staged += 1;
+        Ok(())
+    }
+
+    /// Makes the staged entries durable, all or none of them, and gives their number. It makes four disk calls, however
+    /// many entries are staged, and none where there are none; it takes no memory. After a fault the file isn't to be
+    /// used again.
+    pub fn commit<D: Disk>(&mut self, disk: &mut D) -> Result<u64, DiskFault>
+        requires { IsTrue D.told → ∥ ((entries : List Entry) × (batch : List Entry) × IsOpen self.old (D.view disk.old) entries × IsStaged self.old batch) ∥₁ }
+
+        ensures committed { IsTrue D.told → (entries batch : List Entry) → IsOpen self.old (D.view disk.old) entries → IsStaged self.old batch → OnOk result (IsOpen self.new (D.view disk.new) (entries ++ batch)) }
+
+        // At each moment each image of the file has the entries before, or these and the whole batch.
+        ensures any_moment { IsTrue D.told → (entries batch : List Entry) → IsOpen self.old (D.view disk.old) entries → IsStaged self.old batch → Throughout (OnlyAt self.old.name (HasEither self.old.name entries (entries ++ batch)) (D.view disk.old)) 4 (D.view disk.old) (D.view disk.new) }
+        ensures emptied { OnOk result (IsStaged self.new []) }
+        ensures counted { OnOk result (self.new.entries ≡ self.old.entries + self.old.staged) }
+        ensures count { IfOk result (λ n. n ≡ self.old.staged) }
+        ensures name { self.new.name ≡ self.old.name }
+
+        // Where nothing is staged it makes no disk call, and does not fail.
+        ensures idle { self.old.staged ≡ 0 → (disk.new ≡ disk.old) × (result ≡ Ok 0) }
+        ensures touches { IsTrue D.told → Touches self.old.name (D.view disk.old) (D.view disk.new) }
+        ensures cause { HasCause (D.faults disk.old) (D.faults disk.new) (IsErr result) }
+    {
+        let count = self.staged;
+        if count == 0 {
+            return Ok(0);
+        }
+        // Until the second sync a crash leaves the gate closed, or open with the whole batch behind it, which is durable
+        // by the first sync.
+        commit_behind_gate(disk, self.name, self.gate, self.stage.as_slice())?;
+        self.gate += self.stage.as_slice().len() as u64;
+        self.entries += count;
+        self.staged = 0;
+        self.stage.clear();
+        Ok(count)
+    }
+
+    /// Ends a file for which nothing is staged, and gives the number of its entries. It makes four disk calls, and takes
+    /// no memory.
+    pub fn finish<D: Disk>(self, disk: &mut D) -> Result<u64, DiskFault>
+        requires open { IsTrue D.told → ∥ ((entries : List Entry) × IsOpen self (D.view disk.old) entries) ∥₁ }
+        requires idle { self.staged ≡ 0 }
+
+        ensures finished { IsTrue D.told → (entries : List Entry) → IsOpen self (D.view disk.old) entries → OnOk result (IsDurableFile (D.view disk.new) self.name (ended_text self.name.number entries)) }
+        ensures ended { IsTrue D.told → (entries : List Entry) → IsOpen self (D.view disk.old) entries → IfOk result (λ n. HasText self.name entries (Some n) (content (D.view disk.new).files self.name)) }
+
+        // At each moment each image of the file has the entries, with or without the end frame.
+        ensures any_moment { IsTrue D.told → (entries : List Entry) → IsOpen self (D.view disk.old) entries → Throughout (OnlyAt self.name (HasEnding self.name entries) (D.view disk.old)) 4 (D.view disk.old) (D.view disk.new) }
+        ensures count { IfOk result (λ n. n ≡ self.entries) }
+        ensures touches { IsTrue D.told → Touches self.name (D.view disk.old) (D.view disk.new) }
+        ensures cause { HasCause (D.faults disk.old) (D.faults disk.new) (IsErr result) }
+    {
+        // The end frame goes behind the gate as a batch of one.
+        commit_behind_gate(disk, self.name, self.gate, &end_text(self.entries))?;
+        Ok(self.entries)
+    }
+
+    /// How many entries are committed.
+    pub fn entries(&self) -> u64
+        ensures { result ≡ self.now.entries }
+    {
+        self.entries
+    }
+
+    /// How many entries are staged.
+    pub fn staged(&self) -> u64
+        ensures { result ≡ self.now.staged }
+    {
+        self.staged
+    }
+
+    /// The name of the file.
+    pub fn name(&self) -> Name
+        ensures { result ≡ self.now.name }
+    {
+        self.name
+    }
+}
