@@ -1,0 +1,4 @@
+pub mod MarkTies
+pub mod LayerLaws
+pub mod StateLaws
+pub mod CallLaws

@@ -1,0 +1,34 @@
+-- What a version is: its base, its cut and its point.
+use Rattle.std.specs.Prelude.{◌≡◌, ℕ, ◌+◌, ◌-◌, List, length, take, refl}
+use Rattle.std.specs.List.{AllPass}
+use Rattle.std.specs.Coded.{Coded, code_by, coded×, coded_ℕ, coded_list}
+use Rattle.cell_model.specs.Order.{Content}
+use Rattle.cell_model.specs.Join.{joined}
+use Rattle.region_model.specs.Journal.{Base, Follows}
+use Rattle.region_model.specs.Lines.{Line, edits_in, is_completed_line, done_in, put_lines}
+use Rattle.mem_segments.specs.Codes.{coded_base}
+use Rattle.region_state.specs.Codes.{coded_line}
+
+-- what readers see: a base, and the journal's lines up to the point
+pub record Shown : Type 0 where
+  pub base : Base
+  pub cut : List Line
+  pub point : ℕ
+
+abbrev pub coded_shown : Coded Shown
+coded_shown = code_by (Base × (List Line × ℕ)) (coded× coded_base (coded× (coded_list coded_line) coded_ℕ)) (λ s. (s.base, (s.cut, s.point))) (λ p. record { base = p.0; cut = p.1.0; point = p.1.1 }) (λ _. refl)
+
+-- its cells: those of its base and of the done lines of its cut
+abbrev pub content_of : Shown → Content
+content_of s = put_lines s.base.content (done_in s.cut)
+
+-- of a journal's lines those up to the point
+abbrev pub shown_at : Base → ℕ → List Line → Shown
+shown_at base point lines = record { base = base; cut = take (point - base.last) lines; point = point }
+
+-- the parts hold its cells, and its lines are numbered up to the point, each completed
+pub record IsShown (parts : List Content) (s : Shown) : Type 0 where
+  pub cells : joined parts ≡ content_of s
+  pub numbers : (region : ℕ) → Follows s.base.last (edits_in region s.cut)
+  pub completed : AllPass is_completed_line s.cut
+  pub point : s.point ≡ s.base.last + length s.cut
