@@ -45,7 +45,7 @@ none_log name m v w is over J now =
 pub open_has : (log : OpenLog) (v : DiskView) (es : List Entry) → log.name ≡ log_name 1 → IsOpen log v es → HasLog v.files es × ((J : Files) → IsImageNow v J → HasLog J es)
 open_has log v es is open_log =
     let has : (J : Files) → content J log.name ≡ Some (at_rest log.name.number es) → HasLog J es
-            = λ J reads. subst (λ (n : Name). HasText n es None (content J n)) is (rest_has log.name es (content J log.name) open_log.each reads) in
+    = λ J reads. subst (λ (n : Name). HasText n es None (content J n)) is (rest_has log.name es (content J log.name) open_log.each reads) in
     (has v.files open_log.file.reads, λ J now. has J (open_log.file.durable J now))
 
 -- an entry fits an empty stage

@@ -134,17 +134,24 @@ whole_ends status script had has text v w rose (inr is) prints logged =
 pub logged_of : (o : Occasion) (script : Script) (frames : List (List ℕ)) (text : List ℕ) (count : ℕ) → Says Log o.script script → IsFramesOf frames script → count ≡ length frames
     → HasLog o.after.files (entries_in script) × ((J : Files) → IsImageNow o.after J → HasLog J (entries_in script)) → text ≡ replies_text (oks 1 count) 0 → HasLogged o text
 logged_of o script frames text count says of_script counted has is = record {
-    script = script; says = says; reads = has.0; images = has.1;
-    is = is ∙ ap (λ (n : ℕ). replies_text (oks 1 n) 0) (counted ∙ count_of frames script of_script);
-  }
+  script = script;
+  says = says;
+  reads = has.0;
+  images = has.1;
+  is = is ∙ ap (λ (n : ℕ). replies_text (oks 1 n) 0) (counted ∙ count_of frames script of_script);
+}
 
 pub failed_of : (o : Occasion) (script : Script) (frames : List (List ℕ)) (text : List ℕ) (count done : ℕ) → Says Log o.script script → IsFramesOf frames script → count ≡ length frames
     → (done < length (entries_in script)) × ((J : Files) → IsImageNow o.after J → HasLog J (take done (entries_in script)) ⊎ HasLog J (take (done + 1) (entries_in script)))
     → text ≡ replies_text (stopped_replies count done) 5 → HasFailed o text
 failed_of o script frames text count done says of_script counted has is = record {
-    script = script; says = says; done = done; fewer = has.0; images = has.1;
-    is = is ∙ ap (λ (n : ℕ). replies_text (stopped_replies n done) 5) (counted ∙ count_of frames script of_script);
-  }
+  script = script;
+  says = says;
+  done = done;
+  fewer = has.0;
+  images = has.1;
+  is = is ∙ ap (λ (n : ℕ). replies_text (stopped_replies n done) 5) (counted ∙ count_of frames script of_script);
+}
 
 pub writing_end : (status s : Status) → status ≡ s ⊎ status ≡ ends.SinkFault → IsWritingEnd s → IsWritingEnd status
 writing_end status s (inl is) ended = subst (λ (t : Status). IsWritingEnd t) (sym is) ended

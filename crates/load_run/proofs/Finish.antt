@@ -28,7 +28,7 @@ pub damage_told : (word : Word) (status : Status) (files : Files) (damage : Dama
 damage_told To_log status files damage is damaged told = absurd damaged
 damage_told To_show status files (damages.Bytes name at) is damaged told =
     subst (λ (n : Name). IsOrEarlier status (ends.Damaged (damages.Bytes n at)) (ends.DiskFault ∷ [])) (sym damaged.0)
-        (told at (subst (λ (n : Name). IsDamagedFile files n at) damaged.0 damaged.1))
+    (told at (subst (λ (n : Name). IsDamagedFile files n at) damaged.0 damaged.1))
 
 show_done : (status : Status) (files : Files) (d k : Type 0) → IsShowEnd status → IsDamageOf status (IsDamageFor To_show files) → (status ≡ ends.DiskFault → d) → (status ≡ ends.SinkFault → k)
     → ((at : ℕ) → IsDamagedFile files (log_name 1) at → ⊥) → (d → ⊥) → (k → ⊥) → IsComplete status

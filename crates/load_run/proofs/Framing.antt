@@ -16,7 +16,7 @@ entries_append time n [] ys = let e : n ≡ n + 0 = omega arith in ap (λ (k : �
 entries_append time n (Put r sync cells ∷ xs) ys =
     let e : n + 1 + length (entries_from time (n + 1) xs) ≡ n + suc (length (entries_from time (n + 1) xs)) = omega arith in
     ap (λ (es : List Entry). record { region = r; number = n; time = time; cells = cells } ∷ es)
-        (entries_append time (n + 1) xs ys ∙ ap (λ (k : ℕ). entries_from time (n + 1) xs ++ entries_from time k ys) e)
+    (entries_append time (n + 1) xs ys ∙ ap (λ (k : ℕ). entries_from time (n + 1) xs ++ entries_from time k ys) e)
 entries_append time n (Scan r from to ∷ xs) ys = entries_append time n xs ys
 entries_append time n (Flush r ∷ xs) ys = entries_append time n xs ys
 entries_append time n (Roll ∷ xs) ys = entries_append time n xs ys
@@ -31,14 +31,14 @@ framed_append time before mid after xs ys first second =
     let len : length mid ≡ length before + length es = ap length first.framed ∙ length-append before (map entry_frame es) ∙ ap (λ (k : ℕ). length before + k) (length-map es entry_frame) in
     let n : length mid + 1 ≡ length before + 1 + length es = omega (arith, len) in
     let is : entries_from time (length before + 1) (xs ++ ys) ≡ es ++ entries_from time (length mid + 1) ys
-           = entries_append time (length before + 1) xs ys ∙ ap (λ (k : ℕ). es ++ entries_from time k ys) (sym n) in
+    = entries_append time (length before + 1) xs ys ∙ ap (λ (k : ℕ). es ++ entries_from time k ys) (sym n) in
     let more : List Entry = entries_from time (length mid + 1) ys in
     record {
       framed = second.framed
-        ∙ ap (λ (fs : List (List ℕ)). fs ++ map entry_frame more) first.framed
-        ∙ append_assoc before (map entry_frame es) (map entry_frame more)
-        ∙ ap (λ (fs : List (List ℕ)). before ++ fs) (sym (map-append entry_frame es more))
-        ∙ ap (λ (all : List Entry). before ++ map entry_frame all) (sym is);
+          ∙ ap (λ (fs : List (List ℕ)). fs ++ map entry_frame more) first.framed
+          ∙ append_assoc before (map entry_frame es) (map entry_frame more)
+          ∙ ap (λ (fs : List (List ℕ)). before ++ fs) (sym (map-append entry_frame es more))
+          ∙ ap (λ (all : List Entry). before ++ map entry_frame all) (sym is);
       entries = subst (λ (all : List Entry). AllByRecursion IsEntry all) (sym is) (each_append es more first.entries second.entries);
     }
 
@@ -47,9 +47,9 @@ pub framed_on : (time n most m : ℕ) (before mid after : List (List ℕ)) (xs y
     → FramedFew time before after zs (most + m)
 framed_on time n most m before mid after xs ys zs so_far len is entries few all =
     let next : Framed time mid after ys = record {
-          framed = subst (λ (k : ℕ). after ≡ mid ++ map entry_frame (entries_from time (k + 1) ys)) (sym len) is;
-          entries = subst (λ (k : ℕ). AllByRecursion IsEntry (entries_from time (k + 1) ys)) (sym len) entries;
-        } in
+      framed = subst (λ (k : ℕ). after ≡ mid ++ map entry_frame (entries_from time (k + 1) ys)) (sym len) is;
+      entries = subst (λ (k : ℕ). AllByRecursion IsEntry (entries_from time (k + 1) ys)) (sym len) entries;
+    } in
     record {
       each = subst (λ (cs : List Call). Framed time before after cs) (sym all) (framed_append time before mid after xs ys so_far.each next);
       few = omega (arith, so_far.few, len, few);
@@ -84,14 +84,14 @@ handler_on script time i n mid after calls items right at lt here view so_far le
     let same : length items ≡ length calls = sym (length-map items call_of) ∙ ap length view in
     let sum : i * 16777216 + 16777216 ≡ (i + 1) * 16777216 = omega arith in
     subst (λ (most : ℕ). FramedFew script.time [] after (flat_map (λ (cs : List Call). cs) (take (i + 1) script.handlers)) most) sum
-        (framed_on script.time n (i * 16777216) 16777216 [] mid after (flat_map (λ (cs : List Call). cs) (take i script.handlers)) (map call_of items) _
-            so_far len (subst (λ (t : ℕ). after ≡ mid ++ map entry_frame (entries_from t (n + 1) (map call_of items))) at is)
-            (subst (λ (t : ℕ). AllByRecursion IsEntry (entries_from t (n + 1) (map call_of items))) at entries) (omega (arith, few, same, short))
-            (handlers_more i script.handlers calls lt here ∙ ap (λ (cs : List Call). flat_map (λ (ds : List Call). ds) (take i script.handlers) ++ cs) (sym view)))
+    (framed_on script.time n (i * 16777216) 16777216 [] mid after (flat_map (λ (cs : List Call). cs) (take i script.handlers)) (map call_of items) _
+    so_far len (subst (λ (t : ℕ). after ≡ mid ++ map entry_frame (entries_from t (n + 1) (map call_of items))) at is)
+    (subst (λ (t : ℕ). AllByRecursion IsEntry (entries_from t (n + 1) (map call_of items))) at entries) (omega (arith, few, same, short))
+    (handlers_more i script.handlers calls lt here ∙ ap (λ (cs : List Call). flat_map (λ (ds : List Call). ds) (take i script.handlers) ++ cs) (sym view)))
 
 pub handlers_done : (script : Script) (i most : ℕ) (frames : List (List ℕ)) → FramedFew script.time [] frames (flat_map (λ (cs : List Call). cs) (take i script.handlers)) most → length script.handlers ≤ i
     → (frames ≡ map entry_frame (entries_in script)) × AllByRecursion IsEntry (entries_in script)
 handlers_done script i most frames so_far past =
     let whole : Framed script.time [] frames (calls_in script)
-              = subst (λ (css : List (List Call)). Framed script.time [] frames (flat_map (λ (cs : List Call). cs) css)) (take_all i script.handlers past) so_far.each in
+    = subst (λ (css : List (List Call)). Framed script.time [] frames (flat_map (λ (cs : List Call). cs) css)) (take_all i script.handlers past) so_far.each in
     (whole.framed, whole.entries)

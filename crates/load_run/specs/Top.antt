@@ -53,6 +53,18 @@ Ends word ends.DiskFault o rose = FailedBy word o o.taken
 Ends word ends.SinkFault o rose = IsCutShort word o rose o.taken
 Ends word _ o rose = Unit {0}
 
+-- the exit status of the program
+abbrev pub exit_status : Status → ℕ
+exit_status ends.Done = 0
+exit_status ends.Memory = 1
+exit_status ends.Usage = 2
+exit_status (ends.Script line why) = 3
+exit_status ends.SourceFault = 4
+exit_status ends.DiskFault = 5
+exit_status ends.SinkFault = 6
+exit_status (ends.Damaged damage) = 7
+exit_status (ends.NotEmpty name) = 9
+
 -- ---- refusal lines
 
 -- the one line that a refusal writes

@@ -18,3 +18,6 @@ mod words;
 pub use command::run;
 pub use gate::{FreeGate, Gate};
 pub use status::{Damage, Outcome, Status};
+
+#[cfg(test)]
+mod tests;

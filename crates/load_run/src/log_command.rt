@@ -61,12 +61,7 @@ pub fn log<D: Disk, S: Source, K: Sink>(
 }
 
 /// Carries out the script.
-fn log_script<D: Disk, K: Sink>(
-    alloc: Global,
-    script: &Script,
-    disk: &mut D,
-    out: &mut K,
-) -> Status
+fn log_script<D: Disk, K: Sink>(alloc: Global, script: &Script, disk: &mut D, out: &mut K) -> Status
     requires { IsScript script.now }
     ensures ends { IsTrue D.told → IsTrue K.told → (text : List ℕ) → Says Log text script.now
         → Ends To_log result (occasion text (D.view disk.old) (D.view disk.new) (K.taken out.old) (K.taken out.new)) (Rose (D.faults disk.old) (D.faults disk.new)) }

@@ -1,5 +1,8 @@
 //! How a call of the program ends.
 
+ghost use Rattle.std.specs.Prelude.{◌≡◌};
+ghost use Rattle.load_run.specs.Top.{exit_status};
+
 use disk_images::Name;
 use script_text::ScriptWhy;
 
@@ -35,7 +38,9 @@ pub enum Status {
 
 impl Status {
     /// The exit status of the program.
-    pub fn number(self) -> u8 {
+    pub fn number(self) -> u8
+        ensures { result ≡ exit_status self }
+    {
         match self {
             Status::Done => 0,
             Status::Memory => 1,

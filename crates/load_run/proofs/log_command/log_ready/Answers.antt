@@ -21,8 +21,8 @@ returns-in-Nothing-clause-moments g c told =
 pub returns-in-Stopped-clause-ends : goal.returns-in-Stopped-clause-ends
 returns-in-Stopped-clause-ends g c told told_sink text script says of_script =
     stopped_ends _ text _ _ _ _ _ _ c.emit.ensures.either (c.emit.ensures.prints told_sink (λ e. absurd cc)) (c.in-Stopped.ensures.cause (λ e. absurd cc))
-        (failed_of _ script c.args.ready.prepared.frames.items c.deref.result.now c.len-count.result c.in-Stopped.done says of_script (omega (arith, c.len-count.ensures, c.args.ready.prepared.frames.ok.0))
-            (c.in-Stopped.ensures.stopped told (entries_in script) of_script.spelled of_script.entries) (c.deref.ensures.value ∙ c.put_stopped.ensures))
+    (failed_of _ script c.args.ready.prepared.frames.items c.deref.result.now c.len-count.result c.in-Stopped.done says of_script (omega (arith, c.len-count.ensures, c.args.ready.prepared.frames.ok.0))
+    (c.in-Stopped.ensures.stopped told (entries_in script) of_script.spelled of_script.entries) (c.deref.ensures.value ∙ c.put_stopped.ensures))
 
 pub returns-in-Stopped-clause-moments : goal.returns-in-Stopped-clause-moments
 returns-in-Stopped-clause-moments g c told =
@@ -31,8 +31,8 @@ returns-in-Stopped-clause-moments g c told =
 pub returns-clause-ends : goal.returns-clause-ends
 returns-clause-ends g c told told_sink text script says of_script =
     whole_ends _ text _ _ _ _ _ _ c.emit-in-Whole.ensures.either (c.emit-in-Whole.ensures.prints told_sink (λ e. absurd cc))
-        (logged_of _ script c.args.ready.prepared.frames.items c.deref-in-Whole.result.now c.len-count.result says of_script (omega (arith, c.len-count.ensures, c.args.ready.prepared.frames.ok.0))
-            (c.write_log.ensures.whole told c.in-Whole.is (entries_in script) of_script.spelled of_script.entries) (c.deref-in-Whole.ensures.value ∙ c.put_all_ok.ensures))
+    (logged_of _ script c.args.ready.prepared.frames.items c.deref-in-Whole.result.now c.len-count.result says of_script (omega (arith, c.len-count.ensures, c.args.ready.prepared.frames.ok.0))
+    (c.write_log.ensures.whole told c.in-Whole.is (entries_in script) of_script.spelled of_script.entries) (c.deref-in-Whole.ensures.value ∙ c.put_all_ok.ensures))
 
 pub returns-clause-moments : goal.returns-clause-moments
 returns-clause-moments g c told =

@@ -10,10 +10,10 @@ returns-in-Err-clause-ends g c told told_sink text says =
 pub returns-in-Ok-clause-ends : goal.returns-in-Ok-clause-ends
 returns-in-Ok-clause-ends g c told told_sink text says =
     ends_from c.log_ready.result text (g.K.Sink.taken c.args.out.now) (g.K.Sink.taken c.log_ready.new.out)
-        (g.D.Disk.view c.args.disk.now) (g.D.Disk.view c.check_empty.new.disk) (g.D.Disk.view c.log_ready.new.disk)
-        (Rose (g.D.Disk.faults c.check_empty.new.disk) (g.D.Disk.faults c.log_ready.new.disk)) (Rose (g.D.Disk.faults c.args.disk.now) (g.D.Disk.faults c.log_ready.new.disk))
-        c.log_ready.ensures.status (c.check_empty.ensures.looks told)
-        (λ rose. rose_from (g.D.Disk.faults c.args.disk.now) (g.D.Disk.faults c.check_empty.new.disk) (g.D.Disk.faults c.log_ready.new.disk) c.check_empty.ensures.cause.later rose) (c.log_ready.ensures.ends told told_sink text c.args.script.now says c.in-Ok.ensures.frames)
+    (g.D.Disk.view c.args.disk.now) (g.D.Disk.view c.check_empty.new.disk) (g.D.Disk.view c.log_ready.new.disk)
+    (Rose (g.D.Disk.faults c.check_empty.new.disk) (g.D.Disk.faults c.log_ready.new.disk)) (Rose (g.D.Disk.faults c.args.disk.now) (g.D.Disk.faults c.log_ready.new.disk))
+    c.log_ready.ensures.status (c.check_empty.ensures.looks told)
+    (λ rose. rose_from (g.D.Disk.faults c.args.disk.now) (g.D.Disk.faults c.check_empty.new.disk) (g.D.Disk.faults c.log_ready.new.disk) c.check_empty.ensures.cause.later rose) (c.log_ready.ensures.ends told told_sink text c.args.script.now says c.in-Ok.ensures.frames)
 
 pub returns-in-Ok-clause-moments : goal.returns-in-Ok-clause-moments
 returns-in-Ok-clause-moments g c told = goes_on _ _ _ ∣ (1, (c.check_empty.ensures.looks told).time) ∣₁ (c.log_ready.ensures.moments told)

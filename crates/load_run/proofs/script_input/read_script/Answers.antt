@@ -14,6 +14,6 @@ returns-in-Ok-parse_script-clause-says g c told =
 pub returns-clause-script : goal.returns-clause-script
 returns-clause-script g c told =
     c.status_of.ensures.fault (script_fault c.args.command (g.S.Source.left c.args.source.now))
-        (subst (λ (fault : Option (ℕ × Why)). IsLineFault c.in-Err.refusal fault)
-            (ap (script_fault c.args.command) (c.deref.ensures.value ∙ c.in-Ok.ensures.bytes told) ∙ read_fault c.args.command 16777217 (g.S.Source.left c.args.source.now) (omega arith))
-            c.in-Err.ensures.refused)
+    (subst (λ (fault : Option (ℕ × Why)). IsLineFault c.in-Err.refusal fault)
+    (ap (script_fault c.args.command) (c.deref.ensures.value ∙ c.in-Ok.ensures.bytes told) ∙ read_fault c.args.command 16777217 (g.S.Source.left c.args.source.now) (omega arith))
+    c.in-Err.ensures.refused)
