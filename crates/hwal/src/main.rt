@@ -36,8 +36,6 @@ fn main(rt: HostRuntime) -> ExitCode {
     let mut script = ReaderSource::new(rt.reader());
     let mut out = WriterSink::new(io::writer(&rt));
     let disk = FolderDisk::new(&rt, alloc);
-    let outcome = run(
-        &rt, alloc, &words, &mut script, disk, &mut out, &FreeGate,
-    );
+    let outcome = run(&rt, alloc, &words, &mut script, disk, &mut out, &FreeGate);
     ExitCode::from(outcome.status.number())
 }
