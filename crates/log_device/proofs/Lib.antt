@@ -1,0 +1,5 @@
+pub mod Disk
+pub mod Committing
+pub mod Lists
+pub mod Rolling
+pub mod Archiving

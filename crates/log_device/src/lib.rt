@@ -1,0 +1,2 @@
+//! One log with its numbers on one disk.
+#![tactic(auto)]

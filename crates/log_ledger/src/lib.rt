@@ -1,0 +1,2 @@
+//! The numbers of one log's device.
+#![tactic(auto)]
