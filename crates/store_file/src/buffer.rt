@@ -55,7 +55,8 @@ impl Buffer {
     /// Adds the fields in front of a store's cells, for which there is room.
     pub(crate) fn add_fields(&mut self, region: u32, from: u64, to: u64, count: u64)
         requires { length self.old + 32 ≤ 262144 }
-        ensures { self.new ≡ self.old ++ fields_text region from to count }
+        ensures bytes { self.new ≡ self.old ++ fields_text region from to count }
+        ensures len { length self.new ≡ length self.old + 32 }
     {
         put(&mut self.bytes, b"HWS1");
         put_u32(&mut self.bytes, region);
