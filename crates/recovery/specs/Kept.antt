@@ -78,3 +78,7 @@ pub record IsCut (k : Kept) (r n : ℕ) (s : Store) : Type 0 where
 -- there is no log and no edits file
 abbrev pub HasNoLogs : Files → Type 0
 HasNoLogs J = (m : Name) → HoldsEntries m.kind → IsAbsent J m
+
+-- what is kept at the start, where each region is flushed up to its last sequence id
+abbrev pub start_of : Files → (ℕ → ℕ) → Kept
+start_of F flushed = record { base = F; first = flushed; durable = []; staged = []; flushed = flushed }
