@@ -21,6 +21,11 @@ abbrev pub AreRising : (ℕ → ℕ) → List Entry → Type 0
 AreRising last [] = Unit {0}
 AreRising last (e ∷ es) = (last e.region < e.number) × AreRising (raised last e) es
 
+-- no two of these entries have one sequence id
+abbrev pub AreApart : List Entry → Type 0
+AreApart [] = Unit {0}
+AreApart (e ∷ es) = ((d : Entry) → Contains es d → d.number ≡ e.number → ⊥) × AreApart es
+
 pub record Kept : Type 0 where
   -- the files as they read at the start, and the last sequence id of each region then, up to which it is flushed
   pub base : Files
