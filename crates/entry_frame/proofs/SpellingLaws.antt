@@ -1,6 +1,7 @@
 -- The bytes of an entry, and what stays where its number is changed.
-use Rattle.std.proofs.Common.{subst, ◌≡◌, ℕ, ◌<◌, ◌≤◌, ◌^◌, List, [], ◌∷◌, ◌++◌, length, take, drop, refl, sym, ap, ◌∙◌, arith, length-append}
+use Rattle.std.proofs.Common.{subst, ◌≡◌, ℕ, ◌<◌, ◌≤◌, ◌-◌, ◌^◌, List, [], ◌∷◌, ◌++◌, length, take, drop, refl, sym, ap, ◌∙◌, arith, length-append}
 use Rattle.std.proofs.lemmas.List.{take_at, drop_at, append_assoc, length-take, length-drop}
+use Rattle.std.proofs.lemmas.Slice.{between_to_end}
 use Rattle.std.specs.Coded.{le_prop}
 use Rattle.std.proofs.Math.Logic.{∥∥₁_map, ∥∥₁_elim}
 use Rattle.std.specs.List.{flat_map}
@@ -54,6 +55,11 @@ renumbered_frame e bytes n is =
     after 9 8 17 bytes (big_bytes 8 e.number) (behind_number e) (ap (drop 9) whole ∙ drop_at (head_of e) (big_bytes 8 e.number ++ behind_number e) 9 (omega arith)) (omega arith) refl in
     let len : length (body e) ≡ length (body d) = length-body e ∙ sym (length-body d) in
     (λ i. front i ++ (big_bytes 8 n ++ back i)) ∙ ap (λ (k : ℕ). (1 ∷ (big_bytes 4 k ++ big_bytes 4 e.region)) ++ (big_bytes 8 n ++ behind_number e)) len ∙ sym (parts_of_frame d)
+
+-- what stands behind kind and length of a frame is the body
+pub body_behind : (bytes : List ℕ) (e : Entry) → bytes ≡ entry_frame e → take (length bytes - 5) (drop 5 bytes) ≡ body e
+body_behind bytes e is =
+    between_to_end bytes 5 (length bytes) (omega arith) ∙ (ap (drop 5) is ∙ drop_at (1 ∷ big_bytes 4 (length (body e))) (body e) 5 (omega arith))
 
 pub renumbered_spelling : (bytes : List ℕ) (n : ℕ) → 1 ≤ n → n < 2 ^ 48 → IsSpelling bytes → IsSpelling (renumbered bytes n)
 renumbered_spelling bytes n given within h = ∥∥₁_map h (λ x. (

@@ -1,10 +1,15 @@
 //! The bytes of one entry.
 
-ghost use Rattle.std.specs.Prelude.{◌≡◌, ◌≤◌, ◌<◌, ◌^◌, length};
-ghost use Rattle.log_model.specs.Entry.{Entry, entry_frame};
+ghost use Rattle.std.specs.Prelude.{◌≡◌, ◌≤◌, ◌<◌, ◌^◌, length, IfOk};
+ghost use Rattle.log_model.specs.Entry.{Entry as TheEntry, IsEntry, entry_frame};
 ghost use Rattle.entry_frame.specs.Spelling.{IsSpelling, renumbered};
 
+use crate::entry::Entry;
+use crate::owning::own_entry;
+use crate::reading::entry_in;
 use byteorder::{BigEndian, ByteOrder};
+use kv_cell::NoMemory;
+use std::alloc::Global;
 use std::marker::Model;
 
 /// Kind, length and body of an entry: what stands behind its gate in a log, at most 1,048,581 bytes.
@@ -50,11 +55,21 @@ impl EntryBytes {
         self.bytes.as_slice()
     }
 
+    /// The entry that these bytes spell, with cells of its own.
+    pub fn to_entry(&self, alloc: Global) -> Result<Entry, NoMemory>
+        ensures { (e : TheEntry) → IsEntry e → self.now ≡ entry_frame e → IfOk result (λ own. own ≡ e) }
+    {
+        match entry_in(&self.bytes[5..]) {
+            Some(entry) => own_entry(alloc, &entry),
+            None => unreachable!(),
+        }
+    }
+
     /// Gives the entry another number, and changes nothing else. It takes no memory.
     pub fn set_number(&mut self, number: u64)
         requires given { 1 ≤ number }
         requires number { number < 2 ^ 48 }
-        ensures { (e : Entry) → self.old ≡ entry_frame e → self.new ≡ entry_frame (record e { number = number }) }
+        ensures { (e : TheEntry) → self.old ≡ entry_frame e → self.new ≡ entry_frame (record e { number = number }) }
     {
         write_number(&mut self.bytes, number);
     }

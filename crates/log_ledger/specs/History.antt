@@ -1,30 +1,45 @@
 -- What a device has made of its logs since it was started.
-use Rattle.std.specs.Prelude.{ℕ, List, [], ◌∷◌, ◌++◌, ◌==◌, not, filter}
+use Rattle.std.specs.Prelude.{ℕ, Bool, not, ◌==◌, List, [], ◌∷◌, ◌++◌, filter}
 use Rattle.log_model.specs.Entry.{Entry}
-use Rattle.recovery.specs.Kept.{Kept, with_staged, committed, flushed_to}
+use Rattle.log_model.specs.Files.{Files}
+use Rattle.recovery.specs.Kept.{Kept, committed, with_staged, flushed_to, start_of}
 
--- a closed log with its entries
+-- a log file that was closed, with its entries
 pub record ClosedLog : Type 0 where
   pub number : ℕ
   pub entries : List Entry
 
--- what is kept, the logs that are closed and not archived, and the entries committed into the current file
 pub record History : Type 0 where
   pub kept : Kept
+  -- the closed logs that aren't archived, oldest first
   pub logs : List ClosedLog
+  -- the entries committed into the current file
   pub current : List Entry
 
+-- the history at the start
+abbrev pub started_in : Files → (ℕ → ℕ) → History
+started_in F flushed = record { kept = start_of F flushed; logs = []; current = [] }
+
+-- the same with one entry more staged
 abbrev pub staged_in : History → Entry → History
 staged_in h e = record { kept = with_staged h.kept e; logs = h.logs; current = h.current }
 
+-- the same with the staged entries committed
 abbrev pub committed_in : History → History
 committed_in h = record { kept = committed h.kept; logs = h.logs; current = h.current ++ h.kept.staged }
 
+-- the same with the current file closed under its number
 abbrev pub closed_in : History → ℕ → History
 closed_in h number = record { kept = h.kept; logs = h.logs ++ record { number = number; entries = h.current } ∷ []; current = [] }
 
+-- the same with one region flushed up to this sequence id
 abbrev pub flushed_in : History → ℕ → ℕ → History
 flushed_in h r n = record { kept = flushed_to h.kept r n; logs = h.logs; current = h.current }
 
+-- a closed log has another number than this
+abbrev pub is_other : ℕ → ClosedLog → Bool
+is_other number c = not (c.number == number)
+
+-- the same without the closed log of this number
 abbrev pub archived_in : History → ℕ → History
-archived_in h number = record { kept = h.kept; logs = filter (λ c. not (c.number == number)) h.logs; current = h.current }
+archived_in h number = record { kept = h.kept; logs = filter (is_other number) h.logs; current = h.current }

@@ -1,1 +1,4 @@
 pub mod History
+pub mod Books
+pub mod Counted
+pub mod Bases

@@ -12,7 +12,7 @@ use Rattle.log_model.specs.Entry.{Entry}
 use Rattle.log_model.specs.Files.{Files}
 use Rattle.log_model.specs.Recovered.{Puts, IsRecovered, IsContent, is_of, entries_of, put_entries}
 use Rattle.recovery.specs.Change.{RecoversWith}
-use Rattle.recovery.specs.Kept.{raised, AreRising}
+use Rattle.recovery.specs.Kept.{raised, AreRising, AreApart}
 use Rattle.recovery.proofs.Lists.{none_in, first_or_later, is_first, is_later, of_region, has_region}
 use Rattle.recovery.proofs.Rising.{raised_here, raised_no_less, above_last}
 
@@ -98,11 +98,6 @@ puts_all (e ∷ es) c fresh v p =
         ])
       ]),
     )
-
--- no two of these entries have one number
-abbrev pub AreApart : List Entry → Type 0
-AreApart [] = Unit {0}
-AreApart (e ∷ es) = ((d : Entry) → Contains es d → d.number ≡ e.number → ⊥) × AreApart es
 
 apart_new : (es : List Entry) → AreApart es → AreNew empty es
 apart_new [] apart = tt

@@ -8,13 +8,10 @@ use Rattle.log_model.specs.Entry.{Entry}
 use Rattle.log_model.specs.Files.{Files, IsLogFile, IsLogged, IsFit, IsPresent, IsLastLog}
 use Rattle.log_model.specs.Recovered.{FlushesTo, IsFlushed, IsStored, IsRecovered, IsLast}
 use Rattle.recovery.specs.Change.{HasText}
-use Rattle.recovery.specs.Kept.{Kept, IsLike, IsOrderly, PutUpTo, HasNoLogs}
+use Rattle.recovery.specs.Kept.{IsLike, IsOrderly, PutUpTo, HasNoLogs, start_of}
 use Rattle.recovery.proofs.Lists.{none_in}
 use Rattle.recovery.proofs.Stores.{SameStores, stores_back, store_kept, flushed_kept, stored_kept}
 use Rattle.recovery.proofs.Logs.{none_some, one_list}
-
-abbrev pub start_of : Files → (ℕ → ℕ) → Kept
-start_of F flushed = record { base = F; first = flushed; durable = []; staged = []; flushed = flushed }
 
 pub none_logged : (J : Files) (e : Entry) → HasNoLogs J → IsLogged J e → ⊥
 none_logged J e none h = none_some (get J h.name) h.file.bytes (none h.name h.file.kind) h.file.there

@@ -21,6 +21,11 @@ abbrev pub AreRising : (ℕ → ℕ) → List Entry → Type 0
 AreRising last [] = Unit {0}
 AreRising last (e ∷ es) = (last e.region < e.number) × AreRising (raised last e) es
 
+-- no two of these entries have one sequence id
+abbrev pub AreApart : List Entry → Type 0
+AreApart [] = Unit {0}
+AreApart (e ∷ es) = ((d : Entry) → Contains es d → d.number ≡ e.number → ⊥) × AreApart es
+
 pub record Kept : Type 0 where
   -- the files as they read at the start, and the last sequence id of each region then, up to which it is flushed
   pub base : Files
@@ -78,3 +83,7 @@ pub record IsCut (k : Kept) (r n : ℕ) (s : Store) : Type 0 where
 -- there is no log and no edits file
 abbrev pub HasNoLogs : Files → Type 0
 HasNoLogs J = (m : Name) → HoldsEntries m.kind → IsAbsent J m
+
+-- what is kept at the start, where each region is flushed up to its last sequence id
+abbrev pub start_of : Files → (ℕ → ℕ) → Kept
+start_of F flushed = record { base = F; first = flushed; durable = []; staged = []; flushed = flushed }

@@ -1,0 +1,47 @@
+-- What the numbers say of a device's history.
+use Rattle.std.specs.Prelude.{◌≡◌, ◌⊎◌, ◌↔◌, ℕ, ◌<◌, ◌≤◌, List, [], ◌∷◌, ◌++◌, get_or, Contains}
+use Rattle.log_model.specs.Entry.{Entry}
+use Rattle.log_model.specs.Recovered.{IsGreatest}
+use Rattle.recovery.specs.Kept.{lasts, AreApart, IsOrderly}
+use Rattle.seq_accounting.specs.Accounts.{ClosedFile}
+use Rattle.log_trucks.specs.Held.{Held, AreHeld}
+use Rattle.log_ledger.specs.History.{History, ClosedLog}
+use Rattle.log_ledger.specs.Books.{Books, IsServed}
+
+-- the greatest sequence id that the region has in these entries, or 0
+abbrev pub IsHighest : ℕ → List Entry → ℕ → Type 0
+IsHighest r entries n = IsGreatest (λ m. (e : Entry) × Contains entries e × (e.region ≡ r) × (e.number ≡ m)) n
+
+-- what is noted of a closed file is what stands in it
+pub record IsCountedLog (b : Books) (c : ClosedFile) (l : ClosedLog) : Type 0 where
+  pub number : c.file ≡ l.number
+  pub highest : (r : ℕ) → IsHighest r l.entries (get_or c.highest r 0)
+  pub ours : (e : Entry) → Contains l.entries e → IsServed b e.region
+
+-- the same of each closed file, in order
+abbrev pub AreCounted : Books → List ClosedFile → List ClosedLog → Type 0
+AreCounted b [] [] = Unit {0}
+AreCounted b [] (l ∷ ls) = ⊥
+AreCounted b (c ∷ cs) [] = ⊥
+AreCounted b (c ∷ cs) (l ∷ ls) = IsCountedLog b c l × AreCounted b cs ls
+
+-- a chain of trucks keeps exactly the region's entries that aren't flushed
+pub record CarriesUnflushed (h : History) (r : ℕ) (chain : List Held) : Type 0 where
+  pub entries : List Entry
+  pub held : AreHeld chain entries
+  pub apart : AreApart entries
+  pub each : (e : Entry) → Contains entries e ↔ (Contains (h.kept.durable ++ h.kept.staged) e × (e.region ≡ r) × (h.kept.flushed r < e.number))
+
+-- the numbers are those of this history
+pub record IsCounted (b : Books) (h : History) : Type 0 where
+  pub synced : (r : ℕ) → IsServed b r → get_or b.synced r 0 ≡ lasts h.kept.first h.kept.durable r
+  pub drawn : (r : ℕ) → IsServed b r → get_or b.drawn r 0 ≡ lasts (lasts h.kept.first h.kept.durable) h.kept.staged r
+  pub flushed : (r : ℕ) → IsServed b r → get_or b.accounts.flushed r 0 ≡ h.kept.flushed r
+  pub stored : (r : ℕ) → get_or b.stored r 0 ≤ h.kept.flushed r
+  -- what stands in the current file is newer than the roll
+  pub newer : (e : Entry) → Contains (h.current ++ h.kept.staged) e → get_or b.closed e.region 0 < e.number
+  pub ours : (e : Entry) → Contains (h.current ++ h.kept.staged) e ⊎ Contains h.kept.durable e → IsServed b e.region
+  pub current : (r : ℕ) → IsHighest r (h.current ++ h.kept.staged) (get_or b.accounts.current r 0)
+  pub logs : AreCounted b b.accounts.closed h.logs
+  pub chains : (r : ℕ) → IsServed b r → CarriesUnflushed h r (get_or b.chains r [])
+  pub orderly : IsOrderly h.kept

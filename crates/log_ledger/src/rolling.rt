@@ -1,0 +1,60 @@
+//! Log files that are closed, and those that may go.
+
+ghost use Rattle.std.specs.Prelude.{◌≡◌, ◌+◌, ◌<◌, ◌≤◌, [], length, OnOk};
+ghost use Rattle.seq_accounting.specs.Accounts.{IsClosed};
+ghost use Rattle.log_ledger.specs.History.{History, closed_in, archived_in};
+ghost use Rattle.log_ledger.specs.Books.{SameRegions};
+ghost use Rattle.log_ledger.specs.Counted.{IsCounted};
+
+use crate::ledger::Ledger;
+use kv_cell::NoMemory;
+
+impl Ledger {
+    /// Makes room for one more closed file.
+    pub fn reserve_file(&mut self) -> Result<(), NoMemory>
+        ensures counted { (h : History) → IsCounted self.old h → IsCounted self.new h }
+        ensures ok { OnOk result (1 ≤ self.new.accounts.room) }
+        ensures same { self.new ≡ record self.old { accounts = record self.old.accounts { room = self.new.accounts.room } } }
+        ensures room { self.old.accounts.room ≤ self.new.accounts.room }
+    {
+        match self.accounts.reserve_file() {
+            Ok(()) => Ok(()),
+            Err(_) => Err(NoMemory),
+        }
+    }
+
+    /// Takes the current file as closed under this number, and begins with an empty current file. It takes no memory.
+    pub fn close(&mut self, file: u64)
+        requires room { 1 ≤ self.old.accounts.room }
+        requires given { 1 ≤ file }
+        requires above { self.old.accounts.last < file }
+        ensures counted { (h : History) → IsCounted self.old h → h.kept.staged ≡ [] → IsCounted self.new (closed_in h file) }
+        ensures closed { self.new.closed ≡ self.old.synced }
+        ensures last { self.new.accounts.last ≡ file }
+        ensures room { self.new.accounts.room + 1 ≡ self.old.accounts.room }
+        ensures same { SameRegions self.old (record self.new { closed = self.old.closed }) }
+    {
+        self.accounts.close_file(file);
+        self.closed = self.synced;
+    }
+
+    /// Takes the current file, in which no entry stands, as closed, and begins with another empty one.
+    pub fn close_empty(&mut self)
+        ensures counted { (h : History) → IsCounted self.old h → h.kept.staged ≡ [] → h.current ≡ [] → IsCounted self.new h }
+        ensures closed { self.new ≡ record self.old { closed = self.old.synced } }
+    {
+        self.closed = self.synced;
+    }
+
+    /// Forgets a closed file that is archived. It takes no memory.
+    pub fn forget(&mut self, file: u64)
+        requires { IsClosed self.old.accounts.closed file }
+        ensures counted { (h : History) → IsCounted self.old h → IsCounted self.new (archived_in h file) }
+        ensures fewer { length self.new.accounts.closed + 1 ≡ length self.old.accounts.closed }
+        ensures last { self.new.accounts.last ≡ self.old.accounts.last }
+        ensures room { self.old.accounts.room ≤ self.new.accounts.room }
+        ensures same { SameRegions self.old self.new }
+    {
+        self.accounts.forget(file);
+    }
+}

@@ -1,0 +1,43 @@
+//! What is staged and committed.
+
+ghost use Rattle.std.specs.Prelude.{◌≡◌, ◌<◌, [], get_or, slice_set};
+ghost use Rattle.log_model.specs.Entry.{Entry, IsEntry, entry_frame};
+ghost use Rattle.seq_accounting.specs.Accounts.{SameFiles};
+ghost use Rattle.log_ledger.specs.History.{History, staged_in, committed_in};
+ghost use Rattle.log_ledger.specs.Books.{IsServed};
+ghost use Rattle.log_ledger.specs.Counted.{IsCounted};
+
+use crate::ledger::Ledger;
+use log_trucks::Truck;
+
+impl Ledger {
+    /// Keeps the truck of an entry that was staged into the current file. It takes constant time and no memory.
+    pub fn stage(&mut self, truck: Box<Truck>)
+        requires served { IsServed self.old truck.value.region }
+        requires alone { truck.value.behind ≡ [] }
+        requires entry { ∥ ((e : Entry) × IsEntry e × (truck.value.bytes ≡ entry_frame e) × (e.region ≡ truck.value.region) × (e.number ≡ truck.value.number)) ∥₁ }
+        requires above { get_or self.old.drawn truck.value.region 0 < truck.value.number }
+        ensures counted { (h : History) (e : Entry) → IsCounted self.old h → IsEntry e → truck.value.bytes ≡ entry_frame e → e.region ≡ truck.value.region → e.number ≡ truck.value.number → IsCounted self.new (staged_in h e) }
+        ensures drawn { self.new.drawn ≡ slice_set self.old.drawn truck.value.region truck.value.number }
+        ensures synced { self.new.synced ≡ self.old.synced }
+        ensures stored { self.new.stored ≡ self.old.stored }
+        ensures closed { self.new.closed ≡ self.old.closed }
+        ensures next_store { self.new.next_store ≡ self.old.next_store }
+        ensures flushed { self.new.accounts.flushed ≡ self.old.accounts.flushed }
+        ensures files { SameFiles self.old.accounts self.new.accounts }
+    {
+        let region = truck.region;
+        let number = truck.number;
+        self.drawn[region as usize] = number;
+        self.accounts.note(region, number);
+        self.chains.push(truck);
+    }
+
+    /// Takes all that is staged as committed.
+    pub fn commit(&mut self)
+        ensures counted { (h : History) → IsCounted self.old h → IsCounted self.new (committed_in h) }
+        ensures synced { self.new ≡ record self.old { synced = self.old.drawn } }
+    {
+        self.synced = self.drawn;
+    }
+}

@@ -1,0 +1,50 @@
+//! A truck.
+
+use entry_frame::EntryBytes;
+use std::marker::Model;
+
+/// An entry on its way: its region, its number there, its bytes, and the next truck of a chain. Contracts see region,
+/// number and bytes, and the list of what stands behind it.
+///
+/// A truck is let go by a loop, which takes those behind it one after the other: it may stand before a million others.
+pub struct Truck {
+    /// 1 to 64.
+    pub region: u32,
+    /// 1 to 2^48-1.
+    pub number: u64,
+    pub bytes: EntryBytes,
+    pub next: Option<Box<Truck>>,
+}
+
+impl Model for Truck {
+    ghost use Rattle.std.specs.Prelude.{length};
+    ghost use Rattle.std.proofs.Common.{arith};
+    ghost use Rattle.log_trucks.specs.Held.{Haul};
+
+    ghost Value = { Haul };
+
+    ghost use Rattle.log_trucks.specs.Links.{linked};
+
+    ghost view = { λ t. record { region = t.region; number = t.number; bytes = t.bytes; behind = linked t.next } };
+
+    ghost size = { λ t. length t.behind };
+
+    ghost size_decreases = { λ a h. Prim.grind arith };
+}
+
+impl Drop for Truck {
+    fn drop(mut self) {
+        loop {
+            let Truck {
+                region: _,
+                number: _,
+                bytes: _,
+                next,
+            } = self;
+            match next {
+                Some(truck) => self = Box::into_inner(truck),
+                None => return,
+            }
+        }
+    }
+}

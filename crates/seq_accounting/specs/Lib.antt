@@ -1,0 +1,4 @@
+pub mod Accounts
+pub mod Noted
+pub mod Order
+pub mod Places
