@@ -1,7 +1,7 @@
 -- What writing a store leaves of what is kept.
 use Rattle.std.proofs.Common.{◌≡◌, ◌≢◌, ◌⊎◌, inl, inr, ℕ, ◌+◌, ◌≤◌, ◌<◌, List, Contains, get_or, set, length, Option, Some, None, refl, sym, ap, ◌∙◌, subst, arith}
-use Rattle.std.proofs.lemmas.Bool.{cases_eq}
-use Rattle.std.proofs.lemmas.List.{get_or-set_same, get_or-set_other}
+use Rattle.std.proofs.lemmas.Bool.{cases_eq, cases_lt}
+use Rattle.std.proofs.lemmas.List.{get_or-set_same, get_or-set_other, get_or-past}
 use Rattle.log_model.specs.declared.name.Name.{Name}
 use Rattle.log_model.specs.declared.name.NameKind.TheVariants as kinds
 use Rattle.log_model.specs.StoreText.{Store, IsStore, IsThere, IsStoreText, store_text}
@@ -97,9 +97,9 @@ module _ (log : OpenLog) (u w : DiskView) (h : History) (ns : List ℕ) (keeps :
   inside = get_or_inside ns r served
     where
       get_or_inside : (xs : List ℕ) (i : ℕ) → 0 < get_or xs i 0 → i < length xs
-      get_or_inside xs i some = elim (Rattle.std.proofs.lemmas.Bool.cases_lt i (length xs)) as (λ _. i < length xs) [
+      get_or_inside xs i some = elim (cases_lt i (length xs)) as (λ _. i < length xs) [
         | inl within ↦ within
-        | inr past ↦ absurd (let none : get_or xs i 0 ≡ 0 = Rattle.std.proofs.lemmas.List.get_or-past xs i 0 past in omega (arith, none, some))
+        | inr past ↦ absurd (let none : get_or xs i 0 ≡ 0 = get_or-past xs i 0 past in omega (arith, none, some))
       ]
 
   abbrev pub next_stores : List ℕ
