@@ -1,28 +1,26 @@
 -- What renaming a closed log leaves.
-use Rattle.std.proofs.Common.{◌≡◌, ◌≢◌, ◌⊎◌, inl, inr, ℕ, ◌<◌, ◌≤◌, ◌==◌, Bool, true, false, not, List, [], ◌++◌, length, Contains, Option, Some, None, Result, refl, sym, ap, ◌∙◌, subst, arith}
+use Rattle.std.proofs.Common.{◌≡◌, ◌≢◌, ◌⊎◌, inl, inr, ℕ, ◌<◌, ◌≤◌, ◌==◌, Bool, true, false, not, List, [], length, Contains, Option, Some, None, Result, refl, sym, ap, ◌∙◌, subst, arith}
 use Rattle.std.proofs.lemmas.List.{append-nil}
-use Rattle.std.proofs.lemmas.Bool.{cases_eq, eq-eqb}
+use Rattle.std.proofs.lemmas.Bool.{eq-eqb}
 use Rattle.std.proofs.lemmas.Bool.Decides.{nat_tests}
 use Rattle.log_model.specs.declared.name.Name.{Name}
 use Rattle.log_model.specs.declared.name.NameKind.TheVariants as kinds
-use Rattle.log_model.specs.Entry.{Entry}
-use Rattle.log_model.specs.Files.{Files, content, IsAbsent, Same, SameBut, HoldsEntries, IsPresent}
+use Rattle.log_model.specs.Files.{Files, content, IsAbsent, Same, IsPresent}
 use Rattle.log_model.specs.Recovered.{IsWhollyFlushed}
 use Rattle.disk_images.specs.Crash.{DiskView, IsImageNow, Throughout}
 use Rattle.disk_images.specs.Calls.{Renames, Renamed, MovedIn}
 use Rattle.disk_images.specs.OneFile.{IsDurableFile}
 use Rattle.disk_images.proofs.Moments.{in_one_call}
-use Rattle.recovery.specs.Change.{HasText, HasEntries}
-use Rattle.recovery.specs.Kept.{Kept, IsLike}
+use Rattle.recovery.specs.Change.{HasText}
 use Rattle.recovery.proofs.Names.{name_cases}
 use Rattle.recovery.proofs.Logs.{grown}
 use Rattle.recovery.proofs.Likes.{none_fresh, like_same}
 use Rattle.recovery.proofs.Archived.{archived}
 use Rattle.log_file.specs.LogText.{ended_text, at_rest}
-use Rattle.log_file.specs.Open.{OpenLog, IsOpen}
+use Rattle.log_file.specs.Open.{OpenLog}
 use Rattle.log_file.proofs.Committed.{ended_has}
 use Rattle.log_ledger.specs.History.{ClosedLog, History, archived_in}
-use Rattle.log_device.specs.Keeps.{Keeps, Shows, IsUpTo, IsClosedLog, log_name, old_name}
+use Rattle.log_device.specs.Keeps.{Keeps, Shows, IsClosedLog, log_name, old_name}
 use Rattle.log_device.proofs.Lists.{passes, passed}
 
 module _ {T E : Type 0} {result : Result T E} (log : OpenLog) (u v : DiskView) (h : History) (ns : List ℕ) (keeps : Keeps log u h ns) (c : ClosedLog) (is_closed : Contains h.logs c)

@@ -1,5 +1,6 @@
 -- What a step on one file leaves of the others.
-use Rattle.std.proofs.Common.{◌≡◌, ◌≢◌, inl, inr, ℕ, ◌≤◌, List, Option, sym, ap, ◌∙◌, arith}
+use Rattle.std.proofs.Common.{◌≡◌, ◌≢◌, inl, inr, ℕ, ◌≤◌, List, Option, Some, None, refl, sym, ap, ◌∙◌, arith}
+use Rattle.std.proofs.Math.Logic.{∥∥₁_elim}
 use Rattle.log_model.specs.declared.name.Name.{Name}
 use Rattle.log_model.specs.declared.name.NameKind.TheVariants as kinds
 use Rattle.log_model.specs.Entry.{Entry}
@@ -36,3 +37,8 @@ up_to_but name n I J same here up m kind there = elim (name_cases m name) as (λ
       (ap (λ (x : Name). x.region) is ∙ h.0, omega (arith, number, h.1))
   | inr apart ↦ up m kind (present_before name m I J same apart there)
 ]
+
+-- what isn't there by some witness isn't there
+pub absent_by : {X : Type 0} (image : Option (List ℕ)) → ∥ X ∥₁ → (X → image ≡ None) → image ≡ None
+absent_by None some then = refl
+absent_by (Some bytes) some then = absurd (∥∥₁_elim some (λ a b. absurd a) (λ x. absurd (cc (then x))))

@@ -1,12 +1,11 @@
 -- Images that are like what is kept leave what a call may leave.
-use Rattle.std.proofs.Common.{◌≡◌, ◌⊎◌, inl, inr, ℕ, ◌<◌, ◌≤◌, List, [], ◌++◌, length, take, Contains, get_or, refl, sym, ◌∙◌, subst, arith}
+use Rattle.std.proofs.Common.{◌≡◌, ◌⊎◌, inl, inr, ℕ, ◌<◌, ◌≤◌, List, [], ◌++◌, length, take, Contains, get_or, sym, ◌∙◌, subst, arith}
 use Rattle.std.proofs.lemmas.List.{take_all}
 use Rattle.std.proofs.lemmas.List.Elements.{Contains-append_left, Contains-append_right, Contains-append_cases}
-use Rattle.cell_model.specs.Order.{VersionKey, Payload}
 use Rattle.log_model.specs.declared.name.Name.{Name}
 use Rattle.log_model.specs.declared.name.NameKind.TheVariants as kinds
 use Rattle.log_model.specs.Entry.{Entry}
-use Rattle.log_model.specs.Files.{Files, IsPresent}
+use Rattle.log_model.specs.Files.{Files}
 use Rattle.log_model.specs.Recovered.{IsRecovered, IsLast}
 use Rattle.recovery.specs.Change.{PutBy, RecoversWith, LastsWith, RecoversSome}
 use Rattle.recovery.specs.Kept.{Kept, IsLike, IsOrderly, lasts}
@@ -29,24 +28,21 @@ recovers_none k F J f j orderly = longer F [] k.staged J (some_alike k F J f j o
 with_all : (k : Kept) (flushed : ℕ → ℕ) (F J : Files) → IsLike k F → IsLike (gone_on k flushed) J → RecoversWith F k.staged J
 with_all k flushed F J f j r v p = (forth, back)
   where
-    was = like_recovers k F f r v p
-    now = like_recovers (gone_on k flushed) J j r v p
-
     forth : IsRecovered J r v p → IsRecovered F r v p ⊎ PutBy k.staged r v p
-    forth h = elim (now.0 h) as (λ _. IsRecovered F r v p ⊎ PutBy k.staged r v p) [
-      | inl base ↦ inl (was.1 (inl base))
+    forth h = elim ((like_recovers (gone_on k flushed) J j r v p).0 h) as (λ _. IsRecovered F r v p ⊎ PutBy k.staged r v p) [
+      | inl base ↦ inl ((like_recovers k F f r v p).1 (inl base))
       | inr put ↦ elim (Contains-append_cases k.durable k.staged put.0 put.1) as (λ _. IsRecovered F r v p ⊎ PutBy k.staged r v p) [
-        | inl old ↦ inl (was.1 (inr (put.0, old, put.2, put.3)))
+        | inl old ↦ inl ((like_recovers k F f r v p).1 (inr (put.0, old, put.2, put.3)))
         | inr new ↦ inr (put.0, new, put.2, put.3)
       ]
     ]
 
     back : IsRecovered F r v p ⊎ PutBy k.staged r v p → IsRecovered J r v p
-    back (inl h) = elim (was.0 h) as (λ _. IsRecovered J r v p) [
-      | inl base ↦ now.1 (inl base)
-      | inr put ↦ now.1 (inr (put.0, Contains-append_left k.durable k.staged put.0 put.1, put.2, put.3))
+    back (inl h) = elim ((like_recovers k F f r v p).0 h) as (λ _. IsRecovered J r v p) [
+      | inl base ↦ (like_recovers (gone_on k flushed) J j r v p).1 (inl base)
+      | inr put ↦ (like_recovers (gone_on k flushed) J j r v p).1 (inr (put.0, Contains-append_left k.durable k.staged put.0 put.1, put.2, put.3))
     ]
-    back (inr put) = now.1 (inr (put.0, Contains-append_right k.durable k.staged put.0 put.1, put.2, put.3))
+    back (inr put) = (like_recovers (gone_on k flushed) J j r v p).1 (inr (put.0, Contains-append_right k.durable k.staged put.0 put.1, put.2, put.3))
 
 pub recovers_all : (k : Kept) (flushed : ℕ → ℕ) (F J : Files) → IsLike k F → IsOrderly k → IsLike (gone_on k flushed) J → IsOrderly (gone_on k flushed) → RecoversSome F k.staged J
 recovers_all k flushed F J f orderly j after =

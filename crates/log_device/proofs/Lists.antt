@@ -1,5 +1,5 @@
 -- What stands in a list with one more behind it.
-use Rattle.std.proofs.Common.{◌≡◌, ◌⊎◌, inl, inr, Bool, true, cond, List, [], ◌∷◌, ◌++◌, Contains, filter, sym, ap, ◌∙◌, subst, arith}
+use Rattle.std.proofs.Common.{◌≡◌, ◌⊎◌, inl, inr, Bool, true, false, cond, List, [], ◌∷◌, ◌++◌, Contains, filter, sym, ap, ◌∙◌, subst, arith}
 use Rattle.std.proofs.lemmas.List.Elements.{All-contains, All-contains_itself, All-filter, filter_passes, Contains-append_left, Contains-append_right, Contains-append_cases, Contains-push, Contains-push_cases}
 
 pub one_more : {A : Type 0} (xs : List A) (x a : A) → Contains (xs ++ x ∷ []) a → Contains xs a ⊎ (x ≡ a)
@@ -17,11 +17,11 @@ first_or_later x xs a h = elim (Contains-append_cases (x ∷ []) xs a h) as (λ 
 
 -- what passes a test stands in the list of those that pass it, and nothing else
 pub passes : {A : Type 0} (test : A → Bool) (xs : List A) (a : A) → Contains xs a → test a ≡ true → Contains (filter test xs) a
-passes test [] a is yes = absurd (omega (arith, is.1))
-passes test (x ∷ xs) a is yes = elim (first_or_later x xs a is) as (λ _. Contains (filter test (x ∷ xs)) a) [
-  | inl here ↦ subst (λ (b : Bool). Contains (cond b (x ∷ filter test xs) (filter test xs)) a) (sym (ap test here ∙ yes))
+passes test [] a is holds = absurd (omega (arith, is.1))
+passes test (x ∷ xs) a is holds = elim (first_or_later x xs a is) as (λ _. Contains (filter test (x ∷ xs)) a) [
+  | inl here ↦ subst (λ (b : Bool). Contains (cond b (x ∷ filter test xs) (filter test xs)) a) (sym (ap test here ∙ holds))
       (subst (λ d. Contains (x ∷ filter test xs) d) here (Contains-append_left (x ∷ []) (filter test xs) x (Contains-push [] x)))
-  | inr later ↦ kept_by (test x) x (filter test xs) a (passes test xs a later yes)
+  | inr later ↦ kept_by (test x) x (filter test xs) a (passes test xs a later holds)
 ]
 
 pub passed : {A : Type 0} (test : A → Bool) (xs : List A) (a : A) → Contains (filter test xs) a → Contains xs a × (test a ≡ true)

@@ -1,7 +1,7 @@
 -- What writing a store leaves of what is kept.
-use Rattle.std.proofs.Common.{◌≡◌, ◌≢◌, ◌⊎◌, inl, inr, ℕ, ◌+◌, ◌≤◌, ◌<◌, List, Contains, get_or, set, length, Option, Some, None, refl, sym, ap, ◌∙◌, subst, arith}
+use Rattle.std.proofs.Common.{◌≡◌, ◌≢◌, inl, inr, ℕ, ◌+◌, ◌≤◌, ◌<◌, List, get_or, set, length, Option, Some, None, refl, sym, ap, ◌∙◌, subst, arith}
 use Rattle.std.proofs.lemmas.Bool.{cases_eq, cases_lt}
-use Rattle.std.proofs.lemmas.List.{get_or-set_same, get_or-set_other, get_or-past}
+use Rattle.std.proofs.lemmas.List.{get_or-set_same, get_or-set_other, get_or_past}
 use Rattle.log_model.specs.declared.name.Name.{Name}
 use Rattle.log_model.specs.declared.name.NameKind.TheVariants as kinds
 use Rattle.log_model.specs.StoreText.{Store, IsStore, IsThere, IsStoreText, store_text}
@@ -11,7 +11,7 @@ use Rattle.disk_images.specs.Calls.{IsTrueDisk}
 use Rattle.disk_images.specs.OneFile.{Touches, IsDurableFile}
 use Rattle.disk_images.proofs.Moments.{weaker, at_end}
 use Rattle.recovery.specs.Change.{HasText}
-use Rattle.recovery.specs.Kept.{Kept, IsLike, IsCut, IsNotThere, flushed_to, lasts}
+use Rattle.recovery.specs.Kept.{IsCut, IsNotThere, flushed_to, lasts}
 use Rattle.recovery.proofs.Names.{name_cases, store_apart}
 use Rattle.recovery.proofs.Likes.{orderly_flushed}
 use Rattle.recovery.proofs.Logs.{none_some}
@@ -20,8 +20,8 @@ use Rattle.recovery.proofs.Flushed.{unopened, opened}
 use Rattle.log_file.specs.LogText.{at_rest}
 use Rattle.log_file.specs.Open.{OpenLog}
 use Rattle.store_file.specs.Whole.{IsWholeOrNot}
-use Rattle.log_ledger.specs.History.{ClosedLog, History, flushed_in}
-use Rattle.log_device.specs.Keeps.{Keeps, Shows, Between, IsUpTo, log_name, store_name}
+use Rattle.log_ledger.specs.History.{History, flushed_in}
+use Rattle.log_device.specs.Keeps.{Keeps, Shows, Between, IsUpTo, store_name}
 use Rattle.log_device.proofs.Disk.{still_durable, still_closed, present_before, up_to_but}
 
 gate_of : (s : Store) → IsThere (store_text s)
@@ -99,7 +99,7 @@ module _ (log : OpenLog) (u w : DiskView) (h : History) (ns : List ℕ) (keeps :
       get_or_inside : (xs : List ℕ) (i : ℕ) → 0 < get_or xs i 0 → i < length xs
       get_or_inside xs i some = elim (cases_lt i (length xs)) as (λ _. i < length xs) [
         | inl within ↦ within
-        | inr past ↦ absurd (let none : get_or xs i 0 ≡ 0 = get_or-past xs i 0 past in omega (arith, none, some))
+        | inr past ↦ absurd (let none : get_or xs i 0 ≡ 0 = get_or_past xs i 0 past in omega (arith, none, some))
       ]
 
   abbrev pub next_stores : List ℕ
