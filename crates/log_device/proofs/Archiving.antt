@@ -139,6 +139,7 @@ module _ {T E : Type 0} {result : Result T E} (log : OpenLog) (u v : DiskView) (
           let was = left_is d member in
           let l = keeps.logs d was.0 in
           (record { each = l.0.each; file = still (log_name d.number) (ended_text d.number d.entries) refl (number_apart d.number was.1) l.0.file }, l.1);
+      one = λ d e d_in e_in. keeps.one d e (left_is d d_in).0 (left_is e e_in).0;
       there = λ m kind there. elim (name_cases m name) as (λ _. (m ≡ log.name) ⊎ ((d : ClosedLog) × Contains left d × (log_name d.number ≡ m))) [
         | inl is ↦ absurd (there (subst (λ (n : Name). content v.files n ≡ None) (sym is) renamed.left))
         | inr far ↦ elim (keeps.there m kind (present_was m far (no_old m kind) there)) as (λ _. (m ≡ log.name) ⊎ ((d : ClosedLog) × Contains left d × (log_name d.number ≡ m))) [

@@ -74,6 +74,7 @@ module _ (log : OpenLog) (v : DiskView) (h : History) (ns : List ℕ) (keeps : K
     logs = λ c member.
         let old = keeps.logs c member in
         (still_closed log.name (HasEither log.name h.current (h.current ++ h.kept.staged)) 4 v w c.number c.entries (λ is. let at : c.number ≡ log.name.number = ap (λ (n : Name). n.number) is in omega (arith, at, old.1)) over touches old.0, at_name c.number old.1);
+    one = keeps.one;
     there = λ m kind there. elim (name_cases m log.name) as (λ _. (m ≡ after.name) ⊎ ((c : ClosedLog) × Contains h.logs c × (log_name c.number ≡ m))) [
       | inl is ↦ inl (is ∙ sym same)
       | inr apart ↦ elim (keeps.there m kind (present_before log.name m v.files w.files touches.others apart there)) as (λ _. (m ≡ after.name) ⊎ ((c : ClosedLog) × Contains h.logs c × (log_name c.number ≡ m))) [

@@ -123,6 +123,9 @@ module _ (log : OpenLog) (u v w : DiskView) (h : History) (ns : List ℕ) (keeps
     roll_in_order more = joined (IsInOrder log.name next h.current) 4 3 u v w (end_in_order over) (weaker (OnlyAt next (HasEntries next []) v) (IsInOrder log.name next h.current) 3 v w old_text more)
 
     module _ (more : Throughout (OnlyAt next (HasEntries next []) v) 3 v w) (touches_next : Touches next v w) where
+      abbrev pub just_closed : ClosedLog
+      just_closed = record { number = log.name.number; entries = h.current }
+
       closed_still : (number : ℕ) (es : List Entry) → number < log.name.number → IsClosedLog u number es → IsClosedLog w number es
       closed_still number es low closed =
           still_closed next (HasEntries next []) 3 v w number es (lower number low) more touches_next
@@ -134,10 +137,22 @@ module _ (log : OpenLog) (u v w : DiskView) (h : History) (ns : List ℕ) (keeps
         file = subst (λ (n : Name). IsDurableFile w n (ended_text log.name.number h.current)) its_name (still_durable next log.name (HasEntries next []) 3 v w (ended_text log.name.number h.current) apart_back more touches_next ended);
       }
 
-      closed_all : (c : ClosedLog) → Contains (h.logs ++ record { number = log.name.number; entries = h.current } ∷ []) c → IsClosedLog w c.number c.entries × (c.number < next.number)
-      closed_all c member = elim (one_more h.logs (record { number = log.name.number; entries = h.current }) c member) as (λ _. IsClosedLog w c.number c.entries × (c.number < next.number)) [
+      closed_all : (c : ClosedLog) → Contains (h.logs ++ just_closed ∷ []) c → IsClosedLog w c.number c.entries × (c.number < next.number)
+      closed_all c member = elim (one_more h.logs just_closed c member) as (λ _. IsClosedLog w c.number c.entries × (c.number < next.number)) [
         | inl old ↦ let l = keeps.logs c old in (closed_still c.number c.entries l.1 l.0, omega (arith, l.1))
         | inr is ↦ subst (λ (x : ClosedLog). IsClosedLog w x.number x.entries × (x.number < next.number)) is (now_closed, omega arith)
+      ]
+
+      one_each : (c d : ClosedLog) → Contains (h.logs ++ just_closed ∷ []) c → Contains (h.logs ++ just_closed ∷ []) d → c.number ≡ d.number → c ≡ d
+      one_each c d c_in d_in same = elim (one_more h.logs just_closed c c_in) as (λ _. c ≡ d) [
+        | inl old_c ↦ elim (one_more h.logs just_closed d d_in) as (λ _. c ≡ d) [
+          | inl old_d ↦ keeps.one c d old_c old_d same
+          | inr new_d ↦ let at : log.name.number ≡ d.number = ap (λ (x : ClosedLog). x.number) new_d in absurd (omega (arith, (keeps.logs c old_c).1, at, same))
+        ]
+        | inr new_c ↦ elim (one_more h.logs just_closed d d_in) as (λ _. c ≡ d) [
+          | inl old_d ↦ let at : log.name.number ≡ c.number = ap (λ (x : ClosedLog). x.number) new_c in absurd (omega (arith, (keeps.logs d old_d).1, at, same))
+          | inr new_d ↦ sym new_c ∙ new_d
+        ]
       ]
 
       was_present : (m : Name) → m ≢ next → m ≢ log.name → IsPresent w.files m → IsPresent u.files m
@@ -158,13 +173,14 @@ module _ (log : OpenLog) (u v w : DiskView) (h : History) (ns : List ℕ) (keeps
             let text : HasText now.name [] None (content J now.name) = rest_has now.name [] (content J now.name) is_open.each (is_open.file.durable J there) in
             subst (λ (n : Name). Shows h.kept n [] J) (sym name) (next_shows J only.base only.was only.elsewhere None (subst (λ (n : Name). HasText n [] None (content J n)) name text));
         logs = λ c member. let l = closed_all c member in let at : now.name.number ≡ next.number = ap (λ (n : Name). n.number) name in (l.0, omega (arith, l.1, at));
-        there = λ m kind there. elim (name_cases m next) as (λ _. (m ≡ now.name) ⊎ ((c : ClosedLog) × Contains (h.logs ++ record { number = log.name.number; entries = h.current } ∷ []) c × (log_name c.number ≡ m))) [
+        one = one_each;
+        there = λ m kind there. elim (name_cases m next) as (λ _. (m ≡ now.name) ⊎ ((c : ClosedLog) × Contains (h.logs ++ just_closed ∷ []) c × (log_name c.number ≡ m))) [
           | inl is ↦ inl (is ∙ sym name)
-          | inr far ↦ inr (elim (name_cases m log.name) as (λ _. (c : ClosedLog) × Contains (h.logs ++ record { number = log.name.number; entries = h.current } ∷ []) c × (log_name c.number ≡ m)) [
-            | inl is ↦ (record { number = log.name.number; entries = h.current }, Contains-push h.logs (record { number = log.name.number; entries = h.current }), sym its_name ∙ sym is)
-            | inr off ↦ elim (keeps.there m kind (was_present m far off there)) as (λ _. (c : ClosedLog) × Contains (h.logs ++ record { number = log.name.number; entries = h.current } ∷ []) c × (log_name c.number ≡ m)) [
+          | inr far ↦ inr (elim (name_cases m log.name) as (λ _. (c : ClosedLog) × Contains (h.logs ++ just_closed ∷ []) c × (log_name c.number ≡ m)) [
+            | inl is ↦ (just_closed, Contains-push h.logs just_closed, sym its_name ∙ sym is)
+            | inr off ↦ elim (keeps.there m kind (was_present m far off there)) as (λ _. (c : ClosedLog) × Contains (h.logs ++ just_closed ∷ []) c × (log_name c.number ≡ m)) [
               | inl is ↦ absurd (off is)
-              | inr old ↦ (old.0, Contains-append_left h.logs (record { number = log.name.number; entries = h.current } ∷ []) old.0 old.1, old.2)
+              | inr old ↦ (old.0, Contains-append_left h.logs (just_closed ∷ []) old.0 old.1, old.2)
             ]
           ])
         ];
@@ -172,7 +188,7 @@ module _ (log : OpenLog) (u v w : DiskView) (h : History) (ns : List ℕ) (keeps
         olds = λ m kind there.
             let o = keeps.olds m kind (other_kind m (λ is. absurd (cc (sym kind ∙ is))) there) in
             let at : now.name.number ≡ next.number = ap (λ (n : Name). n.number) name in
-            (omega (arith, o.0, at), λ c member. elim (one_more h.logs (record { number = log.name.number; entries = h.current }) c member) as (λ _. c.number ≢ m.number) [
+            (omega (arith, o.0, at), λ c member. elim (one_more h.logs just_closed c member) as (λ _. c.number ≢ m.number) [
               | inl old ↦ o.1 c old
               | inr is ↦ λ same. let number : log.name.number ≡ c.number = ap (λ (x : ClosedLog). x.number) is in absurd (omega (arith, number, same, o.0))
             ]);

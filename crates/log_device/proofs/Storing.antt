@@ -140,6 +140,7 @@ module _ (log : OpenLog) (u w : DiskView) (h : History) (ns : List ℕ) (keeps :
     orderly = orderly_flushed h.kept r n keeps.orderly (omega (arith, cut.more)) logged;
     images = λ J now. let only = at_end (OnlyAt name (IsWholeOrNot (store_text s)) u) by u w over J now in stored_in only.base J only.was only.elsewhere (file.durable J now);
     logs = λ c member. let l = keeps.logs c member in (still_closed name (IsWholeOrNot (store_text s)) by u w c.number c.entries (λ is. absurd (cc (ap (λ (x : Name). x.kind) is))) over touches l.0, l.1);
+    one = keeps.one;
     there = λ m kind there. keeps.there m kind (present_before name m u.files w.files touches.others (λ is. absurd (cc (sym kind ∙ ap (λ (x : Name). x.kind) is))) there);
     gone = λ m is. keeps.gone m (touches.gone m is);
     olds = λ m kind there. keeps.olds m kind (present_before name m u.files w.files touches.others (λ is. absurd (cc (sym kind ∙ ap (λ (x : Name). x.kind) is))) there);

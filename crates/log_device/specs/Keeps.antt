@@ -52,6 +52,7 @@ pub record Keeps (log : OpenLog) (disk : DiskView) (h : History) (next_store : L
   pub images : (J : Files) → IsImageNow disk J → Shows h.kept log.name h.current J
   -- every other log is one of the closed ones, and has a lower number
   pub logs : (c : ClosedLog) → Contains h.logs c → IsClosedLog disk c.number c.entries × (c.number < log.name.number)
+  pub one : (c d : ClosedLog) → Contains h.logs c → Contains h.logs d → c.number ≡ d.number → c ≡ d
   pub there : (m : Name) → m.kind ≡ kinds.Log → IsPresent disk.files m → (m ≡ log.name) ⊎ ((c : ClosedLog) × Contains h.logs c × (log_name c.number ≡ m))
   -- only logs were renamed away
   pub gone : (m : Name) → disk.gone m → (m.kind ≡ kinds.Log) × (m.region ≡ 0) × (m.number < log.name.number)

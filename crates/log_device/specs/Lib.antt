@@ -1,2 +1,4 @@
 pub mod Keeps
 pub mod Leaves
+pub mod Numbered
+pub mod Whole
