@@ -1,0 +1,8 @@
+pub mod Sets
+pub mod Sums
+mod Chains
+mod Highest
+mod Steps
+mod Logs
+mod Staged
+mod Committed
