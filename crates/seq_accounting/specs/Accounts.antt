@@ -1,5 +1,5 @@
 -- What the accounting has of each region and of each closed file. Numbers are by region, read by `get_or numbers region 0`.
-use Rattle.std.specs.Prelude.{◌≡◌, ◌≢◌, ℕ, ◌<◌, ◌≤◌, List, get_or, Bool, not, ◌==◌, filter, Contains}
+use Rattle.std.specs.Prelude.{◌≡◌, ◌≢◌, ℕ, ◌<◌, ◌≤◌, List, get_or, not, ◌==◌, filter, Contains}
 use Rattle.seq_accounting.specs.declared.region.RegionMark.{RegionMark}
 pub use Rattle.seq_accounting.specs.declared.closed.ClosedFile.{ClosedFile}
 

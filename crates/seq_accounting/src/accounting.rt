@@ -1,6 +1,6 @@
 //! The accounting of regions and files.
 
-ghost use Rattle.std.specs.Prelude.{◌≡◌, ℕ, ◌+◌, ◌-◌, ◌<◌, ◌≤◌, ◌↔◌, List, [], ◌∷◌, ◌++◌, replicate, slice_set, get_or, All, AllPairs, Contains, IsTrue, IsNone, IfOk, OnOk, MatchOption};
+ghost use Rattle.std.specs.Prelude.{◌≡◌, ℕ, ◌+◌, ◌-◌, ◌<◌, ◌≤◌, ◌↔◌, List, [], ◌∷◌, ◌++◌, length, replicate, slice_set, get_or, All, AllPairs, Contains, IsTrue, IsNone, IfOk, OnOk, MatchOption};
 ghost use Rattle.seq_accounting.specs.Accounts.{ClosedFile, AreLower, IsClosed, without, NoneClosedAbove, IsNextClosed, AreApart, AreFlushed, SameNumbers, SameFiles};
 ghost use Rattle.seq_accounting.specs.Noted.{Note, NoneAbove, IsLeastAbove, HasNoted};
 
@@ -13,6 +13,9 @@ use std::marker::Model;
 
 // how many files may be closed before the list grows for the first time
 const FIRST_ROOM: usize = 8;
+
+// nothing of each region
+const NOTHING: [u64; REGIONS] = [0; REGIONS];
 
 /// What is flushed of each region, what was noted of it, and the files that are closed. Regions are at most 64.
 #[derive(Drop)]
@@ -59,10 +62,10 @@ impl Accounting {
         Ok(Accounting {
             flushed,
             noted: flushed,
-            flushing: [0; REGIONS],
-            oldest: [0; REGIONS],
-            since: [0; REGIONS],
-            current: [0; REGIONS],
+            flushing: NOTHING,
+            oldest: NOTHING,
+            since: NOTHING,
+            current: NOTHING,
             closed,
             last: 0,
         })
@@ -80,9 +83,7 @@ impl Accounting {
         ensures history { (notes : List Note) → HasNoted self.old notes → HasNoted self.new (notes ++ record { region = region; number = number } ∷ []) }
     {
         let place = region as usize;
-        if self.flushing[place] != 0 {
-            self.since[place] = first_of(self.since[place], number);
-        }
+        self.since[place] = first_since(self.flushing[place], self.since[place], number);
         self.oldest[place] = first_of(self.oldest[place], number);
         self.noted[place] = number;
         self.current[place] = number;
@@ -112,7 +113,7 @@ impl Accounting {
     {
         let highest = self.current;
         self.closed.push_reserved(ClosedFile { file, highest });
-        self.current = [0; REGIONS];
+        self.current = NOTHING;
         self.last = file;
     }
 
@@ -234,9 +235,10 @@ impl Accounting {
 fn flushed_by(regions: &[RegionMark]) -> [u64; REGIONS]
     requires within { All (λ m. m.region ≤ 64) regions.now }
     requires apart { AllPairs AreApart regions.now }
-    ensures { AreFlushed regions.now result }
+    ensures flushed { AreFlushed regions.now result }
+    ensures wide { length result ≡ REGIONS }
 {
-    let mut flushed = [0; REGIONS];
+    let mut flushed = NOTHING;
     for mark in regions {
         flushed[mark.region as usize] = mark.flushed;
     }
@@ -249,4 +251,17 @@ fn first_of(first: u64, number: u64) -> u64
     ensures some { 0 < first → result ≡ first }
 {
     if first == 0 { number } else { first }
+}
+
+// the same where a flush is under way, and else none
+fn first_since(flushing: u64, first: u64, number: u64) -> u64
+    ensures idle { flushing ≡ 0 → result ≡ first }
+    ensures none { 0 < flushing → first ≡ 0 → result ≡ number }
+    ensures some { 0 < first → result ≡ first }
+{
+    if flushing == 0 {
+        first
+    } else {
+        first_of(first, number)
+    }
 }
