@@ -14,11 +14,6 @@ pub record Haul : Type 0 where
   pub bytes : List ℕ
   pub behind : List Held
 
--- a truck of this region behind which none stands
-pub record IsLone (t : Haul) (region : ℕ) : Type 0 where
-  pub region : t.region ≡ region
-  pub lone : t.behind ≡ []
-
 abbrev pub held_of : Haul → Held
 held_of t = record { number = t.number; bytes = t.bytes }
 

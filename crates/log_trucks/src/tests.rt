@@ -1,7 +1,6 @@
 //! Chains of trucks, long ones too.
 
 ghost use Rattle.std.specs.Prelude.{◌≡◌, ◌≤◌, ◌<◌, ◌^◌, [], IfOk};
-ghost use Rattle.log_trucks.specs.Held.{IsLone};
 
 use super::*;
 use entry_frame::encode_entry;
@@ -27,7 +26,7 @@ fn truck(alloc: Global, region: u32, number: u64, batch: &Batch) -> Result<Box<T
     requires region { region ≤ 64 }
     requires number_given { 1 ≤ number }
     requires number { number < 2 ^ 48 }
-    ensures { IfOk result (λ t. IsLone t.value region) }
+    ensures { IfOk result (λ t. (t.value.region ≡ region) × (t.value.behind ≡ [])) }
 {
     let bytes = encode_entry(alloc, region, number, 1000, batch)?;
     let truck = Truck {
