@@ -47,6 +47,7 @@ impl Accounting {
     pub fn new(alloc: Global, regions: &[RegionMark]) -> Result<Accounting, NoMemory>
         requires within { All (λ m. m.region ≤ 64) regions.now }
         requires apart { AllPairs AreApart regions.now }
+        ensures wide { IfOk result (λ a. length a.flushed ≡ REGIONS) }
         ensures flushed { IfOk result (λ a. AreFlushed regions.now a.flushed) }
         ensures noted { IfOk result (λ a. a.noted ≡ a.flushed) }
         ensures flushing { IfOk result (λ a. a.flushing ≡ replicate REGIONS 0) }

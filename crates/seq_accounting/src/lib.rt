@@ -9,6 +9,7 @@ mod flushing;
 mod region;
 
 pub use accounting::Accounting;
+pub use closed::ClosedFile;
 pub use error::NoMemory;
 pub use flushing::Flushing;
 pub use region::{REGIONS, RegionMark};
