@@ -6,3 +6,6 @@ mod Steps
 mod Logs
 mod Staged
 mod Committed
+mod Flushed
+mod Cells
+mod Orders

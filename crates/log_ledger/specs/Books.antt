@@ -31,6 +31,7 @@ pub record AreWide (b : Books) : Type 0 where
   pub closed : length b.closed ≡ 65
   pub next_store : length b.next_store ≡ 65
   pub flushed : length b.accounts.flushed ≡ 65
+  pub noted : length b.accounts.noted ≡ 65
   pub flushing : length b.accounts.flushing ≡ 65
   pub current : length b.accounts.current ≡ 65
   pub chains : length b.chains ≡ 65
