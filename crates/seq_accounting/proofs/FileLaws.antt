@@ -5,8 +5,7 @@ use Rattle.std.specs.Prelude.{AllPairs}
 use Rattle.std.specs.List.Sorted.{IsPartitionPoint, IsNonDecreasingBy}
 use Rattle.std.proofs.lemmas.Bool.{cases_eq}
 use Rattle.std.proofs.lemmas.List.{get_or_default}
-use Rattle.seq_accounting.specs.declared.closed.ClosedFile.{ClosedFile}
-use Rattle.seq_accounting.specs.Accounts.{IsBefore, IsNextClosed, NoneClosedAbove}
+use Rattle.seq_accounting.specs.Accounts.{ClosedFile, IsBefore, IsNextClosed, NoneClosedAbove}
 use Rattle.seq_accounting.specs.Places.{IsPlaceOf, IsPlaceAbove}
 
 cases_leb : (a b : ℕ) → (leb a b ≡ true) ⊎ (leb a b ≡ false)

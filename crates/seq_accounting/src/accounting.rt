@@ -4,7 +4,7 @@ ghost use Rattle.std.specs.Prelude.{◌≡◌, ℕ, ◌+◌, ◌-◌, ◌<◌, �
 ghost use Rattle.seq_accounting.specs.Accounts.{ClosedFile, AreLower, IsClosed, without, NoneClosedAbove, IsNextClosed, AreApart, AreFlushed, SameNumbers, SameFiles};
 ghost use Rattle.seq_accounting.specs.Noted.{Note, NoneAbove, IsLeastAbove, HasNoted};
 
-use crate::closed::{ClosedFile, are_lower, place_above, place_of};
+use crate::closed::{FileMark, place_above, place_of};
 use crate::error::NoMemory;
 use crate::flushing::Flushing;
 use crate::numbers::{NOTHING, first_of, first_since, flushed_by};
@@ -24,7 +24,7 @@ pub struct Accounting {
     oldest: [u64; REGIONS],
     since: [u64; REGIONS],
     current: [u64; REGIONS],
-    closed: Vec<ClosedFile>,
+    closed: Vec<FileMark>,
     last: u64,
 }
 
@@ -110,8 +110,7 @@ impl Accounting {
         ensures numbers { SameNumbers self.old self.new }
         ensures history { (notes : List Note) → HasNoted self.old notes → HasNoted self.new notes }
     {
-        let highest = self.current;
-        self.closed.push_reserved(ClosedFile { file, highest });
+        self.closed.push_reserved(FileMark::new(file, self.current));
         self.current = NOTHING;
         self.last = file;
     }
@@ -203,7 +202,7 @@ impl Accounting {
         ensures { (c : ClosedFile) → Contains self.now.closed c → c.file ≡ file → IsTrue result ↔ AreLower c.highest self.now.flushed }
     {
         let place = place_of(&self.closed, file);
-        are_lower(&self.closed[place].highest, &self.flushed)
+        self.closed[place].is_lower(&self.flushed)
     }
 
     /// Forgets a closed file. It takes no memory.
@@ -216,7 +215,7 @@ impl Accounting {
         ensures numbers { SameNumbers self.old self.new }
         ensures history { (notes : List Note) → HasNoted self.old notes → HasNoted self.new notes }
     {
-        self.closed.retain(|c| c.file != file);
+        self.closed.retain(|c| c.file() != file);
     }
 
     /// The least closed file above this number, by a binary search. Files are numbered from 1, so 0 begins.
@@ -225,7 +224,7 @@ impl Accounting {
         ensures next { MatchOption result (NoneClosedAbove self.now.closed after) (λ file. IsNextClosed self.now.closed after file) }
     {
         match self.closed.get(place_above(&self.closed, after)) {
-            Some(next) => Some(next.file),
+            Some(next) => Some(next.file()),
             None => None,
         }
     }

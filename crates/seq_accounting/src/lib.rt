@@ -10,7 +10,6 @@ mod numbers;
 mod region;
 
 pub use accounting::Accounting;
-pub use closed::ClosedFile;
 pub use error::NoMemory;
 pub use flushing::Flushing;
 pub use region::{REGIONS, RegionMark};
