@@ -6,7 +6,7 @@ use Rattle.recovery.specs.Kept.{Kept, lasts}
 use Rattle.recovery.proofs.Rising.{lasts-append}
 use Rattle.recovery.proofs.Likes.{orderly_committed}
 use Rattle.recovery.proofs.Lists.{none_in}
-use Rattle.seq_accounting.specs.declared.closed.ClosedFile.{ClosedFile}
+use Rattle.seq_accounting.specs.Accounts.{ClosedFile}
 use Rattle.log_trucks.specs.Held.{Held}
 use Rattle.log_ledger.specs.History.{History, ClosedLog, committed_in, closed_in}
 use Rattle.log_ledger.specs.Books.{Books, IsServed, AreInOrder}

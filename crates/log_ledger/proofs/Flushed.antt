@@ -6,7 +6,7 @@ use Rattle.log_model.specs.Entry.{Entry}
 use Rattle.recovery.specs.Kept.{Kept, lasts, flushed_to}
 use Rattle.recovery.proofs.Likes.{orderly_flushed}
 use Rattle.recovery.proofs.Lists.{none_in}
-use Rattle.seq_accounting.specs.declared.closed.ClosedFile.{ClosedFile}
+use Rattle.seq_accounting.specs.Accounts.{ClosedFile}
 use Rattle.log_trucks.specs.Held.{Held, AreHeld}
 use Rattle.log_ledger.specs.History.{History, flushed_in, archived_in}
 use Rattle.log_ledger.specs.Books.{Books, IsServed, IsChain, AreInOrder}

@@ -4,7 +4,7 @@ use Rattle.std.specs.Prelude.{filter, AllPairs}
 use Rattle.std.proofs.lemmas.Bool.{cases_eq, eq-eqb, ne_eqb}
 use Rattle.log_model.specs.Entry.{Entry}
 use Rattle.log_model.specs.Recovered.{IsWhollyFlushed}
-use Rattle.seq_accounting.specs.declared.closed.ClosedFile.{ClosedFile}
+use Rattle.seq_accounting.specs.Accounts.{ClosedFile}
 use Rattle.seq_accounting.specs.Accounts.{AreLower, IsBefore, without}
 use Rattle.log_ledger.specs.History.{ClosedLog, is_other}
 use Rattle.log_ledger.specs.Books.{Books, IsServed}

@@ -10,7 +10,7 @@ use Rattle.std.proofs.lemmas.List.Elements.{All-contains, All-contains_itself, A
 use Rattle.std.proofs.lemmas.List.Kept.{AllPairs-filter}
 use Rattle.std.proofs.lemmas.List.Quantifiers.{all_pairs_push}
 use Rattle.log_model.specs.Entry.{Entry, IsEntry, entry_frame}
-use Rattle.seq_accounting.specs.declared.closed.ClosedFile.{ClosedFile}
+use Rattle.seq_accounting.specs.Accounts.{ClosedFile}
 use Rattle.seq_accounting.specs.Accounts.{Accounts, IsBefore, IsClosed, without}
 use Rattle.log_trucks.specs.Held.{Held, Haul, held_of, AreHeld}
 use Rattle.log_ledger.specs.Books.{Books, IsServed, AreWide, IsChain, IsRegionInOrder, AreInOrder}

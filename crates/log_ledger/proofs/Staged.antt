@@ -7,7 +7,7 @@ use Rattle.recovery.specs.Kept.{Kept, lasts, with_staged}
 use Rattle.recovery.proofs.Rising.{lasts_here, lasts_other}
 use Rattle.recovery.proofs.Likes.{orderly_staged}
 use Rattle.recovery.proofs.Lists.{first_or_later, is_first, is_later}
-use Rattle.seq_accounting.specs.declared.closed.ClosedFile.{ClosedFile}
+use Rattle.seq_accounting.specs.Accounts.{ClosedFile}
 use Rattle.log_trucks.specs.Held.{Held, Haul, held_of, IsHeld, AreHeld}
 use Rattle.log_ledger.specs.History.{History, ClosedLog, staged_in}
 use Rattle.log_ledger.specs.Books.{Books, IsServed, IsChain, AreInOrder}

@@ -1,6 +1,6 @@
 -- The numbers of one log's device. Lists are by region, numbers read by `get_or numbers region 0`.
 use Rattle.std.specs.Prelude.{◌≡◌, ℕ, ◌+◌, ◌<◌, ◌≤◌, ◌^◌, List, [], length, get_or, Contains, AllPairs}
-use Rattle.seq_accounting.specs.declared.closed.ClosedFile.{ClosedFile}
+use Rattle.seq_accounting.specs.Accounts.{ClosedFile}
 use Rattle.seq_accounting.specs.Accounts.{Accounts, IsBefore}
 use Rattle.log_model.specs.Entry.{Entry}
 use Rattle.log_trucks.specs.Held.{Held, AreHeld}

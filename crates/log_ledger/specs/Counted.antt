@@ -3,7 +3,7 @@ use Rattle.std.specs.Prelude.{◌≡◌, ◌⊎◌, ◌↔◌, ℕ, ◌<◌, ◌
 use Rattle.log_model.specs.Entry.{Entry}
 use Rattle.log_model.specs.Recovered.{IsGreatest}
 use Rattle.recovery.specs.Kept.{Kept, lasts, AreApart, IsOrderly}
-use Rattle.seq_accounting.specs.declared.closed.ClosedFile.{ClosedFile}
+use Rattle.seq_accounting.specs.Accounts.{ClosedFile}
 use Rattle.log_trucks.specs.Held.{Held, AreHeld}
 use Rattle.log_ledger.specs.History.{History, ClosedLog}
 use Rattle.log_ledger.specs.Books.{Books, IsServed}

@@ -3,17 +3,10 @@ use Rattle.std.proofs.Common.{◌≡◌, ◌≢◌, ℕ, ◌<◌, ◌≤◌, ◌
 use Rattle.std.proofs.Props.{props}
 use Rattle.std.specs.Prelude.{AllPairs}
 use Rattle.std.specs.List.Sorted.{IsPartitionPoint, IsNonDecreasingBy}
-use Rattle.std.proofs.lemmas.Bool.{cases_eq}
+use Rattle.std.proofs.lemmas.Bool.{cases_eq, cases_lt}
 use Rattle.std.proofs.lemmas.List.{get_or_default}
-use Rattle.seq_accounting.specs.declared.closed.ClosedFile.{ClosedFile}
-use Rattle.seq_accounting.specs.Accounts.{IsBefore, IsNextClosed, NoneClosedAbove}
+use Rattle.seq_accounting.specs.Accounts.{ClosedFile, IsBefore, IsNextClosed, NoneClosedAbove}
 use Rattle.seq_accounting.specs.Places.{IsPlaceOf, IsPlaceAbove}
-
-cases_leb : (a b : ℕ) → (leb a b ≡ true) ⊎ (leb a b ≡ false)
-cases_leb a b = elim (leb a b) as (λ v. (v ≡ true) ⊎ (v ≡ false)) [ true ↦ inl refl | false ↦ inr refl ]
-
-le_or_lt : (a b : ℕ) → (a ≤ b) ⊎ (b < a)
-le_or_lt a b = elim (cases_leb a b) [ inl t ↦ inl (leb-true a b t) | inr f ↦ inr (leb-false a b f) ]
 
 pub rising_files : (closed : List ClosedFile) → AllPairs IsBefore closed → IsNonDecreasingBy (λ (c : ClosedFile). c.file) closed
 rising_files closed rising i j d le lt = ⊎_elim
@@ -30,7 +23,7 @@ place_found closed file place rising point found =
     let at = found.1.0 in
     let within : at < length closed = found.1.1 in
     let named : (get_or closed at which).file ≡ file = ap (λ (c : ClosedFile). c.file) found.1.2 ∙ found.2 in
-    let reached : place ≤ at = elim (le_or_lt place at) [ inl le ↦ le | inr lt ↦ (let low = ltb-true _ _ (point.0 at which (omega arith) lt) in absurd (omega arith)) ] in
+    let reached : place ≤ at = elim (cases_lt at place) [ inr le ↦ le | inl lt ↦ (let low = ltb-true _ _ (point.0 at which (omega arith) lt) in absurd (omega arith)) ] in
     record {
       there = omega arith;
       named = λ d. ⊎_elim
@@ -64,12 +57,12 @@ next_there closed after place next rising at lt is =
       least = λ c there up.
         let same = ap (λ (c : ClosedFile). c.file) there.2 in
         let within : there.0 < length closed = there.1 in
-        elim (le_or_lt place there.0) [
-          inl le ↦ (⊎_elim
+        elim (cases_lt there.0 place) [
+          inr le ↦ (⊎_elim
             (λ (e : place ≡ there.0). let one = ap (λ (k : ℕ). (get_or closed k c).file) e in let two = ap (λ (d : ClosedFile). d.file) (get_or_default closed place next c lt) in omega arith)
             (λ (ne : place ≢ there.0). let before = rising place there.0 c (omega arith) within in let two = ap (λ (d : ClosedFile). d.file) (get_or_default closed place next c lt) in omega arith)
             (cases_eq place there.0))
-          | inr below ↦ (let low = at.below there.0 c below in absurd (omega arith))
+          | inl below ↦ (let low = at.below there.0 c below in absurd (omega arith))
         ];
     }
 
@@ -90,10 +83,10 @@ place_one closed file place c d rising here there named =
     let within : at < length closed = there.1 in
     let same = ap (λ (e : ClosedFile). e.file) there.2 in
     let one = here.named c in
-    elim (le_or_lt place at) [
-      inl le ↦ (⊎_elim
+    elim (cases_lt at place) [
+      inr le ↦ (⊎_elim
         (λ (e : place ≡ at). ap (λ (k : ℕ). get_or closed k d) e ∙ get_or_default closed at d c within ∙ there.2)
         (λ (ne : place ≢ at). let before = rising place at c (omega arith) within in absurd (omega arith))
         (cases_eq place at))
-      | inr below ↦ (let before = rising at place c below here.there in absurd (omega arith))
+      | inl below ↦ (let before = rising at place c below here.there in absurd (omega arith))
     ]

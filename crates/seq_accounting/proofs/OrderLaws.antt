@@ -6,8 +6,7 @@ use Rattle.std.proofs.lemmas.Bool.{cases_eq}
 use Rattle.std.specs.List.{filter, All}
 use Rattle.std.proofs.lemmas.List.Elements.{Contains-get_or, Contains-push_cases, All-filter}
 use Rattle.std.proofs.lemmas.List.Quantifiers.{all_pairs_push}
-use Rattle.seq_accounting.specs.declared.closed.ClosedFile.{ClosedFile}
-use Rattle.seq_accounting.specs.Accounts.{Accounts, IsBefore}
+use Rattle.seq_accounting.specs.Accounts.{ClosedFile, Accounts, IsBefore}
 use Rattle.seq_accounting.specs.Order.{AreOfRegion, IsOfFiles, IsInOrder}
 
 -- a number above the highest one was noted

@@ -1,21 +1,19 @@
 //! The accounting of regions and files.
 
-ghost use Rattle.std.specs.Prelude.{◌≡◌, ℕ, ◌+◌, ◌-◌, ◌<◌, ◌≤◌, ◌↔◌, List, [], ◌∷◌, ◌++◌, length, replicate, slice_set, get_or, All, AllPairs, Contains, IsTrue, IsNone, IfOk, OnOk, MatchOption};
+ghost use Rattle.std.specs.Prelude.{◌≡◌, ℕ, ◌+◌, ◌-◌, ◌<◌, ◌≤◌, ◌↔◌, List, [], ◌∷◌, ◌++◌, replicate, slice_set, get_or, All, AllPairs, Contains, IsTrue, IsNone, IfOk, OnOk, OnErr, MatchOption};
 ghost use Rattle.seq_accounting.specs.Accounts.{ClosedFile, AreLower, IsClosed, without, NoneClosedAbove, IsNextClosed, AreApart, AreFlushed, SameNumbers, SameFiles};
 ghost use Rattle.seq_accounting.specs.Noted.{Note, NoneAbove, IsLeastAbove, HasNoted};
 
-use crate::closed::{ClosedFile, are_lower, place_above, place_of};
+use crate::closed::{FileMark, place_above, place_of};
 use crate::error::NoMemory;
 use crate::flushing::Flushing;
+use crate::numbers::{NOTHING, first_of, first_since, flushed_by};
 use crate::region::{REGIONS, RegionMark};
 use std::alloc::Global;
 use std::marker::Model;
 
 // how many files may be closed before the list grows for the first time
 const FIRST_ROOM: usize = 8;
-
-// nothing of each region
-const NOTHING: [u64; REGIONS] = [0; REGIONS];
 
 /// What is flushed of each region, what was noted of it, and the files that are closed. Regions are at most 64.
 #[derive(Drop)]
@@ -26,7 +24,7 @@ pub struct Accounting {
     oldest: [u64; REGIONS],
     since: [u64; REGIONS],
     current: [u64; REGIONS],
-    closed: Vec<ClosedFile>,
+    closed: Vec<FileMark>,
     last: u64,
 }
 
@@ -90,9 +88,10 @@ impl Accounting {
         self.current[place] = number;
     }
 
-    /// Makes room for one more closed file.
+    /// Makes room for one more closed file. Where it is refused, there was none.
     pub fn reserve_file(&mut self) -> Result<(), NoMemory>
         ensures ok { OnOk result (1 ≤ self.new.room) }
+        ensures err { OnErr result (self.old.room ≡ 0) }
         ensures same { self.new ≡ record self.old { room = self.new.room } }
         ensures room { self.old.room ≤ self.new.room }
         ensures history { (notes : List Note) → HasNoted self.old notes → HasNoted self.new notes }
@@ -112,8 +111,7 @@ impl Accounting {
         ensures numbers { SameNumbers self.old self.new }
         ensures history { (notes : List Note) → HasNoted self.old notes → HasNoted self.new notes }
     {
-        let highest = self.current;
-        self.closed.push_reserved(ClosedFile { file, highest });
+        self.closed.push_reserved(FileMark::new(file, self.current));
         self.current = NOTHING;
         self.last = file;
     }
@@ -205,7 +203,7 @@ impl Accounting {
         ensures { (c : ClosedFile) → Contains self.now.closed c → c.file ≡ file → IsTrue result ↔ AreLower c.highest self.now.flushed }
     {
         let place = place_of(&self.closed, file);
-        are_lower(&self.closed[place].highest, &self.flushed)
+        self.closed[place].is_lower(&self.flushed)
     }
 
     /// Forgets a closed file. It takes no memory.
@@ -218,51 +216,17 @@ impl Accounting {
         ensures numbers { SameNumbers self.old self.new }
         ensures history { (notes : List Note) → HasNoted self.old notes → HasNoted self.new notes }
     {
-        self.closed.retain(|c| c.file != file);
+        self.closed.retain(|c| c.file() != file);
     }
 
-    /// The least closed file above this number, by a binary search.
+    /// The least closed file above this number, by a binary search. Files are numbered from 1, so 0 begins.
     pub fn next_closed(&self, after: u64) -> Option<u64>
-        ensures { MatchOption result (NoneClosedAbove self.now.closed after) (λ file. IsNextClosed self.now.closed after file) }
+        ensures given { (c : ClosedFile) → Contains self.now.closed c → 1 ≤ c.file }
+        ensures next { MatchOption result (NoneClosedAbove self.now.closed after) (λ file. IsNextClosed self.now.closed after file) }
     {
         match self.closed.get(place_above(&self.closed, after)) {
-            Some(next) => Some(next.file),
+            Some(next) => Some(next.file()),
             None => None,
         }
-    }
-}
-
-// what the marks say is flushed of each region
-fn flushed_by(regions: &[RegionMark]) -> [u64; REGIONS]
-    requires within { All (λ m. m.region ≤ 64) regions.now }
-    requires apart { AllPairs AreApart regions.now }
-    ensures flushed { AreFlushed regions.now result }
-    ensures wide { length result ≡ REGIONS }
-{
-    let mut flushed = NOTHING;
-    for mark in regions {
-        flushed[mark.region as usize] = mark.flushed;
-    }
-    flushed
-}
-
-// the first number, or the new one where there was none
-fn first_of(first: u64, number: u64) -> u64
-    ensures none { first ≡ 0 → result ≡ number }
-    ensures some { 0 < first → result ≡ first }
-{
-    if first == 0 { number } else { first }
-}
-
-// the same where a flush is under way, and else none
-fn first_since(flushing: u64, first: u64, number: u64) -> u64
-    ensures idle { flushing ≡ 0 → result ≡ first }
-    ensures none { 0 < flushing → first ≡ 0 → result ≡ number }
-    ensures some { 0 < first → result ≡ first }
-{
-    if flushing == 0 {
-        first
-    } else {
-        first_of(first, number)
     }
 }

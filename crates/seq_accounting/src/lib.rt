@@ -6,10 +6,10 @@ mod accounting;
 mod closed;
 mod error;
 mod flushing;
+mod numbers;
 mod region;
 
 pub use accounting::Accounting;
-pub use closed::ClosedFile;
 pub use error::NoMemory;
 pub use flushing::Flushing;
 pub use region::{REGIONS, RegionMark};

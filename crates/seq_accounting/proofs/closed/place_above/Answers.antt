@@ -1,6 +1,6 @@
 use Rattle.std.proofs.Common.{leb, rules}
 use Rattle.std.proofs.lemmas.List.Sorted.{IsPartitionPoint-from_clause, IsPartitionedBy-leb}
-use Rattle.seq_accounting.specs.declared.closed.ClosedFile.{ClosedFile}
+use Rattle.seq_accounting.specs.Accounts.{ClosedFile}
 use Rattle.seq_accounting.proofs.FileLaws.{rising_files, place_next}
 use Rattle.seq_accounting.proofs.closed.place_above.Goals as goal
 

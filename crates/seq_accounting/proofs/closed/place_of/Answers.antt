@@ -1,7 +1,7 @@
 use Rattle.std.proofs.Common.{ltb, rules}
 use Rattle.std.proofs.Math.Logic.{∥∥₁_elim}
 use Rattle.std.proofs.lemmas.List.Sorted.{IsPartitionPoint-from_clause, IsPartitionedBy-ltb}
-use Rattle.seq_accounting.specs.declared.closed.ClosedFile.{ClosedFile}
+use Rattle.seq_accounting.specs.Accounts.{ClosedFile}
 use Rattle.seq_accounting.proofs.FileLaws.{rising_files, place_found, place_prop}
 use Rattle.seq_accounting.proofs.closed.place_of.Goals as goal
 

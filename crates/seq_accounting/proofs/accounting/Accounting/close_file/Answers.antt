@@ -1,7 +1,6 @@
 use Rattle.std.proofs.Common.{◌<◌, replicate, refl, subst, sym}
-use Rattle.seq_accounting.specs.declared.closed.ClosedFile.{ClosedFile}
 use Rattle.seq_accounting.proofs.OrderLaws.{nothing, regions_cleared, rising_closed, files_closed}
-use Rattle.seq_accounting.specs.Accounts.{Accounts}
+use Rattle.seq_accounting.specs.Accounts.{ClosedFile, Accounts}
 use Rattle.seq_accounting.specs.Noted.{HasNoted}
 use Rattle.seq_accounting.proofs.NotedLaws.{noted_same}
 use Rattle.seq_accounting.proofs.accounting.Accounting.close_file.Goals as goal
@@ -18,6 +17,6 @@ invariant_of-self c =
     let above = subst (λ (a : Accounts). a.last < c.args.file) (sym c.self.view_is) c.requires.above in record {
       wide = record { flushed = order.wide.flushed; noted = order.wide.noted; flushing = order.wide.flushing; oldest = order.wide.oldest; since = order.wide.since; current = refl };
       regions = regions_cleared _ (replicate 65 0) order (nothing 65);
-      rising = rw c.push_reserved.ensures.items (rising_closed _ new order above);
-      files = rw c.push_reserved.ensures.items (files_closed _ new order c.requires.given above refl);
+      rising = rw (c.push_reserved.ensures.items, c.new.ensures) (rising_closed _ new order above);
+      files = rw (c.push_reserved.ensures.items, c.new.ensures) (files_closed _ new order c.requires.given above refl);
     }

@@ -1,9 +1,8 @@
 use Rattle.std.proofs.Common.{◌==◌, not, refl, ap, subst, sym, ◌∙◌, rules}
 use Rattle.std.proofs.lemmas.Fn.{filter_same}
 use Rattle.std.proofs.lemmas.List.Kept.{AllPairs-filter}
-use Rattle.seq_accounting.specs.declared.closed.ClosedFile.{ClosedFile}
 use Rattle.seq_accounting.proofs.OrderLaws.{files_kept}
-use Rattle.seq_accounting.specs.Accounts.{Accounts, IsBefore, without}
+use Rattle.seq_accounting.specs.Accounts.{ClosedFile, Accounts, IsBefore, without}
 use Rattle.seq_accounting.specs.Noted.{HasNoted}
 use Rattle.seq_accounting.proofs.NotedLaws.{noted_same}
 use Rattle.seq_accounting.proofs.accounting.Accounting.forget.Goals as goal
