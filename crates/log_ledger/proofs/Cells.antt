@@ -16,7 +16,7 @@ use Rattle.recovery.specs.Kept.{Kept}
 use Rattle.recovery.proofs.Contents.{cut_has}
 use Rattle.log_trucks.specs.Held.{Held, IsHeld, AreHeld}
 use Rattle.log_ledger.specs.Books.{IsChain}
-use Rattle.log_ledger.specs.Counted.{CarriesUnflushed}
+use Rattle.log_ledger.specs.Counted.{CarriesUnflushed, PutsCut}
 use Rattle.log_ledger.proofs.Chains.{at_first, at_later}
 use Rattle.log_ledger.proofs.Flushed.{unflushed_bound}
 
@@ -64,10 +64,6 @@ cells_between r flushed drawn chain is told =
     ∥∥₁_elim is.entries (if_ok_prop r (AllByRecursion (IsBetween flushed drawn)) (AllByRecursion-prop (IsBetween flushed drawn) (λ x. hlevel (le_prop))))
     (λ es. IfOk-weaker r (λ cells. cells ≡ cells_of_all es.0) (AllByRecursion (IsBetween flushed drawn))
       (λ cells same. subst (AllByRecursion (IsBetween flushed drawn)) (sym same) (all_between flushed drawn chain es.0 is.numbers es.1)) (told es.0 es.1))
-
--- the cells put exactly what the region's unflushed entries put
-abbrev pub PutsCut : Kept → ℕ → ℕ → List NumberedCell → Type 0
-PutsCut k r drawn cells = (v : VersionKey) (p : Payload) → (get (put_numbered empty cells) v ≡ Some p) ↔ ((e : Entry) × Contains k.durable e × (e.region ≡ r) × (k.flushed r < e.number) × (e.number ≤ drawn) × Puts e v p)
 
 pub cells_cut : {E : Type 0} (r : Result (List NumberedCell) E) (k : Kept) (region flushed drawn : ℕ) (chain : List Held) → IsChain flushed drawn chain → CarriesUnflushed k region chain → k.staged ≡ []
     → ((es : List Entry) → AreHeld chain es → IfOk r (λ cells. cells ≡ cells_of_all es)) → IfOk r (PutsCut k region drawn)
