@@ -32,6 +32,24 @@ fn one_put_is_a_body_of_48_bytes(rt: HostRuntime) -> Result<(), Fail> {
     Ok(())
 }
 
+#[test]
+fn an_entry_is_read_back_from_its_bytes(rt: HostRuntime) -> Result<(), Fail> {
+    let bytes = encode_entry(rt.alloc(), 3, 7, 1000, &one_cell(&rt)?)?;
+    let entry = bytes.to_entry(rt.alloc())?;
+    assert_eq!(rt; entry.region, 3);
+    assert_eq!(rt; entry.number, 7);
+    assert_eq!(rt; entry.time, 1000);
+    let cells = entry.batch.as_slice();
+    assert_eq!(rt; cells.len(), 1);
+    assert_eq!(rt; cells[0].row.as_slice(), b"r".as_slice());
+    assert_eq!(rt; cells[0].family.as_slice(), b"f".as_slice());
+    assert_eq!(rt; cells[0].qualifier.as_slice(), b"q".as_slice());
+    assert_eq!(rt; cells[0].ts, 1);
+    assert_eq!(rt; cells[0].kind.code(), 4);
+    assert_eq!(rt; cells[0].value.as_slice(), b"v".as_slice());
+    Ok(())
+}
+
 /// The log of number 1 with the entry of that put, and an end frame.
 const ENDED: [u8; 85] = [
     b'H', b'W', b'L', b'1', 0, 0, 0, 1, 0, 0, 0, 0, 0, 0, 0, 1, 0xA5, 1, 0, 0, 0, 48, 0, 0, 0, 1,

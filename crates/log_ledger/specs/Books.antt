@@ -1,6 +1,7 @@
 -- The numbers of one log's device. Lists are by region, numbers read by `get_or numbers region 0`.
 use Rattle.std.specs.Prelude.{◌≡◌, ℕ, ◌+◌, ◌<◌, ◌≤◌, ◌^◌, List, [], length, get_or, Contains, AllPairs}
-use Rattle.seq_accounting.specs.Accounts.{Accounts, ClosedFile, IsBefore}
+use Rattle.seq_accounting.specs.Accounts.{ClosedFile}
+use Rattle.seq_accounting.specs.Accounts.{Accounts, IsBefore}
 use Rattle.log_model.specs.Entry.{Entry}
 use Rattle.log_trucks.specs.Held.{Held, AreHeld}
 
@@ -30,6 +31,7 @@ pub record AreWide (b : Books) : Type 0 where
   pub closed : length b.closed ≡ 65
   pub next_store : length b.next_store ≡ 65
   pub flushed : length b.accounts.flushed ≡ 65
+  pub noted : length b.accounts.noted ≡ 65
   pub flushing : length b.accounts.flushing ≡ 65
   pub current : length b.accounts.current ≡ 65
   pub chains : length b.chains ≡ 65

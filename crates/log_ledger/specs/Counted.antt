@@ -1,8 +1,11 @@
 -- What the numbers say of a device's history.
-use Rattle.std.specs.Prelude.{◌≡◌, ◌⊎◌, ◌↔◌, ℕ, ◌<◌, ◌≤◌, List, [], ◌∷◌, ◌++◌, get_or, Contains}
+use Rattle.std.specs.Prelude.{◌≡◌, ◌⊎◌, ◌↔◌, ℕ, ◌<◌, ◌≤◌, List, [], ◌∷◌, ◌++◌, get_or, Contains, Some}
+use Rattle.std.specs.FinMap.{get, empty}
+use Rattle.cell_model.specs.Order.{VersionKey, Payload, NumberedCell}
+use Rattle.cell_model.specs.Merge.{put_numbered}
 use Rattle.log_model.specs.Entry.{Entry}
-use Rattle.log_model.specs.Recovered.{IsGreatest}
-use Rattle.recovery.specs.Kept.{lasts, AreApart, IsOrderly}
+use Rattle.log_model.specs.Recovered.{IsGreatest, IsWhollyFlushed, Puts}
+use Rattle.recovery.specs.Kept.{Kept, lasts, AreApart, IsOrderly}
 use Rattle.seq_accounting.specs.Accounts.{ClosedFile}
 use Rattle.log_trucks.specs.Held.{Held, AreHeld}
 use Rattle.log_ledger.specs.History.{History, ClosedLog}
@@ -26,11 +29,11 @@ AreCounted b (c ∷ cs) [] = ⊥
 AreCounted b (c ∷ cs) (l ∷ ls) = IsCountedLog b c l × AreCounted b cs ls
 
 -- a chain of trucks keeps exactly the region's entries that aren't flushed
-pub record CarriesUnflushed (h : History) (r : ℕ) (chain : List Held) : Type 0 where
+pub record CarriesUnflushed (k : Kept) (r : ℕ) (chain : List Held) : Type 0 where
   pub entries : List Entry
   pub held : AreHeld chain entries
   pub apart : AreApart entries
-  pub each : (e : Entry) → Contains entries e ↔ (Contains (h.kept.durable ++ h.kept.staged) e × (e.region ≡ r) × (h.kept.flushed r < e.number))
+  pub each : (e : Entry) → Contains entries e ↔ (Contains (k.durable ++ k.staged) e × (e.region ≡ r) × (k.flushed r < e.number))
 
 -- the numbers are those of this history
 pub record IsCounted (b : Books) (h : History) : Type 0 where
@@ -43,5 +46,17 @@ pub record IsCounted (b : Books) (h : History) : Type 0 where
   pub ours : (e : Entry) → Contains (h.current ++ h.kept.staged) e ⊎ Contains h.kept.durable e → IsServed b e.region
   pub current : (r : ℕ) → IsHighest r (h.current ++ h.kept.staged) (get_or b.accounts.current r 0)
   pub logs : AreCounted b b.accounts.closed h.logs
-  pub chains : (r : ℕ) → IsServed b r → CarriesUnflushed h r (get_or b.chains r [])
+  pub chains : (r : ℕ) → IsServed b r → CarriesUnflushed h.kept r (get_or b.chains r [])
   pub orderly : IsOrderly h.kept
+
+-- a closed log of this number has only flushed entries
+abbrev pub MayGo : History → ℕ → Type 0
+MayGo h file = (c : ClosedLog) × Contains h.logs c × (c.number ≡ file) × IsWhollyFlushed h.kept.flushed c.entries
+
+-- each closed log has an entry that isn't flushed
+abbrev pub NoneMayGo : History → Type 0
+NoneMayGo h = (c : ClosedLog) → Contains h.logs c → IsWhollyFlushed h.kept.flushed c.entries → ⊥
+
+-- cells put exactly what the region's unflushed entries put up to a sequence id
+abbrev pub PutsCut : Kept → ℕ → ℕ → List NumberedCell → Type 0
+PutsCut k r n cells = (v : VersionKey) (p : Payload) → (get (put_numbered empty cells) v ≡ Some p) ↔ ((e : Entry) × Contains k.durable e × (e.region ≡ r) × (k.flushed r < e.number) × (e.number ≤ n) × Puts e v p)

@@ -1,6 +1,6 @@
 //! The numbers that regions begin with.
 
-ghost use Rattle.std.specs.Prelude.{◌≡◌, map, IfOk};
+ghost use Rattle.std.specs.Prelude.{◌≡◌, length, map, IfOk};
 ghost use Rattle.log_ledger.specs.Bases.{AreRegions, AreNumbersOf, mark_of};
 
 use kv_cell::NoMemory;
@@ -35,7 +35,8 @@ pub(crate) fn marks_of(alloc: Global, regions: &[RegionBase]) -> Result<Vec<Regi
 /// What is flushed of each region.
 pub(crate) fn flushed_of(regions: &[RegionBase]) -> [u64; REGIONS]
     requires { AreRegions regions.now }
-    ensures { AreNumbersOf (λ m. m.flushed) regions.now result }
+    ensures numbers { AreNumbersOf (λ m. m.flushed) regions.now result }
+    ensures wide { length result ≡ REGIONS }
 {
     let mut flushed = [0; REGIONS];
     for base in regions {
@@ -47,7 +48,8 @@ pub(crate) fn flushed_of(regions: &[RegionBase]) -> [u64; REGIONS]
 /// The number of each region's next store file.
 pub(crate) fn next_stores_of(regions: &[RegionBase]) -> [u64; REGIONS]
     requires { AreRegions regions.now }
-    ensures { AreNumbersOf (λ m. m.next_store) regions.now result }
+    ensures numbers { AreNumbersOf (λ m. m.next_store) regions.now result }
+    ensures wide { length result ≡ REGIONS }
 {
     let mut next = [0; REGIONS];
     for base in regions {

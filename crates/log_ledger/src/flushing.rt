@@ -1,16 +1,12 @@
 //! What is flushed of each region.
 
-ghost use Rattle.std.specs.Prelude.{◌≡◌, ◌↔◌, ◌+◌, ◌<◌, ◌≤◌, ◌++◌, [], false, Contains, Some, IfOk, IsTrue, get_or, slice_set};
+ghost use Rattle.std.specs.Prelude.{◌≡◌, ◌↔◌, ◌+◌, ◌<◌, ◌≤◌, ◌++◌, [], false, Contains, IfOk, IsTrue, get_or, slice_set};
 ghost use Rattle.std.specs.List.{AllByRecursion};
-ghost use Rattle.std.specs.FinMap.{get, empty};
-ghost use Rattle.cell_model.specs.Order.{VersionKey, Payload};
-ghost use Rattle.cell_model.specs.Merge.{put_numbered};
 ghost use Rattle.log_model.specs.Entry.{Entry};
-ghost use Rattle.log_model.specs.Recovered.{Puts};
 ghost use Rattle.seq_accounting.specs.Accounts.{SameFiles};
 ghost use Rattle.log_ledger.specs.History.{History, flushed_in};
 ghost use Rattle.log_ledger.specs.Books.{IsServed};
-ghost use Rattle.log_ledger.specs.Counted.{IsCounted};
+ghost use Rattle.log_ledger.specs.Counted.{IsCounted, PutsCut};
 
 use crate::ledger::Ledger;
 use kv_cell::{NoMemory, NumberedCells};
@@ -30,7 +26,7 @@ impl Ledger {
     pub fn cells(&self, alloc: Global, region: u32) -> Result<NumberedCells, NoMemory>
         requires { IsServed self.now region }
         ensures within { IfOk result (λ cells. AllByRecursion (λ x. (get_or self.now.accounts.flushed region 0 + 1 ≤ x.0) × (x.0 ≤ get_or self.now.drawn region 0)) cells) }
-        ensures cut { (h : History) → IsCounted self.now h → h.kept.staged ≡ [] → IfOk result (λ cells. (v : VersionKey) (p : Payload) → (get (put_numbered empty cells) v ≡ Some p) ↔ ((e : Entry) × Contains h.kept.durable e × (e.region ≡ region) × (h.kept.flushed region < e.number) × (e.number ≤ get_or self.now.drawn region 0) × Puts e v p)) }
+        ensures cut { (h : History) → IsCounted self.now h → h.kept.staged ≡ [] → IfOk result (PutsCut h.kept region (get_or self.now.drawn region 0)) }
     {
         self.chains.cells(alloc, region)
     }

@@ -7,7 +7,7 @@ ghost use Rattle.recovery.specs.Kept.{HasNoLogs};
 ghost use Rattle.log_ledger.specs.History.{started_in};
 ghost use Rattle.log_ledger.specs.Books.{IsServed};
 ghost use Rattle.log_ledger.specs.Counted.{IsCounted};
-ghost use Rattle.log_ledger.specs.Bases.{RegionBase, AreRegions, IsAmong, AreNumbersOf};
+ghost use Rattle.log_ledger.specs.Bases.{AreRegions, IsAmong, AreNumbersOf};
 
 use crate::base::{RegionBase, flushed_of, marks_of, next_stores_of};
 use kv_cell::NoMemory;

@@ -1,13 +1,14 @@
 //! Log files that are closed, and those that may go.
 
-ghost use Rattle.std.specs.Prelude.{◌≡◌, ◌+◌, ◌<◌, ◌≤◌, [], length, OnOk};
+ghost use Rattle.std.specs.Prelude.{◌≡◌, ◌+◌, ◌<◌, ◌≤◌, [], length, OnOk, IfSome, MatchOption};
 ghost use Rattle.seq_accounting.specs.Accounts.{IsClosed};
 ghost use Rattle.log_ledger.specs.History.{History, closed_in, archived_in};
 ghost use Rattle.log_ledger.specs.Books.{SameRegions};
-ghost use Rattle.log_ledger.specs.Counted.{IsCounted};
+ghost use Rattle.log_ledger.specs.Counted.{IsCounted, MayGo, NoneMayGo};
 
 use crate::ledger::Ledger;
 use kv_cell::NoMemory;
+use log_archive::first_to_go;
 
 impl Ledger {
     /// Makes room for one more closed file.
@@ -44,6 +45,14 @@ impl Ledger {
         ensures closed { self.new ≡ record self.old { closed = self.old.synced } }
     {
         self.closed = self.synced;
+    }
+
+    /// The least closed file whose entries are all flushed.
+    pub fn first_to_go(&self) -> Option<u64>
+        ensures member { IfSome result (λ file. IsClosed self.now.accounts.closed file) }
+        ensures exact { (h : History) → IsCounted self.now h → MatchOption result (NoneMayGo h) (MayGo h) }
+    {
+        first_to_go(&self.accounts)
     }
 
     /// Forgets a closed file that is archived. It takes no memory.

@@ -45,7 +45,7 @@ impl Chains {
         Ok(Chains { chains })
     }
 
-    /// Puts a lone truck in front of its region's chain. It takes no memory, and a time that no chain's length changes.
+    /// Puts a lone truck in front of its region's chain. It takes no memory, and its time doesn't grow with the chain.
     pub fn push(&mut self, truck: Box<Truck>)
         requires region { truck.value.region ≤ 64 }
         requires lone { truck.value.behind ≡ [] }

@@ -8,3 +8,6 @@ mod truck;
 
 pub use chains::Chains;
 pub use truck::Truck;
+
+#[cfg(test)]
+mod tests;

@@ -1,6 +1,7 @@
 //! A truck.
 
 use entry_frame::EntryBytes;
+use std::fmt;
 use std::marker::Model;
 
 /// An entry on its way: its region, its number there, its bytes, and the next truck of a chain. Contracts see region,
@@ -46,5 +47,18 @@ impl Drop for Truck {
                 None => return,
             }
         }
+    }
+}
+
+/// Region, number and length, and nothing of what stands behind it.
+impl fmt::Debug for Truck {
+    fn fmt<W: fmt::Write>(&self, f: &mut fmt::Formatter<W>) -> fmt::Result {
+        let region = self.region;
+        let number = self.number;
+        let bytes = self.bytes.len();
+        write!(
+            f,
+            "a truck of region {region}, number {number}, {bytes} bytes"
+        )
     }
 }

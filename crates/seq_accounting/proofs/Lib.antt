@@ -1,0 +1,4 @@
+pub mod OrderLaws
+pub mod NotedLaws
+pub mod FileLaws
+pub mod MarkLaws

@@ -1,7 +1,11 @@
 -- What the accounting has of each region and of each closed file. Numbers are by region, read by `get_or numbers region 0`.
-use Rattle.std.specs.Prelude.{◌≡◌, ◌≢◌, ℕ, ◌<◌, ◌≤◌, List, get_or, Bool, not, ◌==◌, filter, Contains}
+use Rattle.std.specs.Prelude.{◌≡◌, ◌≢◌, ℕ, ◌<◌, ◌≤◌, List, get_or, not, ◌==◌, filter, Contains}
 use Rattle.seq_accounting.specs.declared.region.RegionMark.{RegionMark}
-pub use Rattle.seq_accounting.specs.declared.closed.ClosedFile.{ClosedFile}
+
+-- a closed file, with the highest number of each region in it, 0 where there is none
+pub record ClosedFile : Type 0 where
+  pub file : ℕ
+  pub highest : List ℕ
 
 pub record Accounts : Type 0 where
   -- what is flushed of each region, and the highest number noted, or flushed at the start

@@ -1,7 +1,6 @@
 -- What always holds of the numbers that the accounting keeps.
 use Rattle.std.specs.Prelude.{◌≡◌, ℕ, ◌<◌, ◌≤◌, List, length, get_or, AllPairs, Contains}
-use Rattle.seq_accounting.specs.declared.closed.ClosedFile.{ClosedFile}
-use Rattle.seq_accounting.specs.Accounts.{Accounts, IsBefore}
+use Rattle.seq_accounting.specs.Accounts.{ClosedFile, Accounts, IsBefore}
 
 -- the numbers of one region
 pub record AreOfRegion (flushed noted flushing oldest since current : ℕ) : Type 0 where

@@ -1,6 +1,6 @@
 -- Places in a list of closed files.
 use Rattle.std.specs.Prelude.{◌≡◌, ℕ, ◌<◌, ◌≤◌, List, length, slice_index_or}
-use Rattle.seq_accounting.specs.declared.closed.ClosedFile.{ClosedFile}
+use Rattle.seq_accounting.specs.Accounts.{ClosedFile}
 
 -- the file of this number stands here
 pub record IsPlaceOf (closed : List ClosedFile) (file place : ℕ) : Type 0 where

@@ -1,12 +1,13 @@
 //! The accounting of regions and files.
 
-ghost use Rattle.std.specs.Prelude.{◌≡◌, ℕ, ◌+◌, ◌-◌, ◌<◌, ◌≤◌, ◌↔◌, List, [], ◌∷◌, ◌++◌, replicate, slice_set, get_or, All, AllPairs, Contains, IsTrue, IsNone, IfOk, OnOk, MatchOption};
+ghost use Rattle.std.specs.Prelude.{◌≡◌, ℕ, ◌+◌, ◌-◌, ◌<◌, ◌≤◌, ◌↔◌, List, [], ◌∷◌, ◌++◌, length, replicate, slice_set, get_or, All, AllPairs, Contains, IsTrue, IsNone, IfOk, OnOk, OnErr, MatchOption};
 ghost use Rattle.seq_accounting.specs.Accounts.{ClosedFile, AreLower, IsClosed, without, NoneClosedAbove, IsNextClosed, AreApart, AreFlushed, SameNumbers, SameFiles};
 ghost use Rattle.seq_accounting.specs.Noted.{Note, NoneAbove, IsLeastAbove, HasNoted};
 
-use crate::closed::{ClosedFile, are_lower, place_above, place_of};
+use crate::closed::{FileMark, place_above, place_of};
 use crate::error::NoMemory;
 use crate::flushing::Flushing;
+use crate::numbers::{NOTHING, first_of, first_since, flushed_by};
 use crate::region::{REGIONS, RegionMark};
 use std::alloc::Global;
 use std::marker::Model;
@@ -23,7 +24,7 @@ pub struct Accounting {
     oldest: [u64; REGIONS],
     since: [u64; REGIONS],
     current: [u64; REGIONS],
-    closed: Vec<ClosedFile>,
+    closed: Vec<FileMark>,
     last: u64,
 }
 
@@ -44,6 +45,7 @@ impl Accounting {
     pub fn new(alloc: Global, regions: &[RegionMark]) -> Result<Accounting, NoMemory>
         requires within { All (λ m. m.region ≤ 64) regions.now }
         requires apart { AllPairs AreApart regions.now }
+        ensures wide { IfOk result (λ a. length a.flushed ≡ REGIONS) }
         ensures flushed { IfOk result (λ a. AreFlushed regions.now a.flushed) }
         ensures noted { IfOk result (λ a. a.noted ≡ a.flushed) }
         ensures flushing { IfOk result (λ a. a.flushing ≡ replicate REGIONS 0) }
@@ -59,10 +61,10 @@ impl Accounting {
         Ok(Accounting {
             flushed,
             noted: flushed,
-            flushing: [0; REGIONS],
-            oldest: [0; REGIONS],
-            since: [0; REGIONS],
-            current: [0; REGIONS],
+            flushing: NOTHING,
+            oldest: NOTHING,
+            since: NOTHING,
+            current: NOTHING,
             closed,
             last: 0,
         })
@@ -80,17 +82,16 @@ impl Accounting {
         ensures history { (notes : List Note) → HasNoted self.old notes → HasNoted self.new (notes ++ record { region = region; number = number } ∷ []) }
     {
         let place = region as usize;
-        if self.flushing[place] != 0 {
-            self.since[place] = first_of(self.since[place], number);
-        }
+        self.since[place] = first_since(self.flushing[place], self.since[place], number);
         self.oldest[place] = first_of(self.oldest[place], number);
         self.noted[place] = number;
         self.current[place] = number;
     }
 
-    /// Makes room for one more closed file.
+    /// Makes room for one more closed file. Where it is refused, there was none.
     pub fn reserve_file(&mut self) -> Result<(), NoMemory>
         ensures ok { OnOk result (1 ≤ self.new.room) }
+        ensures err { OnErr result (self.old.room ≡ 0) }
         ensures same { self.new ≡ record self.old { room = self.new.room } }
         ensures room { self.old.room ≤ self.new.room }
         ensures history { (notes : List Note) → HasNoted self.old notes → HasNoted self.new notes }
@@ -110,9 +111,8 @@ impl Accounting {
         ensures numbers { SameNumbers self.old self.new }
         ensures history { (notes : List Note) → HasNoted self.old notes → HasNoted self.new notes }
     {
-        let highest = self.current;
-        self.closed.push_reserved(ClosedFile { file, highest });
-        self.current = [0; REGIONS];
+        self.closed.push_reserved(FileMark::new(file, self.current));
+        self.current = NOTHING;
         self.last = file;
     }
 
@@ -203,7 +203,7 @@ impl Accounting {
         ensures { (c : ClosedFile) → Contains self.now.closed c → c.file ≡ file → IsTrue result ↔ AreLower c.highest self.now.flushed }
     {
         let place = place_of(&self.closed, file);
-        are_lower(&self.closed[place].highest, &self.flushed)
+        self.closed[place].is_lower(&self.flushed)
     }
 
     /// Forgets a closed file. It takes no memory.
@@ -216,37 +216,17 @@ impl Accounting {
         ensures numbers { SameNumbers self.old self.new }
         ensures history { (notes : List Note) → HasNoted self.old notes → HasNoted self.new notes }
     {
-        self.closed.retain(|c| c.file != file);
+        self.closed.retain(|c| c.file() != file);
     }
 
-    /// The least closed file above this number, by a binary search.
+    /// The least closed file above this number, by a binary search. Files are numbered from 1, so 0 begins.
     pub fn next_closed(&self, after: u64) -> Option<u64>
-        ensures { MatchOption result (NoneClosedAbove self.now.closed after) (λ file. IsNextClosed self.now.closed after file) }
+        ensures given { (c : ClosedFile) → Contains self.now.closed c → 1 ≤ c.file }
+        ensures next { MatchOption result (NoneClosedAbove self.now.closed after) (λ file. IsNextClosed self.now.closed after file) }
     {
         match self.closed.get(place_above(&self.closed, after)) {
-            Some(next) => Some(next.file),
+            Some(next) => Some(next.file()),
             None => None,
         }
     }
-}
-
-// what the marks say is flushed of each region
-fn flushed_by(regions: &[RegionMark]) -> [u64; REGIONS]
-    requires within { All (λ m. m.region ≤ 64) regions.now }
-    requires apart { AllPairs AreApart regions.now }
-    ensures { AreFlushed regions.now result }
-{
-    let mut flushed = [0; REGIONS];
-    for mark in regions {
-        flushed[mark.region as usize] = mark.flushed;
-    }
-    flushed
-}
-
-// the first number, or the new one where there was none
-fn first_of(first: u64, number: u64) -> u64
-    ensures none { first ≡ 0 → result ≡ number }
-    ensures some { 0 < first → result ≡ first }
-{
-    if first == 0 { number } else { first }
 }

@@ -42,6 +42,7 @@ impl Flushing {
         (region, number)
     }
 
+    /// The region that is flushed.
     pub fn region(&self) -> u32
         ensures region { result ≡ self.now.region }
         ensures within { result ≤ 64 }

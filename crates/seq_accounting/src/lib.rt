@@ -6,6 +6,7 @@ mod accounting;
 mod closed;
 mod error;
 mod flushing;
+mod numbers;
 mod region;
 
 pub use accounting::Accounting;

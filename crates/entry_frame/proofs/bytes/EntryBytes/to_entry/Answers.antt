@@ -6,16 +6,14 @@ use Rattle.entry_frame.specs.Spelling.{IsSpelling}
 use Rattle.entry_frame.proofs.SpellingLaws.{spelling_bounds, body_behind}
 use Rattle.entry_frame.proofs.bytes.EntryBytes.to_entry.Goals as goal
 
-behind_length : (items bytes : List ℕ) → IsSpelling items → bytes ≡ items → 5 ≤ length bytes
-behind_length items bytes h same = let bounds = spelling_bounds items h in omega (arith, bounds.least, ap length same)
+least : (items bytes : List ℕ) → IsSpelling items → bytes ≡ items → 29 ≤ length bytes
+least items bytes h same = omega (arith, (spelling_bounds items h).least, ap length same)
 
 pub slice_bounds-entry_in-count : goal.slice_bounds-entry_in-count
-slice_bounds-entry_in-count c = behind_length c.self.inside.bytes.items c.deref.result.now c.self.invariant c.deref.ensures.value
+slice_bounds-entry_in-count c = omega (arith, least c.self.inside.bytes.items c.deref.result.now c.self.invariant c.deref.ensures.value)
 
 pub slice_bounds-entry_in-start : goal.slice_bounds-entry_in-start
-slice_bounds-entry_in-start c =
-    let le : 5 ≤ length c.deref.result.now = behind_length c.self.inside.bytes.items c.deref.result.now c.self.invariant c.deref.ensures.value in
-    search rules
+slice_bounds-entry_in-start c = search (rules, least c.self.inside.bytes.items c.deref.result.now c.self.invariant c.deref.ensures.value)
 
 pub unreachable-requires : goal.unreachable-requires
 unreachable-requires c = ∥∥₁_elim c.self.invariant (λ a b. absurd a) (λ x. c.in-None.ensures x.0 x.1 (body_behind c.deref.result.now x.0 (c.deref.ensures.value ∙ x.2)))

@@ -1,0 +1,18 @@
+-- The first closed file that is wholly flushed.
+use Rattle.std.specs.Prelude.{◌≡◌, ℕ, ◌≤◌, Contains}
+use Rattle.seq_accounting.specs.Accounts.{Accounts, ClosedFile, AreLower}
+
+-- all that the file has is flushed
+abbrev pub IsFlushedFile : Accounts → ClosedFile → Type 0
+IsFlushedFile a c = AreLower c.highest a.flushed
+
+abbrev pub NoneToGo : Accounts → Type 0
+NoneToGo a = (c : ClosedFile) → Contains a.closed c → IsFlushedFile a c → ⊥
+
+-- the least closed file of which all is flushed
+pub record IsFirstToGo (a : Accounts) (file : ℕ) : Type 0 where
+  pub which : ClosedFile
+  pub there : Contains a.closed which
+  pub named : which.file ≡ file
+  pub lower : IsFlushedFile a which
+  pub least : (c : ClosedFile) → Contains a.closed c → IsFlushedFile a c → file ≤ c.file
