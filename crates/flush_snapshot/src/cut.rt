@@ -34,7 +34,7 @@ pub fn write_cut<D: Disk>(
     requires within { IsWithin from to cut }
 
     ensures stored { IsTrue D.told → OnOk result (IsDurableFile (D.view disk.new) name (store_text (cut_store name from to cut))) }
-    ensures store { IsStore (cut_store name from to cut) }
+    ensures store { ¬ IsErrOf result FileRefusal.Memory → IsStore (cut_store name from to cut) }
     ensures count { IfOk result (λ n. n ≡ length (ordered_cells cut)) }
 
     // At each moment each image of the file isn't there, or is the whole store.

@@ -6,5 +6,7 @@
 
 mod cut;
 mod filling;
+mod laws;
 
 pub use cut::write_cut;
+pub use laws::cut_holds_its_content;

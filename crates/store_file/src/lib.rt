@@ -12,3 +12,6 @@ mod file;
 
 pub use file::StoreFile;
 pub use log_file::{DiskFault, FileRefusal, ReadRefusal};
+
+#[cfg(test)]
+mod writing_tests;

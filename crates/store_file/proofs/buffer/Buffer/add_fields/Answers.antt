@@ -1,5 +1,5 @@
 use Rattle.std.proofs.Common.{◌∷◌, [], List, ℕ, ◌++◌, ap, ◌∙◌}
-use Rattle.store_file.proofs.Filling.{appended_fields}
+use Rattle.store_file.proofs.Writing.{appended_fields}
 use Rattle.store_file.proofs.buffer.Buffer.add_fields.Goals as goal
 
 pub returns-clause-bytes : goal.returns-clause-bytes

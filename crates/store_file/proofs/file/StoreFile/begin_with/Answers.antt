@@ -1,7 +1,7 @@
 use Rattle.std.proofs.Common.{refl, ◌∙◌, ap, List, ℕ, ◌++◌, arith, length}
 use Rattle.store_file.specs.Open.{OpenStore, fields_text}
 use Rattle.store_file.proofs.Stores.{begin_moments}
-use Rattle.store_file.proofs.Filling.{begun_filling}
+use Rattle.store_file.proofs.Writing.{begun_filling}
 use Rattle.store_file.proofs.file.StoreFile.begin_with.Goals as goal
 
 pub returns-in_err-create_durably-clause-any_moment : goal.returns-in_err-create_durably-clause-any_moment

@@ -2,7 +2,7 @@ use Rattle.std.proofs.Common.{◌≡◌, ap, ◌∙◌}
 use Rattle.std.proofs.Math.Logic.{∥∥₁_map}
 use Rattle.log_model.specs.StoreText.{store_text}
 use Rattle.store_file.specs.Open.{OpenStore, store_of}
-use Rattle.store_file.proofs.Filling.{IsAlike, written_file, stored_whole, moments_whole, moments_none}
+use Rattle.store_file.proofs.Writing.{IsAlike, written_file, stored_whole, moments_whole, moments_none}
 use Rattle.store_file.proofs.file.StoreFile.commit.Goals as goal
 
 pub returns-in_err-write_out-clause-any_moment : goal.returns-in_err-write_out-clause-any_moment

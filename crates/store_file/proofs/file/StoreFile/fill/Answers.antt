@@ -1,6 +1,6 @@
 use Rattle.std.proofs.Common.{◌+◌, refl, sym, subst}
 use Rattle.store_file.specs.Open.{OpenStore, IsFilling}
-use Rattle.store_file.proofs.Filling.{put_filling}
+use Rattle.store_file.proofs.Writing.{put_filling}
 use Rattle.store_file.proofs.file.StoreFile.fill.Goals as goal
 
 pub returns-clause-filled : goal.returns-clause-filled

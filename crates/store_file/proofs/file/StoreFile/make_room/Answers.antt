@@ -1,4 +1,4 @@
-use Rattle.store_file.proofs.Filling.{still_shut}
+use Rattle.store_file.proofs.Writing.{still_shut}
 use Rattle.store_file.proofs.file.StoreFile.make_room.Goals as goal
 
 pub returns-then-has_room-clause-any_moment : goal.returns-then-has_room-clause-any_moment

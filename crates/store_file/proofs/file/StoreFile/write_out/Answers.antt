@@ -1,7 +1,7 @@
 use Rattle.std.proofs.Common.{[], ◌∷◌, ◌+◌, length, refl, sym, subst}
 use Rattle.std.proofs.Math.Logic.{∥∥₁_map}
 use Rattle.store_file.specs.Open.{OpenStore, IsFilling}
-use Rattle.store_file.proofs.Filling.{still_shut, written_filling, ShutMoments, write_moments}
+use Rattle.store_file.proofs.Writing.{still_shut, written_filling, ShutMoments, write_moments}
 use Rattle.store_file.proofs.file.StoreFile.write_out.Goals as goal
 
 pub returns-then-is_empty-clause-any_moment : goal.returns-then-is_empty-clause-any_moment

@@ -103,7 +103,7 @@ whole_text : (o : OpenStore) (v : DiskView) (cells : List NumberedCell) → leng
 whole_text o v cells count none was =
     ap (λ (l : List ℕ). 165 ∷ l) (sym (append-nil was.written) ∙ ap (λ (l : List ℕ). was.written ++ l) (sym none) ∙ was.text ∙ ap (λ (n : ℕ). fields_text o.name.region o.from o.to n ++ pairs_text cells) (sym count)) ∙ sym (text_of o cells)
 
-same_store : (o now : OpenStore) (cells : List NumberedCell) → IsAlike o now → store_of now cells ≡ store_of o cells
+pub same_store : (o now : OpenStore) (cells : List NumberedCell) → IsAlike o now → store_of now cells ≡ store_of o cells
 same_store o now cells same =
     let store : ℕ → ℕ → ℕ → Store = λ region from to. record { region = region; from = from; to = to; cells = cells } in
     ap (λ (n : Name). store n.region now.from now.to) same.name ∙ ap (λ (n : ℕ). store o.name.region n now.to) same.from ∙ ap (λ (n : ℕ). store o.name.region o.from n) same.to
