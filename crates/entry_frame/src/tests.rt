@@ -41,12 +41,13 @@ fn an_entry_is_read_back_from_its_bytes(rt: HostRuntime) -> Result<(), Fail> {
     assert_eq!(rt; entry.time, 1000);
     let cells = entry.batch.as_slice();
     assert_eq!(rt; cells.len(), 1);
-    assert_eq!(rt; cells[0].row.as_slice(), b"r".as_slice());
-    assert_eq!(rt; cells[0].family.as_slice(), b"f".as_slice());
-    assert_eq!(rt; cells[0].qualifier.as_slice(), b"q".as_slice());
-    assert_eq!(rt; cells[0].ts, 1);
-    assert_eq!(rt; cells[0].kind.code(), 4);
-    assert_eq!(rt; cells[0].value.as_slice(), b"v".as_slice());
+    let cell = &cells[0];
+    assert_eq!(rt; cell.row.as_slice(), b"r".as_slice());
+    assert_eq!(rt; cell.family.as_slice(), b"f".as_slice());
+    assert_eq!(rt; cell.qualifier.as_slice(), b"q".as_slice());
+    assert_eq!(rt; cell.ts, 1);
+    assert_eq!(rt; cell.kind.code(), 4);
+    assert_eq!(rt; cell.value.as_slice(), b"v".as_slice());
     Ok(())
 }
 
