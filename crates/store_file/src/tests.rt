@@ -1,0 +1,1 @@
+//! Store files on a disk that holds one file and tells nothing of it.
