@@ -1,16 +1,24 @@
 -- The parts of a store file's text, as they are read.
-use Rattle.std.specs.Prelude.{◌≡◌, ℕ, ◌+◌, ◌<◌, ◌≤◌, List, [], ◌∷◌, ◌++◌, length, drop}
+use Rattle.std.specs.Prelude.{◌≡◌, ℕ, ◌<◌, ◌≤◌, ◌^◌, List, [], ◌∷◌, ◌++◌, length, drop}
 use Rattle.byteorder.specs.Endian.{big_bytes}
 use Rattle.cell_model.specs.Cell.{IsCell, spelling, number_at}
 use Rattle.cell_model.specs.Order.{NumberedCell}
 use Rattle.log_model.specs.StoreText.{StandsCells, pairs_text}
 
--- the numbers of the fields behind the region
+-- the word behind the gate is `HWS1`, and the region is this one
+pub record IsHead (region : ℕ) (bytes : List ℕ) : Type 0 where
+  pub word : number_at 1 4 bytes ≡ 0x48575331
+  pub region_is : number_at 5 4 bytes ≡ region
+
+-- the numbers of the fields behind the region, which are right
 pub record AreFields (bytes : List ℕ) (from to count : ℕ) : Type 0 where
   pub whole : 33 ≤ length bytes
   pub from_is : from ≡ number_at 9 8 bytes
   pub to_is : to ≡ number_at 17 8 bytes
   pub count_is : count ≡ number_at 25 8 bytes
+  pub given : 1 ≤ from
+  pub order : from ≤ to
+  pub limit : to < 2 ^ 48
 
 -- bytes begin with a sequence id between the two and a cell, and these follow
 pub record FrontsPair (from to : ℕ) (bytes : List ℕ) (x : NumberedCell) (rest : List ℕ) : Type 0 where

@@ -5,7 +5,7 @@ ghost use Rattle.cell_model.specs.Order.{NumberedCell};
 ghost use Rattle.cell_model.specs.Merge.{IsRising};
 ghost use Rattle.log_model.specs.StoreText.{IsThere, IsStoreText, field_fault, IsStoreDamaged};
 ghost use Rattle.log_file.specs.Refusal.{IfDamaged};
-ghost use Rattle.store_file.specs.Reading.{AreFields, FrontsPair, StandsUpTo, NoneIsNext, LacksPair};
+ghost use Rattle.store_file.specs.Reading.{IsHead, AreFields, FrontsPair, StandsUpTo, NoneIsNext, LacksPair};
 
 use crate::list::StoreText;
 use kv_cell::{Cell, CellRef, NoMemory, NumberedCells, compare_numbered, decode, u32_at, u64_at};
@@ -70,10 +70,10 @@ fn is_there(bytes: &[u8]) -> bool
 }
 
 /// The fields, or the offset of the first that is wrong or not whole.
-#[tactic(auto, using(std::proofs::lemmas::Bool::Decides::nat_tests), unfolding(log_model::specs::StoreText::field_fault))]
+#[tactic(auto, using(std::proofs::lemmas::Bool::Decides::nat_tests, crate::proofs::Fields::field_fault_is))]
 fn read_fields(region: u32, bytes: &[u8]) -> Result<Fields, u64>
     ensures { MatchResult result
-        (λ f. (field_fault region bytes.now ≡ None) × AreFields bytes.now f.from f.to f.count)
+        (λ f. (field_fault region bytes.now ≡ None) × IsHead region bytes.now × AreFields bytes.now f.from f.to f.count)
         (λ at. field_fault region bytes.now ≡ Some at) }
 {
     let n = bytes.len();
