@@ -1,6 +1,7 @@
 -- The table of a store's fields, over plain numbers.
-use Rattle.std.specs.Prelude.{◌≡◌, ℕ, ◌-◌, ◌^◌, not, ◌&&◌, ◌||◌, ◌==◌, nat_lt, nat_le, List, [], ◌∷◌, length, Option}
-use Rattle.std.proofs.Common.{refl, ap}
+use Rattle.std.specs.Prelude.{◌≡◌, ℕ, ◌-◌, ◌<◌, ◌≤◌, ◌^◌, not, ◌&&◌, ◌||◌, ◌==◌, nat_lt, nat_le, List, [], ◌∷◌, length, Option, None}
+use Rattle.std.proofs.Common.{refl, ap, arith}
+use Rattle.std.proofs.lemmas.Bool.Decides.{nat_tests}
 use Rattle.cell_model.specs.Cell.{number_at, first_fault}
 use Rattle.log_model.specs.StoreText.{field_fault}
 
@@ -30,3 +31,6 @@ field_fault_is r bytes = ap
       ∷ (nat_lt (length bytes) 33, 25)
       ∷ []
     )) magic
+
+pub no_fault : (n word region r from to : ℕ) → word ≡ 1213682481 → region ≡ r → 1 ≤ from → from ≤ to → to < 2 ^ 48 → 33 ≤ n → fault_of n word region r from to ≡ None
+no_fault n word region r from to w g f o l whole = grind (arith, nat_tests)

@@ -58,3 +58,11 @@ behind_last b o cells xs l y told compared is rising =
       λ t. subst (λ (zs : List NumberedCell). IsRising (zs ++ y ∷ [])) (sym is) (rising_more xs l y (sym compared ∙ tells.0 t) (subst IsRising is rising)),
       λ h. tells.1 (compared ∙ last_less xs l y (subst (λ (zs : List NumberedCell). IsRising (zs ++ y ∷ [])) is h)),
     )
+
+below_front : (k : VersionKey) (xs ys : List NumberedCell) → T (below k (xs ++ ys)) → T (below k xs)
+below_front k [] ys h = tt
+below_front k (x ∷ xs) ys h = both _ _ (first _ _ h) (below_front k xs ys (second _ _ h))
+
+pub rising_front : (xs ys : List NumberedCell) → IsRising (xs ++ ys) → IsRising xs
+rising_front [] ys h = tt
+rising_front (x ∷ xs) ys h = both _ _ (below_front (version_of x) xs ys (first _ _ h)) (rising_front xs ys (second _ _ h))

@@ -1,13 +1,13 @@
 -- What stands behind an open gate is a store's text, or is damaged.
-use Rattle.std.specs.Prelude.{◌≡◌, ℕ, ◌+◌, ◌<◌, ◌≤◌, ◌^◌, List, [], ◌∷◌, ◌++◌, length, take, drop, Option, Some, None, Result, Ok, Err}
-use Rattle.std.proofs.Common.{refl, sym, ap, ◌∙◌, subst, arith}
+use Rattle.std.specs.Prelude.{◌≡◌, ℕ, ◌<◌, ◌≤◌, ◌^◌, List, [], ◌∷◌, ◌++◌, length, drop, None, Err}
+use Rattle.std.proofs.Common.{refl, sym, ap, ◌∙◌, arith}
 use Rattle.std.proofs.lemmas.List.{append-nil, take-append-drop, length-drop, drop_all}
 use Rattle.std.specs.List.{AllByRecursion}
 use Rattle.byteorder.specs.Endian.{big_bytes}
 use Rattle.cell_model.specs.Cell.{IsCell, number_at}
 use Rattle.cell_model.specs.Order.{NumberedCell}
 use Rattle.cell_model.proofs.CellLaws.{IsBytes, number_part_4, number_part_8}
-use Rattle.log_model.specs.StoreText.{Store, IsStoredCell, IsStore, IsThere, IsStoreText, store_text, pairs_text, field_fault, IsStoreDamaged}
+use Rattle.log_model.specs.StoreText.{IsStoredCell, IsThere, IsStoreText, store_text, pairs_text, field_fault, IsStoreDamaged}
 use Rattle.log_model.specs.StoreText.IsStoreDamaged.{Pair, Behind}
 use Rattle.log_file.specs.declared.error.ReadRefusal.{ReadRefusal}
 use Rattle.log_file.specs.declared.error.ReadRefusal.TheVariants as refusals

@@ -3,7 +3,7 @@ use Rattle.std.specs.Prelude.{◌≡◌, ℕ, ◌<◌, ◌≤◌, ◌^◌, List,
 use Rattle.byteorder.specs.Endian.{big_bytes}
 use Rattle.cell_model.specs.Cell.{IsCell, spelling, number_at}
 use Rattle.cell_model.specs.Order.{NumberedCell}
-use Rattle.log_model.specs.StoreText.{StandsCells, pairs_text}
+use Rattle.log_model.specs.StoreText.{StandsCells}
 
 -- the word behind the gate is `HWS1`, and the region is this one
 pub record IsHead (region : ℕ) (bytes : List ℕ) : Type 0 where
