@@ -1,1 +1,3 @@
-//! Store files on a disk that holds one file and tells nothing of it.
+//! Worked store files.
+
+mod reading;
