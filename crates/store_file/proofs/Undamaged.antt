@@ -60,7 +60,7 @@ same_pair : (x y : NumberedCell) (a b : List ℕ) → IsOne x → IsOne y → (b
 same_pair x y a b hx hy e =
     let same : big_bytes 8 x.0 ++ (spelling x.1 ++ a) ≡ big_bytes 8 y.0 ++ (spelling y.1 ++ b) = sym (append_assoc (big_bytes 8 x.0) (spelling x.1) a) ∙ e ∙ append_assoc (big_bytes 8 y.0) (spelling y.1) b in
     let number : x.0 ≡ y.0 = sym (number_is 8 0 x.0 (big_bytes 8 x.0 ++ (spelling x.1 ++ a)) (spelling x.1 ++ a) refl (omega (arith, hx.1)))
-        ∙ number_is 8 0 y.0 (big_bytes 8 x.0 ++ (spelling x.1 ++ a)) (spelling y.1 ++ b) same (omega (arith, hy.1)) in
+    ∙ number_is 8 0 y.0 (big_bytes 8 x.0 ++ (spelling x.1 ++ a)) (spelling y.1 ++ b) same (omega (arith, hy.1)) in
     let rest : spelling x.1 ++ a ≡ spelling y.1 ++ b = ap (drop 8) same in
     let cell = same_rest x.1 y.1 a b hx.0 hy.0 rest in
     ((λ i. (number i, cell.0 i)), cell.1)

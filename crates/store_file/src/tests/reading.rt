@@ -157,6 +157,11 @@ fn changed(alloc: Global, changes: &[(usize, u8)]) -> Result<Vec<u8>, AllocError
     Ok(bytes)
 }
 
+/// At most so many of these bytes.
+fn front(bytes: &[u8], len: usize) -> &[u8] {
+    &bytes[..len.min(bytes.len())]
+}
+
 #[test]
 fn two_cells_are_read(rt: HostRuntime) -> Result<(), Fail> {
     let alloc = rt.alloc();
@@ -173,13 +178,15 @@ fn two_cells_are_read(rt: HostRuntime) -> Result<(), Fail> {
 fn store_without_cells_is_read(rt: HostRuntime) -> Result<(), Fail> {
     let alloc = rt.alloc();
     let bytes = changed(alloc, &[(32, 0)])?;
-    let text = read(alloc, &bytes[..33])?.ok_or("there")?;
+    let text = read(alloc, front(&bytes, 33))?.ok_or("there")?;
     assert_eq!(rt; (text.from, text.to, text.cells.len()), (1, 2, 0));
     Ok(())
 }
 
 #[test]
-fn versions_of_one_key_stand_with_the_higher_sequence_id_first(rt: HostRuntime) -> Result<(), Fail> {
+fn versions_of_one_key_stand_with_the_higher_sequence_id_first(
+    rt: HostRuntime,
+) -> Result<(), Fail> {
     let alloc = rt.alloc();
     let bytes = changed(alloc, &[(83, b'a')])?;
     let text = read(alloc, &bytes)?.ok_or("there")?;
@@ -192,8 +199,14 @@ fn no_byte_one_byte_and_a_closed_gate_are_not_there(rt: HostRuntime) -> Result<(
     let alloc = rt.alloc();
     assert!(rt; read(alloc, &[])?.is_none(), "no byte");
     assert!(rt; read(alloc, &[0xA5])?.is_none(), "an open gate alone");
-    assert!(rt; read(alloc, &changed(alloc, &[(0, 0)])?)?.is_none(), "a closed gate");
-    assert!(rt; read(alloc, &[0xA4, 0])?.is_none(), "another byte for the gate");
+    assert!(rt;
+        read(alloc, &changed(alloc, &[(0, 0)])?)?.is_none(),
+        "a closed gate"
+    );
+    assert!(rt;
+        read(alloc, &[0xA4, 0])?.is_none(),
+        "another byte for the gate"
+    );
     Ok(())
 }
 
@@ -264,12 +277,11 @@ const CUTS: &[(usize, u64)] = &[
 fn cut_is_told_at_the_field_or_pair_that_is_not_whole(rt: HostRuntime) -> Result<(), Fail> {
     let alloc = rt.alloc();
     for (len, at) in CUTS {
-        let len = (*len).min(97);
-        assert_eq!(rt; damage(alloc, &TWO_CELLS[..len]), Some(*at));
+        assert_eq!(rt; damage(alloc, front(&TWO_CELLS, *len)), Some(*at));
     }
     // Where the last sequence id isn't whole the first can't be above it.
     let bytes = changed(alloc, &[(9, 1)])?;
-    assert_eq!(rt; damage(alloc, &bytes[..24]), Some(17));
+    assert_eq!(rt; damage(alloc, front(&bytes, 24)), Some(17));
     Ok(())
 }
 
@@ -287,7 +299,9 @@ fn five_long_cells(alloc: Global) -> Result<Vec<u8>, AllocError> {
     let mut bytes = Vec::from_slice(alloc, &TWO_CELLS[..32])?;
     bytes.push(5)?;
     for row in b"abcde" {
-        bytes.extend_from_slice(&[0, 0, 0, 0, 0, 0, 0, 1, 0, 0, 0, 0x0F, 0, 1, 0, 0, 0, 1, *row])?;
+        bytes.extend_from_slice(&[
+            0, 0, 0, 0, 0, 0, 0, 1, 0, 0, 0, 0x0F, 0, 1, 0, 0, 0, 1, *row,
+        ])?;
         bytes.extend_from_slice(&TWO_CELLS[52..64])?;
         let len = bytes.len();
         if len < 1_000_000 {

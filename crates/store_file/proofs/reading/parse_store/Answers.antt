@@ -22,6 +22,8 @@ returns-then-end-bytes-clause-damaged c =
 pub returns-clause-text : goal.returns-clause-text
 returns-clause-text c =
     let f = c.in-Ok.fields in
-    let there = c.is_there.ensures.0 c.if-not-is_there.false in
-    (there, text_from c.args.region f.from f.to f.count c.in_ok-cells.end c.args.bytes.now c.in_ok-cells.cells (λ i. omega (arith, c.type_inv.bytes i)) (omega (arith, c.ranges.region.fits)) there
-    c.in-Ok.ensures.1 c.in-Ok.ensures.2 c.in_ok-cells.ensures.cells.0 c.in_ok-cells.ensures.cells.1 c.if-end-bytes.false)
+    let there = c.is_there.ensures.0 c.if-not-is_there.false in (
+      there,
+      text_from c.args.region f.from f.to f.count c.in_ok-cells.end c.args.bytes.now c.in_ok-cells.cells (λ i. omega (arith, c.type_inv.bytes i)) (omega (arith, c.ranges.region.fits)) there
+          c.in-Ok.ensures.1 c.in-Ok.ensures.2 c.in_ok-cells.ensures.cells.0 c.in_ok-cells.ensures.cells.1 c.if-end-bytes.false,
+    )
