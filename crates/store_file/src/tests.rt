@@ -1,0 +1,4 @@
+//! Worked store files.
+
+mod reading;
+mod writing;
