@@ -1,7 +1,8 @@
 pub mod Disk
-pub mod Committing
 pub mod Lists
+pub mod Committing
 pub mod Rolling
 pub mod Archiving
 pub mod Storing
 pub mod Leaving
+pub mod Calls

@@ -1,5 +1,6 @@
 //! What a device answers where it can't do what it was asked.
 
+ghost use Rattle.std.specs.Prelude.{◌≡◌};
 ghost use Rattle.log_device.specs.declared.error.RollRefusal.TheVariants as roll_refusals;
 ghost use Rattle.log_device.specs.declared.error.DeviceFlush.TheVariants as flush_refusals;
 ghost use Rattle.log_device.specs.declared.error.DeviceWhy.TheVariants as whys;

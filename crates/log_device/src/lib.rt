@@ -1,2 +1,11 @@
 //! One log with its numbers on one disk.
 #![tactic(auto)]
+
+mod device;
+mod error;
+mod next;
+mod renaming;
+mod staging;
+
+pub use device::Device;
+pub use error::{DeviceFlush, DeviceRefusal, DeviceWhy, RollRefusal, Rolled, StageFull, WriteFault};
