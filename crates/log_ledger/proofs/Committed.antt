@@ -96,3 +96,18 @@ counted_empty b h counted none empty = record {
   chains = counted.chains;
   orderly = counted.orderly;
 }
+
+-- room says nothing of the history
+pub counted_room : (b : Books) (n : ℕ) (h : History) → IsCounted b h → IsCounted (record b { accounts = record b.accounts { room = n } }) h
+counted_room b n h counted = record {
+  synced = counted.synced;
+  drawn = counted.drawn;
+  flushed = counted.flushed;
+  stored = counted.stored;
+  newer = counted.newer;
+  ours = counted.ours;
+  current = counted.current;
+  logs = counted_logs b (record b { accounts = record b.accounts { room = n } }) b.accounts.closed h.logs (λ r served. served) counted.logs;
+  chains = counted.chains;
+  orderly = counted.orderly;
+}

@@ -9,3 +9,5 @@ mod Committed
 mod Flushed
 mod Cells
 mod Orders
+mod Bases
+mod Begun

@@ -1,14 +1,15 @@
 -- Closed files and the logs that they are.
 use Rattle.std.proofs.Common.{◌≡◌, ◌⊎◌, inl, inr, ℕ, ◌+◌, ◌<◌, ◌≤◌, Bool, true, false, not, ◌==◌, cond, List, [], ◌∷◌, ◌++◌, length, get_or, Contains, refl, sym, ap, ◌∙◌, subst, arith}
-use Rattle.std.specs.Prelude.{filter, AllPairs}
+use Rattle.std.specs.Prelude.{filter, Option, Some, None, MatchOption}
 use Rattle.std.proofs.lemmas.Bool.{cases_eq, eq-eqb, ne_eqb}
 use Rattle.log_model.specs.Entry.{Entry}
 use Rattle.log_model.specs.Recovered.{IsWhollyFlushed}
 use Rattle.seq_accounting.specs.Accounts.{ClosedFile}
 use Rattle.seq_accounting.specs.Accounts.{AreLower, IsBefore, without}
-use Rattle.log_ledger.specs.History.{ClosedLog, is_other}
+use Rattle.log_archive.specs.First.{NoneToGo, IsFirstToGo}
+use Rattle.log_ledger.specs.History.{History, ClosedLog, is_other}
 use Rattle.log_ledger.specs.Books.{Books, IsServed}
-use Rattle.log_ledger.specs.Counted.{IsHighest, IsCountedLog, AreCounted}
+use Rattle.log_ledger.specs.Counted.{IsHighest, IsCountedLog, AreCounted, IsCounted, MayGo, NoneMayGo}
 use Rattle.log_ledger.proofs.Chains.{none_at, at_first, at_later, at_either}
 use Rattle.log_ledger.proofs.Highest.{highest_lower}
 use Rattle.log_ledger.proofs.Sets.{within}
@@ -71,3 +72,12 @@ pub flushed_lower : (b : Books) (c : ClosedFile) (l : ClosedLog) (flushed : ℕ 
     → IsWhollyFlushed flushed l.entries → AreLower c.highest b.accounts.flushed
 flushed_lower b c l flushed is same whole r region = highest_lower r (get_or c.highest r 0) (get_or b.accounts.flushed r 0) l.entries (is.highest r)
     (λ e has of. let served : IsServed b r = subst (IsServed b) of (is.ours e has) in omega (arith, whole e has, ap flushed of, same r served))
+
+-- which log may go first
+pub first_counted : (b : Books) (h : History) (o : Option ℕ) → length b.next_store ≡ 65 → IsCounted b h → MatchOption o (NoneToGo b.accounts) (λ file. IsFirstToGo b.accounts file) → MatchOption o (NoneMayGo h) (MayGo h)
+first_counted b h None wide counted none = λ l has whole.
+    let f = file_of b b.accounts.closed h.logs counted.logs l has in
+    none f.0 f.1 (flushed_lower b f.0 l h.kept.flushed f.2 counted.flushed whole)
+first_counted b h (Some file) wide counted first =
+    let l = log_of b b.accounts.closed h.logs counted.logs first.which first.there in
+    (l.0, l.1, sym l.2.number ∙ first.named, lower_flushed b first.which l.0 h.kept.flushed l.2 wide counted.flushed first.lower)

@@ -283,6 +283,37 @@ order_forgotten old new file order s = record {
   files = λ c has. omega (arith, order.files c (kept_was (λ (x : ClosedFile). not (x.file == file)) old.accounts.closed c (subst (λ (l : List ClosedFile). Contains l c) s.files has)), s.last);
 }
 
+-- more room
+pub order_room : (b : Books) (n : ℕ) → AreInOrder b → AreInOrder (record b { accounts = record b.accounts { room = n } })
+order_room b n order = record {
+  wide = record {
+    drawn = order.wide.drawn;
+    synced = order.wide.synced;
+    stored = order.wide.stored;
+    closed = order.wide.closed;
+    next_store = order.wide.next_store;
+    flushed = order.wide.flushed;
+    noted = order.wide.noted;
+    flushing = order.wide.flushing;
+    current = order.wide.current;
+    chains = order.wide.chains;
+  };
+  regions = λ r. region_same b (record b { accounts = record b.accounts { room = n } }) r (record {
+    drawn = refl;
+    noted = refl;
+    synced = refl;
+    closed = refl;
+    flushed = refl;
+    stored = refl;
+    flushing = refl;
+    current = refl;
+    next_store = refl;
+    chain = refl;
+  }) (order.regions r);
+  rising = order.rising;
+  files = order.files;
+}
+
 -- none goes where all files have other numbers
 keeps_all : (cs : List ClosedFile) (file : ℕ) → ((c : ClosedFile) → Contains cs c → c.file ≡ file → ⊥) → without cs file ≡ cs
 keeps_all [] file other = refl

@@ -35,8 +35,8 @@ impl Ledger {
         ensures room { self.new.accounts.room + 1 ≡ self.old.accounts.room }
         ensures same { SameRegions self.old (record self.new { closed = self.old.closed }) }
     {
-        self.accounts.close_file(file);
         self.closed = self.synced;
+        self.accounts.close_file(file);
     }
 
     /// Takes the current file, in which no entry stands, as closed, and begins with another empty one.

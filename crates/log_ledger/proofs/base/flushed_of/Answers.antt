@@ -1,0 +1,29 @@
+use Rattle.std.proofs.Common.{get_or, arith}
+use Rattle.std.proofs.lemmas.List.{get_or_default}
+use Rattle.std.proofs.lemmas.List.Elements.{Contains-get_or}
+use Rattle.log_ledger.specs.declared.base.RegionBase.{RegionBase}
+use Rattle.log_ledger.proofs.Bases.{numbers_none, numbers_more, numbers_all}
+use Rattle.log_ledger.proofs.base.flushed_of.Goals as goal
+
+abbrev nobody : RegionBase
+nobody = record { region = 0; flushed = 0; next_store = 0 }
+
+pub loop-base-init : goal.loop-base-init
+loop-base-init c = numbers_none (λ (m : RegionBase). m.flushed) c.args.regions.now
+
+pub loop-base-preserved : goal.loop-base-preserved
+loop-base-preserved c =
+    let regions = c.args.regions.now in
+    let i = c.loop-base.base-index in
+    let m = get_or regions i nobody in
+    let there = c.loop-base-test.true in
+    numbers_more (λ (b : RegionBase). b.flushed) regions i c.loop-base.flushed m c.requires.apart there (get_or_default regions i nobody m there) (c.requires.each m (Contains-get_or regions i nobody there)).region c.loop-base.invariant
+
+pub returns-clause-numbers : goal.returns-clause-numbers
+returns-clause-numbers c = numbers_all (λ (m : RegionBase). m.flushed) _ _ _ (omega arith) c.loop-base.invariant
+
+pub bounds-flushed-base : goal.bounds-flushed-base
+bounds-flushed-base c =
+    let regions = c.args.regions.now in
+    let i = c.loop-base.base-index in
+    omega (arith, (c.requires.each (get_or regions i nobody) (Contains-get_or regions i nobody c.loop-base-test.true)).region)

@@ -1,0 +1,34 @@
+use Rattle.std.proofs.Common.{subst, sym}
+use Rattle.seq_accounting.specs.Accounts.{Accounts}
+use Rattle.log_ledger.specs.Books.{Books, AreInOrder}
+use Rattle.log_ledger.specs.Counted.{IsCounted}
+use Rattle.log_ledger.proofs.Committed.{counted_room}
+use Rattle.log_ledger.proofs.Orders.{order_room}
+use Rattle.log_ledger.proofs.ledger.Ledger.reserve_file.Goals as goal
+
+pub invariant_of-self : goal.invariant_of-self
+invariant_of-self c =
+    let b : Books = record {
+      drawn = c.self.inside.drawn;
+      synced = c.self.inside.synced;
+      stored = c.self.inside.stored;
+      closed = c.self.inside.closed;
+      next_store = c.self.inside.next_store;
+      accounts = c.self.inside.accounts;
+      chains = c.self.inside.chains;
+    } in
+    subst (λ (a : Accounts). AreInOrder (record b { accounts = a })) (sym c.reserve_file.ensures.same) (order_room b c.reserve_file.new.self.room c.self.invariant)
+
+pub returns-clause-counted : goal.returns-clause-counted
+returns-clause-counted c h counted =
+    let b : Books = record {
+      drawn = c.self.inside.drawn;
+      synced = c.self.inside.synced;
+      stored = c.self.inside.stored;
+      closed = c.self.inside.closed;
+      next_store = c.self.inside.next_store;
+      accounts = c.self.inside.accounts;
+      chains = c.self.inside.chains;
+    } in
+    subst (λ (a : Accounts). IsCounted (record b { accounts = a }) h) (sym c.reserve_file.ensures.same)
+    (counted_room b c.reserve_file.new.self.room h (subst (λ (x : Books). IsCounted x h) (sym c.self.view_is) counted))
