@@ -10,3 +10,6 @@ mod laws;
 
 pub use cut::write_cut;
 pub use laws::cut_holds_its_content;
+
+#[cfg(test)]
+mod tests;
