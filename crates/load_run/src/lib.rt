@@ -5,6 +5,7 @@ mod command;
 mod gate;
 mod input;
 mod log_command;
+mod log_name;
 mod log_writing;
 mod output;
 mod put_replies;
