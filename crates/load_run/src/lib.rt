@@ -21,4 +21,8 @@ pub use gate::{FreeGate, Gate};
 pub use status::{Damage, Outcome, Status};
 
 #[cfg(test)]
+mod refusal_tests;
+#[cfg(test)]
+mod show_tests;
+#[cfg(test)]
 mod tests;
