@@ -1,5 +1,5 @@
 -- What a crash leaves at a moment of a call, in the numbers' words.
-use Rattle.std.proofs.Common.{◌≡◌, inl, inr, ℕ, ◌+◌, ◌<◌, ◌≤◌, List, [], ◌++◌, Contains, get_or, refl, sym, ap, ◌∙◌, subst, arith}
+use Rattle.std.proofs.Common.{◌≡◌, inl, inr, ℕ, ◌<◌, ◌≤◌, List, [], ◌++◌, Contains, get_or, refl, ap, arith}
 use Rattle.std.proofs.lemmas.List.Elements.{Contains-append_left}
 use Rattle.std.proofs.lemmas.Bool.{cases_eq}
 use Rattle.std.proofs.lemmas.Bool.Decides.{nat_tests}
@@ -7,19 +7,19 @@ use Rattle.log_model.specs.declared.name.NameKind.TheVariants as kinds
 use Rattle.log_model.specs.declared.name.Name.{Name}
 use Rattle.log_model.specs.Entry.{Entry}
 use Rattle.log_model.specs.Files.{Files}
-use Rattle.disk_images.specs.Crash.{DiskView, IsImageNow, Throughout}
+use Rattle.disk_images.specs.Crash.{DiskView, Throughout}
 use Rattle.disk_images.specs.Calls.{IsTrueDisk}
 use Rattle.disk_images.proofs.Moments.{weaker}
-use Rattle.recovery.specs.Kept.{Kept, IsLike, committed, flushed_to, lasts}
+use Rattle.recovery.specs.Kept.{IsLike, committed, flushed_to, lasts}
 use Rattle.recovery.proofs.Lists.{none_in}
 use Rattle.recovery.proofs.Likes.{some_alike, orderly_committed, orderly_flushed}
 use Rattle.log_file.specs.Open.{OpenLog}
-use Rattle.log_ledger.specs.History.{History, committed_in}
+use Rattle.log_ledger.specs.History.{History}
 use Rattle.log_ledger.specs.Books.{Books}
 use Rattle.log_ledger.specs.Counted.{IsCounted}
-use Rattle.log_device.specs.Keeps.{Keeps, Shows, Between, IsInOrder, log_name}
+use Rattle.log_device.specs.Keeps.{Keeps, Shows, Between, log_name}
 use Rattle.log_device.specs.Leaves.{Leaves}
-use Rattle.log_device.proofs.Committing.{Committing}
+use Rattle.log_device.proofs.Committed.{Committing}
 use Rattle.log_device.proofs.Leaving.{leaves, recovers_none, recovers_all}
 
 module _ (file : OpenLog) (v : DiskView) (h : History) (b : Books) (keeps : Keeps file v h b.next_store) (counted : IsCounted b h) (sound : IsTrueDisk v) where

@@ -1,8 +1,11 @@
 pub mod Disk
 pub mod Lists
-pub mod Committing
-pub mod Rolling
-pub mod Archiving
-pub mod Storing
+pub mod Committed
+pub mod NextLog
+pub mod Archived
+pub mod Stored
 pub mod Leaving
 pub mod Calls
+pub mod Staged
+pub mod Numbering
+pub mod Whole

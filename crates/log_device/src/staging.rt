@@ -1,6 +1,6 @@
 //! Entries are staged, and made durable.
 
-ghost use Rattle.std.specs.Prelude.{◌≡◌, ◌≤◌, ◌<◌, ◌+◌, ◌↔◌, ◌×◌, ℕ, List, [], length, get_or, slice_set, Some, None, Ok, IsTrue, IfOk, IfErr, OnOk, OnErr, IsErr};
+ghost use Rattle.std.specs.Prelude.{◌≡◌, ◌≤◌, ◌<◌, ◌+◌, ◌↔◌, ℕ, List, [], length, get_or, slice_set, Some, None, Ok, IsTrue, IfOk, IfErr, OnOk, OnErr, IsErr};
 ghost use Rattle.log_model.specs.Entry.{Entry, IsEntry, entry_frame};
 ghost use Rattle.disk_images.specs.Crash.{Throughout};
 ghost use Rattle.disk_images.specs.Calls.{HasCause};

@@ -10,7 +10,7 @@ use Rattle.log_file.specs.Open.{OpenLog, IsOpen, IsStaged}
 use Rattle.log_ledger.specs.History.{History}
 use Rattle.log_device.specs.Keeps.{Keeps, Between, IsInOrder, log_name}
 use Rattle.log_device.proofs.Disk.{absent_by}
-use Rattle.log_device.proofs.Rolling.{still_free, end_moments, end_in_order, roll_moments, roll_in_order, roll_kept}
+use Rattle.log_device.proofs.NextLog.{still_free, end_moments, end_in_order, roll_moments, roll_in_order, roll_kept}
 use Rattle.log_device.proofs.next.next_log.Goals as goal
 
 pub finish-requires-clause-open : goal.finish-requires-clause-open

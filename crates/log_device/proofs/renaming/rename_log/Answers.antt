@@ -7,7 +7,7 @@ use Rattle.log_file.specs.LogText.{ended_text}
 use Rattle.log_ledger.specs.History.{archived_in}
 use Rattle.log_device.specs.Keeps.{Keeps, log_name, old_name}
 use Rattle.log_device.proofs.Disk.{absent_by}
-use Rattle.log_device.proofs.Archiving.{rename_moments, archived_kept, old_free}
+use Rattle.log_device.proofs.Archived.{rename_moments, archived_kept, old_free}
 use Rattle.log_device.proofs.renaming.rename_log.Goals as goal
 
 pub rename-requires-clause-from : goal.rename-requires-clause-from

@@ -21,7 +21,7 @@ use Rattle.log_ledger.specs.History.{ClosedLog, History, closed_in}
 use Rattle.log_device.specs.Keeps.{Keeps, Shows, Between, IsClosedLog, IsInOrder, log_name}
 use Rattle.log_device.proofs.Lists.{one_more}
 use Rattle.log_device.proofs.Disk.{still_durable, still_closed, present_before, up_to_but}
-use Rattle.log_device.proofs.Committing.{same_log}
+use Rattle.log_device.proofs.Committed.{same_log}
 
 module _ (log : OpenLog) (u v w : DiskView) (h : History) (ns : List ℕ) (keeps : Keeps log u h ns) (sound_u : IsTrueDisk u) (sound_v : IsTrueDisk v) where
   abbrev pub next : Name

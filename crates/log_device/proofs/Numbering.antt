@@ -1,0 +1,31 @@
+-- The number of the current file stays bounded.
+use Rattle.std.proofs.Common.{◌≡◌, ◌+◌, ◌≤◌, min, Some, ap, ◌∙◌, arith}
+use Rattle.std.specs.Prelude.{sum}
+use Rattle.log_model.specs.declared.name.Name.{Name}
+use Rattle.log_file.specs.Open.{OpenLog}
+use Rattle.log_ledger.specs.Books.{Books}
+use Rattle.log_device.specs.Numbered.{IsNumbered}
+
+pub same_file : (a b : OpenLog) → Some a ≡ Some b → a ≡ b
+same_file a b is = cc (is)
+
+-- an entry more is drawn
+pub numbered_staged : (file now : OpenLog) (b after : Books) → IsNumbered file b → now.name ≡ file.name → sum b.drawn + 1 ≤ sum after.drawn → after.accounts.last ≡ b.accounts.last → IsNumbered now after
+numbered_staged file now b after is name more last =
+    let number : now.name.number ≡ file.name.number = ap (λ (n : Name). n.number) name in record {
+      kind = ap (λ (n : Name). n.kind) name ∙ is.kind;
+      region = ap (λ (n : Name). n.region) name ∙ is.region;
+      bound = omega (arith, is.bound, number, more);
+      later = omega (arith, is.later, number, last);
+    }
+
+-- nothing is drawn, and the file has as many entries, committed or staged
+pub numbered_still : (file now : OpenLog) (b after : Books) → IsNumbered file b → now.name ≡ file.name → now.entries + now.staged ≡ file.entries + file.staged → sum after.drawn ≡ sum b.drawn → after.accounts.last ≡ b.accounts.last → IsNumbered now after
+numbered_still file now b after is name count drawn last =
+    let number : now.name.number ≡ file.name.number = ap (λ (n : Name). n.number) name in
+    let few : min 1 (now.entries + now.staged) ≡ min 1 (file.entries + file.staged) = ap (min 1) count in record {
+      kind = ap (λ (n : Name). n.kind) name ∙ is.kind;
+      region = ap (λ (n : Name). n.region) name ∙ is.region;
+      bound = omega (arith, is.bound, number, few, drawn);
+      later = omega (arith, is.later, number, last);
+    }
