@@ -5,6 +5,7 @@ mod device;
 mod error;
 mod next;
 mod renaming;
+mod rolling;
 mod staging;
 
 pub use device::Device;
