@@ -1,12 +1,12 @@
 -- What a crash leaves at a moment of a call, in the numbers' words.
-use Rattle.std.proofs.Common.{◌≡◌, inl, inr, ℕ, ◌<◌, ◌≤◌, List, [], ◌++◌, Contains, get_or, refl, ap, arith}
+use Rattle.std.proofs.Common.{◌≡◌, inl, inr, ℕ, ◌+◌, ◌<◌, ◌≤◌, List, [], ◌++◌, Contains, get_or, Some, refl, sym, ap, ◌∙◌, arith}
 use Rattle.std.proofs.lemmas.List.Elements.{Contains-append_left}
 use Rattle.std.proofs.lemmas.Bool.{cases_eq}
 use Rattle.std.proofs.lemmas.Bool.Decides.{nat_tests}
 use Rattle.log_model.specs.declared.name.NameKind.TheVariants as kinds
 use Rattle.log_model.specs.declared.name.Name.{Name}
 use Rattle.log_model.specs.Entry.{Entry}
-use Rattle.log_model.specs.Files.{Files}
+use Rattle.log_model.specs.Files.{Files, content}
 use Rattle.disk_images.specs.Crash.{DiskView, Throughout}
 use Rattle.disk_images.specs.Calls.{IsTrueDisk}
 use Rattle.disk_images.proofs.Moments.{weaker}
@@ -17,9 +17,8 @@ use Rattle.log_file.specs.Open.{OpenLog}
 use Rattle.log_ledger.specs.History.{History}
 use Rattle.log_ledger.specs.Books.{Books}
 use Rattle.log_ledger.specs.Counted.{IsCounted}
-use Rattle.log_device.specs.Keeps.{Keeps, Shows, Between, log_name}
+use Rattle.log_device.specs.Keeps.{Keeps, Shows, Between, IsUpTo, IsInOrder, log_name}
 use Rattle.log_device.specs.Leaves.{Leaves}
-use Rattle.log_device.proofs.Committed.{Committing}
 use Rattle.log_device.proofs.Leaving.{leaves, recovers_none, recovers_all}
 
 module _ (file : OpenLog) (v : DiskView) (h : History) (b : Books) (keeps : Keeps file v h b.next_store) (counted : IsCounted b h) (sound : IsTrueDisk v) where
@@ -41,12 +40,21 @@ module _ (file : OpenLog) (v : DiskView) (h : History) (b : Books) (keeps : Keep
       leaves b.stored b.closed (committed h.kept) log current v.files h.kept.staged J kind region shows counted.stored new
       (recovers_all h.kept h.kept.flushed v.files J like keeps.orderly shows.like (orderly_committed h.kept keeps.orderly))
 
-  pub commit_leaves : (w : DiskView) → Throughout (Committing file v h b.next_store keeps) 4 v w → Throughout Left 4 v w
-  commit_leaves w over = weaker (Committing file v h b.next_store keeps) Left 4 v w
+  pub commit_leaves : (w : DiskView) → Throughout (Between h.kept file.name h.current (committed h.kept) file.name (h.current ++ h.kept.staged)) 4 v w → Throughout Left 4 v w
+  commit_leaves w over = weaker (Between h.kept file.name h.current (committed h.kept) file.name (h.current ++ h.kept.staged)) Left 4 v w
       (λ J between. elim between as (λ _. Left J) [
         | inl was ↦ before J was
         | inr now ↦ after file.name (h.current ++ h.kept.staged) J keeps.kind keeps.region now counted.newer
       ]) over
+
+  -- and the next file is in no image then
+  pub commit_in_order : (w : DiskView) → Throughout (Between h.kept file.name h.current (committed h.kept) file.name (h.current ++ h.kept.staged)) 4 v w
+      → Throughout (IsInOrder file.name (log_name (file.name.number + 1)) (h.current ++ h.kept.staged)) 4 v w
+  commit_in_order w over = weaker (Between h.kept file.name h.current (committed h.kept) file.name (h.current ++ h.kept.staged)) (IsInOrder file.name (log_name (file.name.number + 1)) (h.current ++ h.kept.staged)) 4 v w
+      (λ J between bytes there more. absurd (elim between as (λ _. ⊥) [ inl was ↦ no_next J was.up_to bytes there | inr now ↦ no_next J now.up_to bytes there ])) over
+    where
+      no_next : (J : Files) → IsUpTo file.name.number J → (bytes : List ℕ) → content J (log_name (file.name.number + 1)) ≡ Some bytes → ⊥
+      no_next J up bytes there = let low = up (log_name (file.name.number + 1)) refl (λ none. absurd (cc (sym none ∙ there))) in omega (arith, low.1)
 
   -- a roll, behind the commit
   pub roll_leaves : (next : ℕ) (by : ℕ) (u w : DiskView) → Throughout (Between (committed h.kept) file.name (h.current ++ h.kept.staged) (committed h.kept) (log_name next) []) by u w → Throughout Left by u w

@@ -1,5 +1,5 @@
 -- A device and what it has made of its files.
-use Rattle.std.specs.Prelude.{◌≡◌, Option, Some, None}
+use Rattle.std.specs.Prelude.{◌≡◌, ◌+◌, Option, Some, None}
 use Rattle.disk_images.specs.Crash.{DiskView}
 use Rattle.log_file.specs.Open.{OpenLog}
 use Rattle.log_ledger.specs.History.{History}
@@ -27,3 +27,7 @@ pub record IsWhole {D : Type 0} (d : Device D) (disk : DiskView) (h : History) :
   pub is : log_of d ≡ Some file
   pub keeps : Keeps file disk h (books_of d).next_store
   pub counted : IsCounted (books_of d) h
+
+-- all that was staged into the file is committed
+abbrev pub IsCommitted : OpenLog → Option OpenLog → Type 0
+IsCommitted file log = (now : OpenLog) × (log ≡ Some now) × (now.name ≡ file.name) × (now.entries ≡ file.entries + file.staged) × (now.staged ≡ 0)

@@ -3,6 +3,7 @@
 
 mod device;
 mod error;
+mod flushing;
 mod next;
 mod renaming;
 mod rolling;

@@ -43,7 +43,7 @@ impl<D: Disk> Device<D> {
         ensures stays { IsBroken self.old → self.new ≡ self.old }
         ensures cause { HasCause (D.faults (disk_of self.old)) (D.faults (disk_of self.new)) ((IsBroken self.old → ⊥) × IsErrOf result RollRefusal.WriteFault) }
     {
-        self.sync()?;
+        self.commit_staged()?;
         self.roll_committed(alloc)
     }
 

@@ -1,14 +1,16 @@
 //! Entries are staged, and made durable.
 
-ghost use Rattle.std.specs.Prelude.{◌≡◌, ◌≤◌, ◌<◌, ◌+◌, ◌↔◌, ℕ, List, [], length, get_or, slice_set, Some, None, Ok, IsTrue, IfOk, IfErr, OnOk, OnErr, IsErr};
+ghost use Rattle.std.specs.Prelude.{◌≡◌, ◌≤◌, ◌<◌, ◌+◌, ◌↔◌, ◌++◌, ℕ, List, [], length, get_or, slice_set, Some, None, Ok, IsTrue, IfOk, IfErr, OnOk, OnErr, IsErr};
 ghost use Rattle.log_model.specs.Entry.{Entry, IsEntry, entry_frame};
 ghost use Rattle.disk_images.specs.Crash.{Throughout};
 ghost use Rattle.disk_images.specs.Calls.{HasCause};
 ghost use Rattle.log_file.specs.Open.{OpenLog};
 ghost use Rattle.log_ledger.specs.History.{History, staged_in, committed_in};
 ghost use Rattle.log_ledger.specs.Books.{IsServed};
+ghost use Rattle.recovery.specs.Kept.{committed};
+ghost use Rattle.log_device.specs.Keeps.{Between};
 ghost use Rattle.log_device.specs.Leaves.{Leaves};
-ghost use Rattle.log_device.specs.Whole.{IsWhole, IsBroken, disk_of, log_of, books_of};
+ghost use Rattle.log_device.specs.Whole.{IsWhole, IsBroken, IsCommitted, disk_of, log_of, books_of};
 
 use crate::device::Device;
 use crate::error::{StageFull, WriteFault};
@@ -61,6 +63,25 @@ impl<D: Disk> Device<D> {
 
         // Where nothing is staged it makes no disk call, and does not fail.
         ensures idle { (file : OpenLog) → log_of self.old ≡ Some file → file.staged ≡ 0 → (disk_of self.new ≡ disk_of self.old) × (result ≡ Ok 0) }
+        ensures file { (file : OpenLog) → log_of self.old ≡ Some file → OnOk result (IsCommitted file (log_of self.new)) }
+        ensures synced { OnOk result ((books_of self.new) ≡ record (books_of self.old) { synced = (books_of self.old).drawn }) }
+        ensures faulty { OnErr result (books_of self.new ≡ books_of self.old) }
+        ensures broken { IsErr result ↔ IsBroken self.new }
+        ensures stays { IsBroken self.old → self.new ≡ self.old }
+        ensures cause { HasCause (D.faults (disk_of self.old)) (D.faults (disk_of self.new)) ((IsBroken self.old → ⊥) × IsErr result) }
+    {
+        self.commit_staged()
+    }
+
+    /// The same, with the files that each image is like.
+    pub(crate) fn commit_staged(&mut self) -> Result<u64, WriteFault>
+        requires { IsTrue D.told → (IsBroken self.old → ⊥) → ∥ ((h : History) × IsWhole self.old (D.view (disk_of self.old)) h) ∥₁ }
+
+        ensures any_moment { IsTrue D.told → (h : History) (file : OpenLog) → IsWhole self.old (D.view (disk_of self.old)) h → log_of self.old ≡ Some file → Throughout (Between h.kept file.name h.current (committed h.kept) file.name (h.current ++ h.kept.staged)) 4 (D.view (disk_of self.old)) (D.view (disk_of self.new)) }
+        ensures committed { IsTrue D.told → (h : History) → IsWhole self.old (D.view (disk_of self.old)) h → OnOk result (IsWhole self.new (D.view (disk_of self.new)) (committed_in h)) }
+        ensures count { (file : OpenLog) → log_of self.old ≡ Some file → IfOk result (λ n. n ≡ file.staged) }
+        ensures idle { (file : OpenLog) → log_of self.old ≡ Some file → file.staged ≡ 0 → (disk_of self.new ≡ disk_of self.old) × (result ≡ Ok 0) }
+        ensures file { (file : OpenLog) → log_of self.old ≡ Some file → OnOk result (IsCommitted file (log_of self.new)) }
         ensures emptied { OnOk result ((file : OpenLog) → log_of self.new ≡ Some file → file.staged ≡ 0) }
         ensures synced { OnOk result ((books_of self.new) ≡ record (books_of self.old) { synced = (books_of self.old).drawn }) }
         ensures faulty { OnErr result (books_of self.new ≡ books_of self.old) }

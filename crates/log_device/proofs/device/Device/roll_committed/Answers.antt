@@ -1,8 +1,7 @@
-use Rattle.std.proofs.Common.{◌≡◌, ℕ, List, [], length, Some, refl, sym, ap, ◌∙◌, subst, arith}
+use Rattle.std.proofs.Common.{◌≡◌, ℕ, List, refl, sym, ap, subst, arith}
 use Rattle.std.specs.Prelude.{sum}
 use Rattle.std.proofs.Math.Logic.{∥∥₁_map}
 use Rattle.std.proofs.lemmas.List.{nil_from_length}
-use Rattle.log_file.specs.Open.{OpenLog}
 use Rattle.log_ledger.specs.Books.{Books}
 use Rattle.log_device.specs.Keeps.{Keeps}
 use Rattle.log_device.proofs.Numbering.{numbered_still}

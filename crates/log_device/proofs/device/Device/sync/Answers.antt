@@ -1,58 +1,7 @@
-use Rattle.std.proofs.Common.{ℕ, List, refl, sym, ap, ◌∙◌, subst, arith}
-use Rattle.std.specs.Prelude.{sum}
-use Rattle.std.proofs.Math.Logic.{∥∥₁_map}
-use Rattle.log_file.specs.Open.{OpenLog}
-use Rattle.log_ledger.specs.Books.{Books}
-use Rattle.log_ledger.specs.History.{committed_in}
-use Rattle.log_device.specs.Keeps.{Keeps}
-use Rattle.log_device.specs.Numbered.{IsNumbered}
-use Rattle.log_device.proofs.Numbering.{same_file, numbered_still}
-use Rattle.log_device.proofs.Whole.{kept_file}
-use Rattle.log_device.proofs.Committed.{commit_moments, commit_kept}
 use Rattle.log_device.proofs.Calls.{commit_leaves}
 use Rattle.log_device.proofs.device.Device.sync.Goals as goal
 
-pub commit-requires : goal.commit-requires
-commit-requires g c told =
-    ∥∥₁_map (c.requires told (λ broken. absurd (cc (sym broken ∙ c.in-Some.is)))) (λ r.
-    let keeps = kept_file c.args.self.now (g.D.Disk.view c.args.self.now.disk) r.0 c.in-Some.log c.in-Some.is r.1 in
-    (r.0.current, r.0.kept.staged, keeps.open_log, keeps.staged))
-
-pub invariant_of-self-in-Ok : goal.invariant_of-self-in-Ok
-invariant_of-self-in-Ok g c = record {
-  numbered = λ file is.
-      subst (λ (f : OpenLog). IsNumbered f c.commit-in-Ok.new.self) (same_file c.commit.new.self file is)
-      (numbered_still c.in-Some.log c.commit.new.self c.args.self.now.ledger c.commit-in-Ok.new.self (c.args.self.now.numbered c.in-Some.log c.in-Some.is)
-      c.commit.ensures.name (omega (arith, c.in-Ok.ensures.counted, c.in-Ok.ensures.emptied.count)) (ap (λ (b : Books). sum b.drawn) c.commit-in-Ok.ensures.synced) (ap (λ (b : Books). b.accounts.last) c.commit-in-Ok.ensures.synced));
-}
-
-pub returns-in-Ok-clause-any_moment : goal.returns-in-Ok-clause-any_moment
-returns-in-Ok-clause-any_moment g c told h whole =
-    let v = g.D.Disk.view c.args.self.now.disk in
-    let w = g.D.Disk.view c.commit.new.disk in
-    let keeps = kept_file c.args.self.now v h c.in-Some.log c.in-Some.is whole in
-    commit_leaves c.in-Some.log v h c.args.self.now.ledger keeps whole.counted (g.met.D.Disk.is_true c.args.self.now.disk told) w
-    (commit_moments c.in-Some.log v h c.args.self.now.ledger.next_store keeps w (c.commit.ensures.any_moment told h.current h.kept.staged keeps.open_log keeps.staged))
-
-pub returns-in-Ok-clause-committed : goal.returns-in-Ok-clause-committed
-returns-in-Ok-clause-committed g c told h whole =
-    let v = g.D.Disk.view c.args.self.now.disk in
-    let w = g.D.Disk.view c.commit.new.disk in
-    let keeps = kept_file c.args.self.now v h c.in-Some.log c.in-Some.is whole in
-    record {
-      file = c.commit.new.self;
-      is = refl;
-      keeps = subst (λ (ns : List ℕ). Keeps c.commit.new.self w (committed_in h) ns) (sym (ap (λ (b : Books). b.next_store) c.commit-in-Ok.ensures.synced))
-          (commit_kept c.in-Some.log v h c.args.self.now.ledger.next_store keeps c.commit.new.self w c.commit.ensures.name
-          (c.commit.ensures.any_moment told h.current h.kept.staged keeps.open_log keeps.staged) (c.commit.ensures.touches told)
-          (c.in-Ok.ensures.committed told h.current h.kept.staged keeps.open_log keeps.staged) c.in-Ok.ensures.emptied);
-      counted = c.commit-in-Ok.ensures.counted h whole.counted;
-    }
-
-pub returns-in-Err-clause-any_moment : goal.returns-in-Err-clause-any_moment
-returns-in-Err-clause-any_moment g c told h whole =
-    let v = g.D.Disk.view c.args.self.now.disk in
-    let w = g.D.Disk.view c.commit.new.disk in
-    let keeps = kept_file c.args.self.now v h c.in-Some.log c.in-Some.is whole in
-    commit_leaves c.in-Some.log v h c.args.self.now.ledger keeps whole.counted (g.met.D.Disk.is_true c.args.self.now.disk told) w
-    (commit_moments c.in-Some.log v h c.args.self.now.ledger.next_store keeps w (c.commit.ensures.any_moment told h.current h.kept.staged keeps.open_log keeps.staged))
+pub returns-clause-any_moment : goal.returns-clause-any_moment
+returns-clause-any_moment g c told h whole =
+    commit_leaves whole.file (g.D.Disk.view c.args.self.now.disk) h c.args.self.now.ledger whole.keeps whole.counted (g.met.D.Disk.is_true c.args.self.now.disk told) (g.D.Disk.view c.commit_staged.new.self.disk)
+    (c.commit_staged.ensures.any_moment told h whole.file whole whole.is)
