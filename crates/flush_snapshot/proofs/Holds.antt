@@ -69,11 +69,11 @@ found_in : (xs : List NumberedCell) (v : VersionKey) (p : Payload) → found v x
 found_in [] v p is = (let none : None ≡ Some p = is in absurd (cc (none)))
 found_in (x ∷ xs) v p is = elim (cases_Bool (eq_by_cmp version_cmp v (version_of x))) as (λ _. HasCell (x ∷ xs) v p) [
   | inl same ↦ (
-      x,
-      Contains-append_left (x ∷ []) xs x (Contains-push [] x),
-      sym (version_cmp_exact v (version_of x) (is_equal (version_cmp v (version_of x)) same)),
-      one_payload (payload_of x.1) p (sym (ap (λ (b : Bool). cond b (Some (payload_of x.1)) (found v xs)) same) ∙ is),
-    )
+    x,
+    Contains-append_left (x ∷ []) xs x (Contains-push [] x),
+    sym (version_cmp_exact v (version_of x) (is_equal (version_cmp v (version_of x)) same)),
+    one_payload (payload_of x.1) p (sym (ap (λ (b : Bool). cond b (Some (payload_of x.1)) (found v xs)) same) ∙ is),
+  )
   | inr other ↦ (
       let later = found_in xs v p (sym (ap (λ (b : Bool). cond b (Some (payload_of x.1)) (found v xs)) other) ∙ is) in
       (later.0, Contains-append_right (x ∷ []) xs later.0 later.1, later.2, later.3))

@@ -53,7 +53,7 @@ pub cut_moments : (o : OpenStore) (rows : List NumberedCell) (name : Name) (from
 cut_moments o rows name from to cut u v w of first second =
     let text : List ℕ = store_text (cut_store name from to cut) in
     let over = subst (λ (s : Store). Throughout (OnlyAt name (IsWholeOrNot (store_text s)) v) (length rows + 4) v w) (same_cut o rows name from to cut of)
-        (subst (λ (n : Name). Throughout (OnlyAt n (IsWholeOrNot (store_text (store_of o rows))) v) (length rows + 4) v w) of.name_is second) in
+    (subst (λ (n : Name). Throughout (OnlyAt n (IsWholeOrNot (store_text (store_of o rows))) v) (length rows + 4) v w) of.name_is second) in
     more_time (OnlyAt name (IsWholeOrNot text) u) (3 + (length rows + 4)) (7 + length (ordered_cells cut)) u w (omega (arith, ap length of.rows_are))
     (committed_moments name text 3 (length rows + 4) u v w first over)
 

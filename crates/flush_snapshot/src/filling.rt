@@ -15,7 +15,11 @@ use mem_segments::Row;
 use store_file::{DiskFault, StoreFile};
 
 /// Fills a store file that has no cell yet with these rows, and commits it.
-pub(crate) fn write_rows<D: Disk>(disk: &mut D, store: StoreFile, rows: &[Row]) -> Result<(), DiskFault>
+pub(crate) fn write_rows<D: Disk>(
+    disk: &mut D,
+    store: StoreFile,
+    rows: &[Row],
+) -> Result<(), DiskFault>
     requires filling { IsTrue D.told → IsFilling store (D.view disk.old) [] }
     requires whole { IsStore (store_of store rows.now) }
     requires count { store.count ≡ length rows.now }

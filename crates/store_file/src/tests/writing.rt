@@ -166,12 +166,19 @@ fn three_big_cells_are_one_write(rt: HostRuntime) -> Result<(), Fail> {
     let mut disk = OneFile::new(alloc);
     let mut store = StoreFile::begin(alloc, &mut disk, STORE_3, 1, 10, 10)?;
     for number in 1u8..11 {
-        store.fill(&mut disk, u64::from(number), &put(alloc, &[number], &value)?)?;
+        store.fill(
+            &mut disk,
+            u64::from(number),
+            &put(alloc, &[number], &value)?,
+        )?;
     }
     assert_eq!(rt; (disk.writes, disk.bytes.len()), (4, 590_136));
     store.commit(&mut disk)?;
     assert_eq!(rt; (disk.calls, disk.writes, disk.syncs), (10, 6, 3));
-    assert_eq!(rt; (disk.bytes.len(), disk.bytes.first().copied()), (655_703, Some(0xA5)));
+    assert_eq!(rt;
+        (disk.bytes.len(), disk.bytes.first().copied()),
+        (655_703, Some(0xA5))
+    );
     Ok(())
 }
 

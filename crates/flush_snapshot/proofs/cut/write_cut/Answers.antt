@@ -23,7 +23,7 @@ pub write_rows-requires-clause-whole : goal.write_rows-requires-clause-whole
 write_rows-requires-clause-whole g c =
     let shape = c.in_ok-store.ensures.shape in
     let of : IsOfCut c.in_ok-store.store c.rows-rows.result.now c.args.name c.args.from c.args.to c.args.cut =
-        record { name_is = shape.0; from_is = shape.1; to_is = shape.2; rows_are = c.rows-rows.ensures ∙ ap (λ (m : Content). cells_of m) c.in_ok-segment.ensures.content } in
+    record { name_is = shape.0; from_is = shape.1; to_is = shape.2; rows_are = c.rows-rows.ensures ∙ ap (λ (m : Content). cells_of m) c.in_ok-segment.ensures.content } in
     subst IsStore (sym (same_cut c.in_ok-store.store c.rows-rows.result.now c.args.name c.args.from c.args.to c.args.cut of))
     (cut_is_store c.args.name c.args.from c.args.to c.args.cut (omega arith) c.requires.range c.requires.within c.in_ok-segment.ensures.within)
 

@@ -22,9 +22,9 @@ loop-row-preserved g c =
     let here : get_or rows i c.row-item.result ≡ x = sym c.row-item.is ∙ (λ j. (sym c.number.ensures j, sym c.cell.ensures j)) in
     let shape = c.fill.ensures.shape in (
       one_row_more (IsTrue g.D.Disk.told) c.args.store.now c.loop-row.store c.fill.new.self (g.D.Disk.view c.args.disk.now) (g.D.Disk.view c.loop-row.disk) (g.D.Disk.view c.fill.new.disk) rows i so_far
-      (λ told. c.fill.ensures.any_moment told (take i rows) (so_far.filling told)) x
-      (take_more rows i c.row-item.result c.loop-row-test.true ∙ ap (λ (y : NumberedCell). take i rows ++ y ∷ []) here)
-      (record { name = shape.0; from = shape.1; to = shape.2; count = shape.3 })
-      (λ told. c.in_ok-fill.ensures.filled told (take i rows) (so_far.filling told)) c.fill.ensures.touches,
+          (λ told. c.fill.ensures.any_moment told (take i rows) (so_far.filling told)) x
+          (take_more rows i c.row-item.result c.loop-row-test.true ∙ ap (λ (y : NumberedCell). take i rows ++ y ∷ []) here)
+          (record { name = shape.0; from = shape.1; to = shape.2; count = shape.3 })
+          (λ told. c.in_ok-fill.ensures.filled told (take i rows) (so_far.filling told)) c.fill.ensures.touches,
       omega (arith, c.loop-row.invariant.1, c.fill.ensures.cause.later),
     )
