@@ -3,3 +3,4 @@ pub mod Noted
 pub mod Order
 pub mod Places
 pub mod Steps
+pub mod View

@@ -30,15 +30,16 @@ pub struct Accounting {
 }
 
 impl Model for Accounting {
-    ghost use Rattle.std.specs.Prelude.{◌-◌, vec_len, vec_capacity};
     ghost use Rattle.seq_accounting.specs.Accounts.{Accounts};
-    ghost use Rattle.seq_accounting.specs.Order.{IsInOrder};
 
     ghost Value = { Accounts };
 
-    ghost view = { λ a. record { flushed = a.flushed; noted = a.noted; flushing = a.flushing; oldest = a.oldest; since = a.since; current = a.current; closed = a.closed.items; last = a.last; room = vec_capacity a.closed - vec_len a.closed } };
+    ghost use Rattle.seq_accounting.specs.Order.{IsInOrder};
+    ghost use Rattle.seq_accounting.specs.View.{accounts_of};
 
-    ghost invariant = { λ a. IsInOrder (record { flushed = a.flushed; noted = a.noted; flushing = a.flushing; oldest = a.oldest; since = a.since; current = a.current; closed = a.closed.items; last = a.last; room = vec_capacity a.closed - vec_len a.closed }) };
+    ghost view = { accounts_of };
+
+    ghost invariant = { λ a. IsInOrder (accounts_of a) };
 }
 
 impl Accounting {

@@ -14,7 +14,7 @@ returns-then-all_lower c =
 pub loop-file-preserved : goal.loop-file-preserved
 loop-file-preserved c =
     none_more c.args.accounting.now _ _ c.loop-file.invariant c.in-Some.ensures.next
-      (λ f there named lower. false≢true (sym c.if-all_lower.false ∙ (c.all_lower.ensures f there named).1 lower))
+    (λ f there named lower. false≢true (sym c.if-all_lower.false ∙ (c.all_lower.ensures f there named).1 lower))
 
 pub returns : goal.returns
 returns c = none_left c.args.accounting.now _ (λ f there. (c.in_default.ensures.order.files f there).given) c.loop-file.invariant c.in_default.ensures.next

@@ -8,4 +8,4 @@ returns-in-Some-clause-next c =
     let found = rw c.deref.ensures.value at c.in-Some.ensures.lookup in
     let place = rw c.deref-2.ensures.value at c.place_above.ensures in
     rw c.file.ensures (subst (λ (a : Accounts). IsNextClosed a.closed c.args.after c.in-Some.next.now.file) c.self.view_is
-      (next_there _ c.args.after c.place_above.result c.in-Some.next.now c.self.invariant.rising place found.3.0 (sym found.1)))
+    (next_there _ c.args.after c.place_above.result c.in-Some.next.now c.self.invariant.rising place found.3.0 (sym found.1)))
