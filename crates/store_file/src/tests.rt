@@ -1,3 +1,4 @@
 //! Worked store files.
 
+mod one_file;
 mod reading;
