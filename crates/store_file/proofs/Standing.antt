@@ -28,9 +28,6 @@ one_more cells x rest =
     ap (λ (t : List ℕ). t ++ rest) (flat_map-append pair_text cells (x ∷ []) ∙ ap (λ (t : List ℕ). pairs_text cells ++ t) (append-nil (pair_text x)))
     ∙ append_assoc (pairs_text cells) (pair_text x) rest
 
-pub none_yet : (bytes : List ℕ) → 33 ≤ length bytes → StandsUpTo bytes [] 33
-none_yet bytes le = record { within = le; stands = record { is = refl; each = tt; rising = tt } }
-
 -- where the last of them ends
 pub place_of : (bytes : List ℕ) (cells : List NumberedCell) (at : ℕ) → 33 ≤ length bytes → StandsUpTo bytes cells at → at ≡ 33 + length (pairs_text cells)
 place_of bytes cells at le s = omega (arith, s.within, le, ap length s.stands.is, length-append (pairs_text cells) (drop at bytes), length-drop 33 bytes, length-drop at bytes)

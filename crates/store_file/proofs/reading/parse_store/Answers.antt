@@ -1,7 +1,6 @@
-use Rattle.std.proofs.Common.{ℕ, Option, arith}
+use Rattle.std.proofs.Common.{ℕ, List, Option, arith}
 use Rattle.std.proofs.lemmas.Result.{err_from_is_err_and}
 use Rattle.cell_model.specs.Order.{NumberedCell}
-use Rattle.std.specs.Prelude.{List}
 use Rattle.store_file.specs.declared.list.StoreText.{StoreText}
 use Rattle.store_file.proofs.Texts.{text_from, lacks_pair, has_more}
 use Rattle.store_file.proofs.reading.parse_store.Goals as goal
