@@ -7,3 +7,6 @@ use Rattle.log_ledger.proofs.ledger.Ledger.has_unflushed.Goals as goal
 pub returns-clause-none : goal.returns-clause-none
 returns-clause-none c h counted none = none_unflushed c.args.self.now h c.args.region (subst AreInOrder c.self.view_is c.self.invariant) c.requires counted
     (omega (arith, ltb-false c.flushed.result (get_or c.self.inside.drawn c.args.region 0) none, c.flushed.ensures, ap (λ (b : Books). get_or b.drawn c.args.region 0) c.self.view_is, ap (λ (b : Books). get_or b.accounts.flushed c.args.region 0) c.self.view_is))
+
+pub returns-clause-order : goal.returns-clause-order
+returns-clause-order c = subst AreInOrder c.self.view_is c.self.invariant
