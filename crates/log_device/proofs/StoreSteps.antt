@@ -1,5 +1,5 @@
 -- What writing the cut of a region leaves of what is kept, in the ledger's words.
-use Rattle.std.proofs.Common.{◌≡◌, ◌+◌, ◌<◌, ◌≤◌, ℕ, List, [], get_or, set, length, refl, sym, ap, ◌∙◌, subst, arith}
+use Rattle.std.proofs.Common.{inl, ◌≡◌, ◌+◌, ◌<◌, ◌≤◌, ℕ, List, [], get_or, set, length, refl, sym, ap, ◌∙◌, subst, arith}
 use Rattle.log_model.specs.Files.{content, IsAbsent}
 use Rattle.log_model.specs.declared.name.Name.{Name}
 use Rattle.log_model.specs.StoreText.{IsStore, store_text}
@@ -7,7 +7,9 @@ use Rattle.cell_model.specs.Order.{NumberedCell}
 use Rattle.disk_images.specs.Crash.{DiskView, Throughout, OnlyAt}
 use Rattle.disk_images.specs.Calls.{IsTrueDisk}
 use Rattle.disk_images.specs.OneFile.{Touches, IsDurableFile}
-use Rattle.recovery.specs.Kept.{IsCut, flushed_to, lasts}
+use Rattle.log_model.specs.Entry.{Entry}
+use Rattle.disk_images.proofs.Moments.{at_once}
+use Rattle.recovery.specs.Kept.{Kept, IsCut, flushed_to, lasts}
 use Rattle.flush_snapshot.specs.Cut.{cut_store, ordered_cells}
 use Rattle.store_file.specs.Whole.{IsWholeOrNot}
 use Rattle.log_file.specs.Open.{OpenLog}
@@ -50,3 +52,7 @@ module _ (file : OpenLog) (u w : DiskView) (h : History) (b : Books) (keeps : Ke
         (subst (λ (m : ℕ). Throughout (OnlyAt (store_name r m) (IsWholeOrNot (store_text (cut_store (store_name r m) from to cells))) u) (7 + length (ordered_cells cells)) u w) number_is over)
         (subst (λ (m : ℕ). Touches (store_name r m) u w) number_is touches)
         (subst (λ (m : ℕ). IsDurableFile w (store_name r m) (store_text (cut_store (store_name r m) from to cells))) number_is file_is))
+
+-- where nothing is done
+pub still_moments : (file : OpenLog) (u : DiskView) (h : History) (ns : List ℕ) → Keeps file u h ns → (k : Kept) (log : Name) (current : List Entry) → (bound : ℕ) × Throughout (Between h.kept file.name h.current k log current) bound u u
+still_moments file u h ns keeps k log current = (0, at_once (Between h.kept file.name h.current k log current) u (λ J now. inl (keeps.images J now)))

@@ -1,28 +1,25 @@
-use Rattle.std.proofs.Common.{rules, ◌≡◌, ◌≤◌, ◌<◌, ◌+◌, ◌↔◌, ◌++◌, ℕ, [], Contains, get_or, Some, Ok, Err, IsTrue, IfOk, OnOk, OnErr, IsErrOf, ◌-◌, ◌*◌, length, ◌/◌, ◌%◌, Bool, true, false, nat_eq, nat_lt, List, ◌∷◌, slice_set, bit_and, bit_or, Fits, w8, w32, w64, Bor, MutBor}
-use Rattle.log_model.specs.Entry.{Entry}
+use Rattle.std.proofs.Common.{◌≡◌, ℕ, List, get_or, refl, sym, ap, ◌∙◌, subst, arith}
+use Rattle.std.specs.Prelude.{sum}
 use Rattle.recovery.specs.Kept.{flushed_to}
-use Rattle.disk_images.specs.Crash.{Throughout}
-use Rattle.disk_images.specs.Calls.{HasCause}
-use Rattle.log_file.specs.Open.{OpenLog}
-use Rattle.flush_snapshot.specs.Cut.{IsWithin}
-use Rattle.log_ledger.specs.History.{History, committed_in, flushed_in}
-use Rattle.log_ledger.specs.Books.{IsServed, AreInOrder}
-use Rattle.log_ledger.specs.Counted.{PutsCut}
-use Rattle.log_device.specs.Keeps.{Between}
-use Rattle.log_device.specs.Leaves.{Leaves}
-use Rattle.log_device.specs.Flushed.{IsHighestKept, NoneKept}
-use Rattle.log_device.specs.Whole.{IsWhole, IsBroken, disk_of, log_of, books_of}
+use Rattle.log_ledger.specs.Books.{Books}
+use Rattle.log_device.proofs.Numbering.{numbered_still}
+use Rattle.log_device.proofs.Whole.{kept_file}
+use Rattle.log_device.proofs.StoreSteps.{still_moments}
 use Rattle.log_device.proofs.device.Device.flush_committed.Goals as goal
 
--- src/flushing.rt:74:13
 pub invariant_of-self : goal.invariant_of-self
-invariant_of-self g c = ?
+invariant_of-self g c = record {
+  numbered = λ file is.
+      numbered_still file file c.args.self.now.ledger c.keep.new.self (c.args.self.now.numbered file is) refl refl
+      (ap (λ (b : Books). sum b.drawn) c.keep.ensures.stored) (ap (λ (b : Books). b.accounts.last) c.keep.ensures.stored);
+}
 
--- src/flushing.rt:75:13
-pub returns-then-not-has_unflushed-clause-any_moment :
-    goal.returns-then-not-has_unflushed-clause-any_moment
-returns-then-not-has_unflushed-clause-any_moment g c = ?
+pub returns-then-not-has_unflushed-clause-any_moment : goal.returns-then-not-has_unflushed-clause-any_moment
+returns-then-not-has_unflushed-clause-any_moment g c told h file whole is none =
+    let u = g.D.Disk.view c.args.self.now.disk in
+    still_moments file u h c.args.self.now.ledger.next_store (kept_file c.args.self.now u h file is whole) (flushed_to h.kept c.args.region (get_or c.args.self.now.ledger.drawn c.args.region 0)) file.name h.current
 
--- src/flushing.rt:79:21
 pub returns-in_err-cells-clause-any_moment : goal.returns-in_err-cells-clause-any_moment
-returns-in_err-cells-clause-any_moment g c = ?
+returns-in_err-cells-clause-any_moment g c told h file whole is none =
+    let u = g.D.Disk.view c.args.self.now.disk in
+    still_moments file u h c.args.self.now.ledger.next_store (kept_file c.args.self.now u h file is whole) (flushed_to h.kept c.args.region (get_or c.args.self.now.ledger.drawn c.args.region 0)) file.name h.current

@@ -1,4 +1,4 @@
-use Rattle.std.proofs.Common.{◌≡◌, ◌+◌, ◌<◌, ◌≤◌, ℕ, List, [], get_or, set, length, Some, refl, sym, ap, ◌∙◌, subst, arith}
+use Rattle.std.proofs.Common.{◌≡◌, ◌+◌, ◌<◌, ◌≤◌, ℕ, List, [], Err, get_or, set, length, Some, refl, sym, ap, ◌∙◌, subst, arith}
 use Rattle.std.specs.Prelude.{sum}
 use Rattle.std.proofs.Math.Logic.{∥∥₁_elim}
 use Rattle.std.proofs.lemmas.List.{get_or-set_same}
@@ -12,6 +12,7 @@ use Rattle.recovery.specs.Kept.{IsCut, flushed_to, lasts}
 use Rattle.flush_snapshot.specs.Cut.{cut_store}
 use Rattle.store_file.specs.Whole.{IsWholeOrNot}
 use Rattle.log_file.specs.Open.{OpenLog}
+use Rattle.log_file.specs.declared.error.FileRefusal.{FileRefusal}
 use Rattle.log_ledger.specs.Books.{Books, AreInOrder}
 use Rattle.log_ledger.specs.Counted.{IsCounted, PutsCut}
 use Rattle.log_ledger.specs.History.{History, flushed_in}
@@ -24,7 +25,7 @@ use Rattle.log_device.proofs.Whole.{kept_file}
 use Rattle.log_device.proofs.Disk.{absent_by}
 use Rattle.log_device.proofs.Cut.{is_cut, place_of}
 use Rattle.log_device.proofs.Stored.{free_store}
-use Rattle.log_device.proofs.StoreSteps.{stored_moments, stored_kept}
+use Rattle.log_device.proofs.StoreSteps.{stored_moments, stored_kept, still_moments}
 use Rattle.log_device.proofs.device.Device.write_store.Goals as goal
 
 pub flushed-from-requires : goal.flushed-from-requires
@@ -56,7 +57,7 @@ pub returns-in-Ok-clause-any_moment : goal.returns-in-Ok-clause-any_moment
 returns-in-Ok-clause-any_moment g c told h file whole is none puts =
     stored_moments file (g.D.Disk.view c.args.self.now.disk) (g.D.Disk.view c.write_cut.new.disk) h c.args.self.now.ledger (kept_file c.args.self.now (g.D.Disk.view c.args.self.now.disk) h file is whole) whole.counted
     (g.met.D.Disk.is_true c.args.self.now.disk told) c.args.region c.args.cells none puts c.requires.served c.requires.above (c.flushed-from.result + 1) c.drawn-to.result c.next_store.result (ap (λ (n : ℕ). n + 1) c.flushed-from.ensures.number) c.drawn-to.ensures.number c.next_store.ensures.number
-    c.write_cut.ensures.store (c.write_cut.ensures.any_moment told)
+    (c.write_cut.ensures.store (λ memory. absurd (cc (sym c.in-Ok.is ∙ memory)))) (c.write_cut.ensures.any_moment told)
 
 pub returns-in-Ok-clause-flushed : goal.returns-in-Ok-clause-flushed
 returns-in-Ok-clause-flushed g c told h whole none puts =
@@ -66,7 +67,7 @@ returns-in-Ok-clause-flushed g c told h whole none puts =
       file = whole.file;
       is = whole.is;
       keeps = stored_kept whole.file u w h c.args.self.now.ledger whole.keeps whole.counted (g.met.D.Disk.is_true c.args.self.now.disk told) c.args.region c.args.cells none puts c.requires.served c.requires.above
-          (c.flushed-from.result + 1) c.drawn-to.result c.next_store.result (ap (λ (n : ℕ). n + 1) c.flushed-from.ensures.number) c.drawn-to.ensures.number c.next_store.ensures.number c.write_cut.ensures.store
+          (c.flushed-from.result + 1) c.drawn-to.result c.next_store.result (ap (λ (n : ℕ). n + 1) c.flushed-from.ensures.number) c.drawn-to.ensures.number c.next_store.ensures.number (c.write_cut.ensures.store (λ memory. absurd (cc (sym c.in-Ok.is ∙ memory))))
           c.flush.new.self.next_store c.flush.ensures.next_store (c.write_cut.ensures.any_moment told) (c.write_cut.ensures.touches told) (c.in-Ok.ensures.stored told);
       counted = subst (λ (n : ℕ). IsCounted c.flush.new.self (flushed_in h c.args.region n)) (sym c.drawn-to.ensures.number) (c.flush.ensures.counted h whole.counted none);
     }
@@ -79,12 +80,13 @@ returns-in-Ok-clause-stored g c =
 
 pub returns-in-Err-Memory-clause-any_moment : goal.returns-in-Err-Memory-clause-any_moment
 returns-in-Err-Memory-clause-any_moment g c told h file whole is none puts =
-    stored_moments file (g.D.Disk.view c.args.self.now.disk) (g.D.Disk.view c.write_cut.new.disk) h c.args.self.now.ledger (kept_file c.args.self.now (g.D.Disk.view c.args.self.now.disk) h file is whole) whole.counted
-    (g.met.D.Disk.is_true c.args.self.now.disk told) c.args.region c.args.cells none puts c.requires.served c.requires.above (c.flushed-from.result + 1) c.drawn-to.result c.next_store.result (ap (λ (n : ℕ). n + 1) c.flushed-from.ensures.number) c.drawn-to.ensures.number c.next_store.ensures.number
-    c.write_cut.ensures.store (c.write_cut.ensures.any_moment told)
+    let u = g.D.Disk.view c.args.self.now.disk in
+    let same = c.write_cut.ensures.memory (c.in-Err-Memory.is ∙ ap (λ (e : FileRefusal). Err e) c.in-Err-Memory.field-0-is) in
+    subst (λ (d : g.row.D.Denot). (bound : ℕ) × Throughout (Between h.kept file.name h.current (flushed_to h.kept c.args.region (get_or c.args.self.now.ledger.drawn c.args.region 0)) file.name h.current) bound u (g.D.Disk.view d)) (sym same)
+    (still_moments file u h c.args.self.now.ledger.next_store (kept_file c.args.self.now u h file is whole) (flushed_to h.kept c.args.region (get_or c.args.self.now.ledger.drawn c.args.region 0)) file.name h.current)
 
 pub returns-in-Err-DiskFault-clause-any_moment : goal.returns-in-Err-DiskFault-clause-any_moment
 returns-in-Err-DiskFault-clause-any_moment g c told h file whole is none puts =
     stored_moments file (g.D.Disk.view c.args.self.now.disk) (g.D.Disk.view c.write_cut.new.disk) h c.args.self.now.ledger (kept_file c.args.self.now (g.D.Disk.view c.args.self.now.disk) h file is whole) whole.counted
     (g.met.D.Disk.is_true c.args.self.now.disk told) c.args.region c.args.cells none puts c.requires.served c.requires.above (c.flushed-from.result + 1) c.drawn-to.result c.next_store.result (ap (λ (n : ℕ). n + 1) c.flushed-from.ensures.number) c.drawn-to.ensures.number c.next_store.ensures.number
-    c.write_cut.ensures.store (c.write_cut.ensures.any_moment told)
+    (c.write_cut.ensures.store (λ memory. absurd (cc (sym (c.in-Err-DiskFault.is ∙ ap (λ (e : FileRefusal). Err e) c.in-Err-DiskFault.field-0-is) ∙ memory)))) (c.write_cut.ensures.any_moment told)
