@@ -12,3 +12,4 @@ pub mod Whole
 pub mod Cut
 pub mod StoreSteps
 pub mod HighestKept
+pub mod Going

@@ -1,6 +1,7 @@
 //! One log with its numbers on one disk.
 #![tactic(auto)]
 
+mod archiving;
 mod device;
 mod error;
 mod flushing;

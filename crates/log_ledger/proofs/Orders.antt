@@ -342,3 +342,14 @@ one_fewer (c ∷ cs) file rising x has is = elim (at_either c cs x has) as (λ _
 
 pub fewer_files : (cs : List ClosedFile) (file : ℕ) → AllPairs IsBefore cs → IsClosed cs file → length (without cs file) + 1 ≡ length cs
 fewer_files cs file rising there = ∥∥₁_elim there (ℕ_set (length (without cs file) + 1) (length cs)) (λ c. one_fewer cs file rising c.0 c.1 c.2)
+
+-- there are fewer closed files than the last one's number
+few_files : (cs : List ClosedFile) (lo n : ℕ) → AllPairs IsBefore cs → ((c : ClosedFile) → Contains cs c → (lo ≤ c.file) × (c.file ≤ n)) → lo ≤ n + 1 → length cs + lo ≤ n + 1
+few_files [] lo n rising each le = omega (arith, le)
+few_files (c ∷ cs) lo n rising each le =
+    let here = each c (at_first c cs) in
+    let rest = few_files cs (c.file + 1) n (others_rising c cs rising) (λ d has. (omega (arith, before_others c cs rising d has), (each d (at_later c cs d has)).1)) (omega (arith, here.1)) in
+    omega (arith, rest, here.0)
+
+pub few_closed : (b : Books) → AreInOrder b → length b.accounts.closed ≤ b.accounts.last + 1
+few_closed b order = omega (arith, few_files b.accounts.closed 0 b.accounts.last order.rising (λ c has. (omega arith, order.files c has)) (omega arith))

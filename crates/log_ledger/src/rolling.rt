@@ -51,6 +51,8 @@ impl Ledger {
     /// The least closed file whose entries are all flushed.
     pub fn first_to_go(&self) -> Option<u64>
         ensures member { IfSome result (λ file. IsClosed self.now.accounts.closed file) }
+        ensures few { length self.now.accounts.closed ≤ self.now.accounts.last + 1 }
+        ensures small { sum self.now.drawn < 2 ^ 55 }
         ensures exact { (h : History) → IsCounted self.now h → MatchOption result (NoneMayGo h) (MayGo h) }
     {
         first_to_go(&self.accounts)
