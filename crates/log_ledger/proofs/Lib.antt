@@ -11,3 +11,4 @@ mod Cells
 mod Orders
 mod Bases
 mod Begun
+pub mod Tells

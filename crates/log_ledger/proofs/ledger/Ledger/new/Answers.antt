@@ -1,9 +1,7 @@
-use Rattle.std.proofs.Common.{◌≡◌, ◌≤◌, List, [], map, refl, sym, ◌∙◌, subst, ap}
+use Rattle.std.proofs.Common.{◌≤◌, sym, ◌∙◌, subst}
 use Rattle.std.specs.Prelude.{All, AllPairs}
 use Rattle.seq_accounting.specs.declared.region.RegionMark.{RegionMark}
-use Rattle.seq_accounting.specs.Accounts.{AreApart, AreFlushed}
-use Rattle.log_ledger.specs.Books.{Books}
-use Rattle.log_ledger.specs.Bases.{mark_of}
+use Rattle.seq_accounting.specs.Accounts.{AreApart}
 use Rattle.log_ledger.proofs.Bases.{marks_within, marks_apart}
 use Rattle.log_ledger.proofs.Begun.{begun_with, order_begun, served_begun, counted_begun}
 use Rattle.log_ledger.proofs.ledger.Ledger.new.Goals as goal

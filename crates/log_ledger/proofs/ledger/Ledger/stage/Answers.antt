@@ -1,7 +1,6 @@
-use Rattle.std.proofs.Common.{◌≡◌, [], ◌∷◌, get_or, set, ap, ◌∙◌, subst, sym}
+use Rattle.std.proofs.Common.{◌≡◌, [], ◌∷◌, get_or, set, ap, ◌∙◌, subst}
 use Rattle.log_trucks.specs.Held.{Haul, held_of}
 use Rattle.log_ledger.specs.Books.{Books, AreInOrder}
-use Rattle.log_ledger.specs.Counted.{IsCounted}
 use Rattle.log_ledger.proofs.Steps.{StagedBy}
 use Rattle.log_ledger.proofs.Staged.{counted_staged}
 use Rattle.log_ledger.proofs.Orders.{order_staged}
