@@ -31,21 +31,21 @@ pub numbers_more : (number : RegionBase → ℕ) (regions : List RegionBase) (i 
 numbers_more number regions i numbers m apart lt is within h = let wide : m.region < length numbers = (let w = h.wide in omega (arith, w, within)) in record {
   wide = length-set numbers m.region (number m) ∙ h.wide;
   named = λ k d below. ⊎_elim
-    (λ (e : k ≡ i). let here : get_or regions k d ≡ m = ap (λ (j : ℕ). get_or regions j d) e ∙ get_or_default regions i d m lt ∙ sym is in
+      (λ (e : k ≡ i). let here : get_or regions k d ≡ m = ap (λ (j : ℕ). get_or regions j d) e ∙ get_or_default regions i d m lt ∙ sym is in
       rw here (get_or-set_at numbers m.region m.region (number m) 0 refl wide))
-    (λ (ne : k ≢ i). let differ : (get_or regions k d).region ≢ m.region = λ e. apart k i d (omega arith) lt (e ∙ ap (λ (n : RegionBase). n.region) (is ∙ get_or_default regions i m d lt)) in
+      (λ (ne : k ≢ i). let differ : (get_or regions k d).region ≢ m.region = λ e. apart k i d (omega arith) lt (e ∙ ap (λ (n : RegionBase). n.region) (is ∙ get_or_default regions i m d lt)) in
       get_or-set_other numbers m.region (get_or regions k d).region (number m) 0 differ ∙ h.named k d (omega arith))
-    (cases_eq k i);
+      (cases_eq k i);
   others = λ r none.
-    let differ : r ≢ m.region = λ e. none i m (omega arith) (ap (λ (n : RegionBase). n.region) (sym is) ∙ sym e) in
-    get_or-set_other numbers m.region r (number m) 0 differ ∙ h.others r (λ k d below. none k d (omega arith));
+      let differ : r ≢ m.region = λ e. none i m (omega arith) (ap (λ (n : RegionBase). n.region) (sym is) ∙ sym e) in
+      get_or-set_other numbers m.region r (number m) 0 differ ∙ h.others r (λ k d below. none k d (omega arith));
 }
 
 pub numbers_all : (number : RegionBase → ℕ) (regions : List RegionBase) (i : ℕ) (numbers : List ℕ) → i ≡ length regions → AreNumbersTo number regions i numbers → AreNumbersOf number regions numbers
 numbers_all number regions i numbers end h = record {
   named = λ m there.
-    let below : there.0 < i = (let lt = there.1 in omega (arith, lt, end)) in
-    subst (λ (n : RegionBase). get_or numbers n.region 0 ≡ number n) there.2 (h.named there.0 m below);
+      let below : there.0 < i = (let lt = there.1 in omega (arith, lt, end)) in
+      subst (λ (n : RegionBase). get_or numbers n.region 0 ≡ number n) there.2 (h.named there.0 m below);
   others = λ r none. h.others r (λ k d below. none (get_or regions k d) (Contains-get_or regions k d (omega (arith, below, end))));
 }
 

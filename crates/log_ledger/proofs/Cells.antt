@@ -63,7 +63,7 @@ pub cells_between : {E : Type 0} (r : Result (List NumberedCell) E) (flushed dra
 cells_between r flushed drawn chain is told =
     ∥∥₁_elim is.entries (if_ok_prop r (AllByRecursion (IsBetween flushed drawn)) (AllByRecursion-prop (IsBetween flushed drawn) (λ x. hlevel (le_prop))))
     (λ es. IfOk-weaker r (λ cells. cells ≡ cells_of_all es.0) (AllByRecursion (IsBetween flushed drawn))
-      (λ cells same. subst (AllByRecursion (IsBetween flushed drawn)) (sym same) (all_between flushed drawn chain es.0 is.numbers es.1)) (told es.0 es.1))
+    (λ cells same. subst (AllByRecursion (IsBetween flushed drawn)) (sym same) (all_between flushed drawn chain es.0 is.numbers es.1)) (told es.0 es.1))
 
 pub cells_cut : {E : Type 0} (r : Result (List NumberedCell) E) (k : Kept) (region flushed drawn : ℕ) (chain : List Held) → IsChain flushed drawn chain → CarriesUnflushed k region chain → k.staged ≡ []
     → ((es : List Entry) → AreHeld chain es → IfOk r (λ cells. cells ≡ cells_of_all es)) → IfOk r (PutsCut k region drawn)

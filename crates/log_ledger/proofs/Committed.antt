@@ -60,7 +60,7 @@ counted_closed old new file h order s counted none = record {
   current = λ r. subst (λ (l : List Entry). IsHighest r l (get_or new.accounts.current r 0)) (sym none) (subst (IsHighest r []) (sym (empty r)) (highest_none r));
   logs = subst (λ (cs : List ClosedFile). AreCounted new cs (h.logs ++ record { number = file; entries = h.current } ∷ [])) (sym s.files)
       (counted_more new old.accounts.closed h.logs (record { file = file; highest = old.accounts.current }) (record { number = file; entries = h.current })
-        (counted_logs old new old.accounts.closed h.logs is_served counted.logs) the_log);
+      (counted_logs old new old.accounts.closed h.logs is_served counted.logs) the_log);
   chains = λ r served. subst (CarriesUnflushed h.kept r) (sym (same_at old.chains new.chains r [] s.chains)) (counted.chains r (was r served));
   orderly = counted.orderly;
 }
