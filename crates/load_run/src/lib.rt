@@ -5,6 +5,7 @@ mod command;
 mod gate;
 mod input;
 mod log_command;
+mod log_name;
 mod log_writing;
 mod output;
 mod put_replies;
@@ -19,5 +20,9 @@ pub use command::run;
 pub use gate::{FreeGate, Gate};
 pub use status::{Damage, Outcome, Status};
 
+#[cfg(test)]
+mod refusal_tests;
+#[cfg(test)]
+mod show_tests;
 #[cfg(test)]
 mod tests;

@@ -16,18 +16,13 @@ ghost use Rattle.load_run.specs.Logging.{log_name, entries_from, entries_in, Has
 ghost use Rattle.load_run.specs.Written.{IsBegun, IsStopped, IsWithin};
 ghost use Rattle.load_run.specs.declared.log_writing.Written.TheVariants.{Nothing, Whole};
 
-use disk_images::{Disk, Name, NameKind};
+use crate::log_name::LOG_1;
+use disk_images::Disk;
 use entry_frame::{EntryBytes, encode_entry};
 use kv_cell::NoMemory;
 use log_file::{DiskFault, LogFile, Stage};
 use script_text::{Call, Script};
 use std::alloc::Global;
-
-const LOG_1: Name = Name {
-    kind: NameKind::Log,
-    region: 0,
-    number: 1,
-};
 
 /// What the writing needs, in memory before the disk is touched.
 #[derive(Drop)]

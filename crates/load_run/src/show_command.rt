@@ -15,19 +15,14 @@ ghost use Rattle.load_run.specs.Shown.{HasShownEntries, TellsDamage, IsShowEnd, 
 ghost use Rattle.load_run.specs.Steps.{IsLogRefusal};
 ghost use Rattle.load_run.specs.Top.{Ends, IsRefusal, refusal_line, IsDamageOf, IsDamageFor, IsOrEarlier};
 
+use crate::log_name::LOG_1;
 use crate::output::{emit, refuse};
 use crate::show_text::text_of;
 use crate::status::{Damage, Status};
-use disk_images::{Disk, Name, NameKind, Sink};
+use disk_images::{Disk, Sink};
 use kv_cell::NoMemory;
 use log_file::{EntryList, ReadRefusal, read_log};
 use std::alloc::Global;
-
-const LOG_1: Name = Name {
-    kind: NameKind::Log,
-    region: 0,
-    number: 1,
-};
 
 /// Carries out `show`. It writes nothing to the disk.
 pub fn show<D: Disk, K: Sink>(alloc: Global, disk: &mut D, out: &mut K) -> Status

@@ -8,7 +8,7 @@ use std::sync::Wait;
 use std::test::Fail as TestFail;
 use std::thread::Threads;
 
-const LOG_1: Name = Name {
+pub const LOG_1: Name = Name {
     kind: NameKind::Log,
     region: 0,
     number: 1,
@@ -16,20 +16,21 @@ const LOG_1: Name = Name {
 
 const HEAD: &[u8] = b"time 1000\nregions 1\nhandlers 1\n";
 
-const ONE_PUT: &[u8] = b"time 1000\nregions 1\nhandlers 1\nput 1 1 sync 1\ncell r f q 1 put v\n";
+pub const ONE_PUT: &[u8] =
+    b"time 1000\nregions 1\nhandlers 1\nput 1 1 sync 1\ncell r f q 1 put v\n";
 
 const TWO_PUTS: &[u8] =
     b"time 1000\nregions 1\nhandlers 1\nput 1 1 sync 1\ncell r f q 1 put v\nput 1 1 sync 1\ncell r f q 1 put w\n";
 
 /// What log 1 holds behind `ONE_PUT`.
-const ONE_PUT_LOG: &[u8] = &[
+pub const ONE_PUT_LOG: &[u8] = &[
     b'H', b'W', b'L', b'1', 0, 0, 0, 1, 0, 0, 0, 0, 0, 0, 0, 1, 0xA5, 1, 0, 0, 0, 0x30, 0, 0, 0, 1,
     0, 0, 0, 0, 0, 0, 0, 1, 0, 0, 0, 0, 0, 0, 3, 0xE8, 0, 0, 0, 1, 0, 0, 0, 0x0F, 0, 0, 0, 1, 0, 1,
     b'r', 1, b'f', b'q', 0, 0, 0, 0, 0, 0, 0, 1, 4, b'v', 0,
 ];
 
 /// A call of the program where source and sink do as they are asked: its outcome and its output.
-fn call<R: Threads + Wait + Sync + AllocGlobal>(
+pub fn call<R: Threads + Wait + Sync + AllocGlobal>(
     rt: &R,
     word: &str,
     script: &[u8],
@@ -50,7 +51,7 @@ fn call<R: Threads + Wait + Sync + AllocGlobal>(
 }
 
 /// A disk with these bytes as log 1.
-fn disk_of(rt: &HostRuntime, bytes: &[u8]) -> Result<MemDisk, TestFail>
+pub fn disk_of(rt: &HostRuntime, bytes: &[u8]) -> Result<MemDisk, TestFail>
     requires { 0 < length bytes.now }
 {
     let mut disk = MemDisk::new(rt.alloc(), &[])?;
@@ -128,7 +129,7 @@ fn second_read_fails(rt: HostRuntime) -> Result<(), TestFail> {
     Ok(())
 }
 
-const NOTHING: &[u8] = b"refused disk\n";
+pub const NOTHING: &[u8] = b"refused disk\n";
 
 const FIRST: &[u8] = b"reply 1 1 put fault 1\nreply 1 2 put fault\nend 5\n";
 

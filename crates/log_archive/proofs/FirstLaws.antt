@@ -22,15 +22,15 @@ none_more a after file none next stays c there given below lower = ⊎_elim
 -- the next one may go
 pub first_found : (a : Accounts) (after file : ℕ) → AreGiven a → NoneUpTo a after → (next : IsNextClosed a.closed after file) → IsFlushedFile a next.which → IsFirstToGo a file
 first_found a after file given none next lower = record {
-    which = next.which;
-    there = next.there;
-    named = next.named;
-    lower = lower;
-    least = λ c there low. ⊎_elim
+  which = next.which;
+  there = next.there;
+  named = next.named;
+  lower = lower;
+  least = λ c there low. ⊎_elim
       (λ (lt : after < c.file). next.least c there lt)
       (λ (le : c.file ≤ after). absurd (none c there (given c there) le low))
       (cases_lt after c.file);
-  }
+}
 
 pub none_left : (a : Accounts) (after : ℕ) → AreGiven a → NoneUpTo a after → NoneClosedAbove a.closed after → NoneToGo a
 none_left a after given none end c there lower = none c there (given c there) (end c there) lower

@@ -4,3 +4,6 @@
 mod first;
 
 pub use first::first_to_go;
+
+#[cfg(test)]
+mod tests;

@@ -12,3 +12,4 @@ mod Orders
 mod Bases
 mod Begun
 pub mod Tells
+pub mod DrawnSums

@@ -5,7 +5,7 @@ ghost use Rattle.std.specs.List.{AllByRecursion};
 ghost use Rattle.log_model.specs.Entry.{Entry};
 ghost use Rattle.seq_accounting.specs.Accounts.{SameFiles};
 ghost use Rattle.log_ledger.specs.History.{History, flushed_in};
-ghost use Rattle.log_ledger.specs.Books.{IsServed};
+ghost use Rattle.log_ledger.specs.Books.{IsServed, AreInOrder};
 ghost use Rattle.log_ledger.specs.Counted.{IsCounted, IsHighestKept, PutsCut};
 
 use crate::ledger::Ledger;
@@ -16,6 +16,7 @@ impl Ledger {
     /// Whether an entry of the region isn't flushed.
     pub fn has_unflushed(&self, region: u32) -> bool
         requires { IsServed self.now region }
+        ensures order { AreInOrder self.now }
         ensures above { IsTrue result ↔ (get_or self.now.accounts.flushed region 0 < get_or self.now.drawn region 0) }
         ensures none { (h : History) → IsCounted self.now h → result ≡ false → (e : Entry) → Contains (h.kept.durable ++ h.kept.staged) e → e.region ≡ region → e.number ≤ h.kept.flushed region }
         ensures highest { (h : History) → IsCounted self.now h → h.kept.staged ≡ [] → result ≡ true → IsHighestKept h.kept region (get_or self.now.drawn region 0) }

@@ -1,6 +1,6 @@
 //! Log files that are closed, and those that may go.
 
-ghost use Rattle.std.specs.Prelude.{◌≡◌, ◌+◌, ◌<◌, ◌≤◌, [], length, OnOk, IfSome, MatchOption};
+ghost use Rattle.std.specs.Prelude.{◌≡◌, ◌+◌, ◌<◌, ◌≤◌, ◌^◌, [], length, sum, OnOk, IfSome, MatchOption};
 ghost use Rattle.seq_accounting.specs.Accounts.{IsClosed};
 ghost use Rattle.log_ledger.specs.History.{History, closed_in, archived_in};
 ghost use Rattle.log_ledger.specs.Books.{SameRegions};
@@ -17,6 +17,7 @@ impl Ledger {
         ensures ok { OnOk result (1 ≤ self.new.accounts.room) }
         ensures same { self.new ≡ record self.old { accounts = record self.old.accounts { room = self.new.accounts.room } } }
         ensures room { self.old.accounts.room ≤ self.new.accounts.room }
+        ensures small { sum self.old.drawn < 2 ^ 55 }
     {
         match self.accounts.reserve_file() {
             Ok(()) => Ok(()),

@@ -1,6 +1,6 @@
 //! What is staged and committed.
 
-ghost use Rattle.std.specs.Prelude.{◌≡◌, ◌<◌, [], get_or, slice_set};
+ghost use Rattle.std.specs.Prelude.{◌≡◌, ◌+◌, ◌<◌, ◌≤◌, [], get_or, slice_set, sum};
 ghost use Rattle.log_model.specs.Entry.{Entry, IsEntry, entry_frame};
 ghost use Rattle.seq_accounting.specs.Accounts.{SameFiles};
 ghost use Rattle.log_ledger.specs.History.{History, staged_in, committed_in};
@@ -19,6 +19,7 @@ impl Ledger {
         requires above { get_or self.old.drawn truck.value.region 0 < truck.value.number }
         ensures counted { (h : History) (e : Entry) → IsCounted self.old h → IsEntry e → truck.value.bytes ≡ entry_frame e → e.region ≡ truck.value.region → e.number ≡ truck.value.number → IsCounted self.new (staged_in h e) }
         ensures drawn { self.new.drawn ≡ slice_set self.old.drawn truck.value.region truck.value.number }
+        ensures grows { sum self.old.drawn + 1 ≤ sum self.new.drawn }
         ensures synced { self.new.synced ≡ self.old.synced }
         ensures stored { self.new.stored ≡ self.old.stored }
         ensures closed { self.new.closed ≡ self.old.closed }

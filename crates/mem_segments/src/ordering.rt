@@ -1,7 +1,9 @@
 //! Rows put in order, by halves.
 
-ghost use Rattle.std.specs.Prelude.{◌≡◌, IfOk};
+ghost use Rattle.std.specs.Prelude.{◌≡◌, IfOk, OnOk};
+ghost use Rattle.std.specs.List.{AllByRecursion};
 ghost use Rattle.std.specs.FinMap.{empty};
+ghost use Rattle.cell_model.specs.Cell.{IsCell};
 ghost use Rattle.cell_model.specs.Merge.{IsRising, content_of, put_numbered};
 
 use crate::merging::{merge_rows, share_all};
@@ -11,7 +13,8 @@ use std::alloc::Global;
 
 /// The cells as rows, in the order in which they were given.
 pub(crate) fn numbered_rows(alloc: Global, cells: NumberedCells) -> Result<Vec<Row>, NoMemory>
-    ensures { IfOk result (λ rows. rows.items ≡ cells) }
+    ensures rows { IfOk result (λ rows. rows.items ≡ cells) }
+    ensures within { OnOk result (AllByRecursion (λ x. IsCell x.1) cells) }
 {
     let mut rows = Vec::new(alloc);
     for (number, cell) in cells.into_vec() {

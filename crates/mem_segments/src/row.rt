@@ -1,6 +1,7 @@
 //! A numbered cell that several segments share.
 
 ghost use Rattle.std.specs.Prelude.{◌≡◌, IfOk};
+ghost use Rattle.cell_model.specs.Cell.{IsCell};
 ghost use Rattle.cell_model.specs.Order.{numbered_cmp};
 ghost use Rattle.mem_segments.specs.Walk.{is_before};
 
@@ -29,8 +30,10 @@ impl Model for Row {
 impl Row {
     /// A row of its own.
     pub fn new(alloc: Global, number: u64, cell: Cell) -> Result<Row, NoMemory>
-        ensures { IfOk result (λ row. row ≡ (number, cell)) }
+        ensures row { IfOk result (λ row. row ≡ (number, cell)) }
+        ensures within { IsCell cell }
     {
+        let _within = &cell.row;
         Ok(Row {
             number,
             cell: Arc::new(alloc, cell)?,

@@ -1,7 +1,9 @@
 //! Numbered cells strictly in order.
 
-ghost use Rattle.std.specs.Prelude.{◌≡◌, ◌↔◌, IfOk, IsTrue};
+ghost use Rattle.std.specs.Prelude.{◌≡◌, ◌↔◌, IfOk, OnOk, IsTrue};
+ghost use Rattle.std.specs.List.{AllByRecursion};
 ghost use Rattle.std.specs.FinMap.{empty, len};
+ghost use Rattle.cell_model.specs.Cell.{IsCell};
 ghost use Rattle.cell_model.specs.Order.{cells_of, put_cells};
 ghost use Rattle.cell_model.specs.Merge.{put_numbered};
 
@@ -68,7 +70,8 @@ impl Segment {
     /// The cells in order. Of two with one key and number the later one of the list stays. It takes a time of
     /// n log n.
     pub fn of_cells(alloc: Global, cells: NumberedCells) -> Result<Segment, NoMemory>
-        ensures { IfOk result (λ segment. segment ≡ put_numbered empty cells) }
+        ensures content { IfOk result (λ segment. segment ≡ put_numbered empty cells) }
+        ensures within { OnOk result (AllByRecursion (λ x. IsCell x.1) cells) }
     {
         let rows = numbered_rows(alloc, cells)?;
         let rows = ordered_rows(alloc, &rows)?;

@@ -25,4 +25,6 @@ pub use script::{Call, CallList, HandlerList, Script};
 pub use script_model::Command;
 
 #[cfg(test)]
+mod limit_tests;
+#[cfg(test)]
 mod tests;

@@ -4,13 +4,35 @@ use std::alloc::Global;
 use std::process::Abort;
 use std::test::*;
 
-const HEAD: &str = "time 1000\nregions 2\nhandlers 2\n";
+pub const HEAD: &str = "time 1000\nregions 2\nhandlers 2\n";
 
 const PUT: &str = "time 1000\nregions 2\nhandlers 2\nput 1 1 sync 1\n";
 
-const LOG: &str = "time 1000\nregions 1\nhandlers 1\n";
+pub const LOG: &str = "time 1000\nregions 1\nhandlers 1\n";
 
-const LOG_PUT: &str = "time 1000\nregions 1\nhandlers 1\nput 1 1 sync 1\n";
+pub const LOG_PUT: &str = "time 1000\nregions 1\nhandlers 1\nput 1 1 sync 1\n";
+
+/// Lines that are wrong as the first, second and third, each with its cause. For `log` there is one region and one
+/// handler.
+const WRONG_TIMES: &str = "\
+word:regions x
+word:time x 1
+number:time x
+number:time 9223372036854775807";
+
+const WRONG_REGIONS: &str = "\
+word:time x
+word:regions
+number:regions 65
+number:regions 0
+not-here:regions 2";
+
+const WRONG_HANDLERS: &str = "\
+word:put 1 1 sync 1
+number:handlers -
+number:handlers 17
+number:handlers 0
+not-here:handlers 2";
 
 /// Lines that are wrong behind the head lines, each with its cause.
 const WRONG_CALLS: &str = "\
@@ -21,10 +43,16 @@ word: # no comment
 word:put 1 1 late 1
 number:roll +1
 number:roll 18446744073709551616
+number:roll 000000000000000000001
+number:put 1 1 sync x
 token:scan 1 1 a%4 -
+token:scan 1 1 - a%
 region:flush 1 3
+region:flush 1 0
 handler:roll 3
+handler:roll 0
 count:put 1 1 sync 1025
+count:put 1 1 sync 0
 count:cell r f q 1 put v";
 
 /// Lines that are wrong where a cell is due.
@@ -43,14 +71,26 @@ const TWICE_WRONG_CALLS: &str = "\
 word:put 2 2 late
 number:put x 2 late 0
 handler:put 2 x late 0
+number:put 1 x late 0
 region:put 1 2 late 0
 word:put 1 1 late x
+word:put 1 1 late 0
+number:put 1 1 async x
 count:put 1 1 async 0
 not-here:put 1 1 async 1
+number:scan x 2 % %
+handler:scan 2 x % %
+number:scan 1 x % %
 region:scan 1 2 % -
+token:scan 1 1 % -
 token:scan 1 1 - %
 not-here:scan 1 1 - -
 handler:flush 2 2
+region:flush 1 2
+not-here:flush 1 1
+word:roll x 1
+number:roll x
+handler:roll 2
 not-here:roll 1
 count:cell r";
 
@@ -59,7 +99,10 @@ const TWICE_WRONG_CELLS: &str = "\
 count:merge
 word:cell - - % x merge
 token:cell %g - % x merge %
+cell-1:cell - % % x merge %
+token:cell r % % x merge %
 cell-2:cell r - % x merge %
+token:cell r f % x merge %
 number:cell r f q x merge %
 cell-5:cell r f q 9300000000000000000 merge %
 cell-6:cell r f q 1 merge %
@@ -83,22 +126,13 @@ flush 1 1
 roll 2
 scan 2 2 k1 k%32";
 
-/// One byte, repeated.
-fn repeated(alloc: Global, byte: u8, count: usize) -> Result<Vec<u8>, Fail> {
-    let mut bytes = Vec::new(alloc);
-    for _ in 0..count {
-        bytes.push(byte)?;
-    }
-    Ok(bytes)
-}
-
 /// The script that a text is.
 fn parsed(alloc: Global, text: &str) -> Result<Script, Fail> {
     Ok(parse_script(alloc, text.as_bytes(), Command::Run)?)
 }
 
 /// The fault of a text of two parts, where it has one.
-fn fault(
+pub fn fault(
     alloc: Global,
     front: &str,
     rest: &[u8],
@@ -137,28 +171,14 @@ fn each_cause_where_it_comes_first(rt: HostRuntime) -> Result<(), Fail> {
     let alloc = rt.alloc();
     assert_refused(&rt, alloc, HEAD, 4, WRONG_CALLS, Command::Run)?;
     assert_refused(&rt, alloc, PUT, 5, WRONG_CELLS, Command::Run)?;
+    assert_refused(&rt, alloc, "", 1, WRONG_TIMES, Command::Run)?;
+    assert_refused(&rt, alloc, "time 1\n", 2, WRONG_REGIONS, Command::Log)?;
     assert_refused(
         &rt,
         alloc,
-        "",
-        1,
-        "word:regions 1\nnumber:time 9223372036854775807",
-        Command::Run,
-    )?;
-    assert_refused(
-        &rt,
-        alloc,
-        "time 1\n",
-        2,
-        "number:regions 65\nnumber:regions 0",
-        Command::Run,
-    )?;
-    assert_refused(
-        &rt,
-        alloc,
-        "time 1\n",
-        2,
-        "not-here:regions 2",
+        "time 1\nregions 1\n",
+        3,
+        WRONG_HANDLERS,
         Command::Log,
     )?;
     assert_refused(&rt, alloc, "# one\n\n  \n", 4, "word:cell", Command::Run)?;
@@ -188,62 +208,6 @@ fn end_of_a_text(rt: HostRuntime) -> Result<(), Fail> {
         Some((5, ScriptWhy::Count))
     );
     assert_eq!(rt; fault(alloc, LOG, b"", Command::Log)?, None);
-    Ok(())
-}
-
-#[test]
-fn one_byte_past_a_limit(rt: HostRuntime) -> Result<(), Fail> {
-    let alloc = rt.alloc();
-    let mut line = Vec::from_slice(alloc, b"cell ")?;
-    line.extend_from_slice(repeated(alloc, b'r', 32_768)?.as_slice())?;
-    line.extend_from_slice(b" f q 1 put v")?;
-    assert_eq!(rt;
-        fault(alloc, PUT, line.as_slice(), Command::Run)?,
-        Some((5, ScriptWhy::Cell(CellField::Row)))
-    );
-    line.remove(5);
-    assert_eq!(rt; fault(alloc, PUT, line.as_slice(), Command::Run)?, None);
-    let mut comment = repeated(alloc, b'#', 524_289)?;
-    assert_eq!(rt;
-        fault(alloc, HEAD, comment.as_slice(), Command::Run)?,
-        Some((4, ScriptWhy::TooLong))
-    );
-    comment.pop();
-    assert_eq!(rt; fault(alloc, HEAD, comment.as_slice(), Command::Run)?, None);
-    let mut lines = repeated(alloc, b'\n', 16_777_217)?;
-    assert_eq!(rt;
-        fault(alloc, "", lines.as_slice(), Command::Run)?,
-        Some((0, ScriptWhy::TooLong))
-    );
-    lines.pop();
-    assert_eq!(rt;
-        fault(alloc, "", lines.as_slice(), Command::Run)?,
-        Some((16_777_217, ScriptWhy::Word))
-    );
-    Ok(())
-}
-
-/// Appends the line of a cell.
-fn push_cell(lines: &mut Vec<u8>, kind: &[u8], value: &[u8]) -> Result<(), Fail> {
-    lines.extend_from_slice(b"cell r f q 1 ")?;
-    lines.extend_from_slice(kind)?;
-    lines.extend_from_slice(b" ")?;
-    lines.extend_from_slice(value)?;
-    lines.extend_from_slice(b"\n")?;
-    Ok(())
-}
-
-#[test]
-fn sixteenth_cell_passes_the_length_of_an_entry(rt: HostRuntime) -> Result<(), Fail> {
-    let alloc = rt.alloc();
-    let mut lines = Vec::from_slice(alloc, b"put 1 1 sync 16\n")?;
-    let value = repeated(alloc, b'v', 65_536)?;
-    for _ in 0..15 {
-        push_cell(&mut lines, b"put", value.as_slice())?;
-    }
-    push_cell(&mut lines, b"delete", value.as_slice())?;
-    let told = fault(alloc, LOG, lines.as_slice(), Command::Log)?;
-    assert_eq!(rt; told, Some((20, ScriptWhy::EntryLength)));
     Ok(())
 }
 

@@ -1,5 +1,5 @@
 -- Places in a list of closed files.
-use Rattle.std.proofs.Common.{◌≡◌, ◌≢◌, ℕ, ◌<◌, ◌≤◌, ◌⊎◌, inl, inr, ⊎_elim, true, false, leb, ltb, leb-true, leb-false, ltb-true, ltb-false, List, length, get_or, Contains, refl, ap, ◌∙◌, arith}
+use Rattle.std.proofs.Common.{◌≡◌, ◌≢◌, ℕ, ◌<◌, ◌≤◌, inl, inr, ⊎_elim, true, false, leb, ltb, leb-true, leb-false, ltb-true, ltb-false, List, length, get_or, Contains, refl, ap, ◌∙◌, arith}
 use Rattle.std.proofs.Props.{props}
 use Rattle.std.specs.Prelude.{AllPairs}
 use Rattle.std.specs.List.Sorted.{IsPartitionPoint, IsNonDecreasingBy}
@@ -27,22 +27,22 @@ place_found closed file place rising point found =
     record {
       there = omega arith;
       named = λ d. ⊎_elim
-        (λ (e : place ≡ at). ap (λ (k : ℕ). (get_or closed k d).file) e ∙ ap (λ (c : ClosedFile). c.file) (get_or_default closed at d which within) ∙ named)
-        (λ (ne : place ≢ at).
+          (λ (e : place ≡ at). ap (λ (k : ℕ). (get_or closed k d).file) e ∙ ap (λ (c : ClosedFile). c.file) (get_or_default closed at d which within) ∙ named)
+          (λ (ne : place ≢ at).
           let before = rising place at which (omega arith) within in
           let high = ltb-false _ _ (point.1 place which (omega arith) (omega arith)) in
           absurd (omega arith))
-        (cases_eq place at);
+          (cases_eq place at);
     }
 
 pub place_next : (closed : List ClosedFile) (after place : ℕ) → place ≤ length closed
     → IsPartitionPoint (λ (c : ClosedFile). leb c.file after ≡ true) (λ (c : ClosedFile). leb c.file after ≡ false) closed place
     → IsPlaceAbove closed after place
 place_next closed after place within point = record {
-    within = within;
-    below = λ k d lt. leb-true _ _ (point.0 k d (omega arith) lt);
-    above = λ k d le lt. leb-false _ _ (point.1 k d le lt);
-  }
+  within = within;
+  below = λ k d lt. leb-true _ _ (point.0 k d (omega arith) lt);
+  above = λ k d le lt. leb-false _ _ (point.1 k d le lt);
+}
 
 -- the file at that place is the least above the number
 pub next_there : (closed : List ClosedFile) (after place : ℕ) (next : ClosedFile) → AllPairs IsBefore closed → IsPlaceAbove closed after place
@@ -55,15 +55,15 @@ next_there closed after place next rising at lt is =
       named = refl;
       above = let high = at.above place next (omega arith) lt in omega arith;
       least = λ c there up.
-        let same = ap (λ (c : ClosedFile). c.file) there.2 in
-        let within : there.0 < length closed = there.1 in
-        elim (cases_lt there.0 place) [
-          inr le ↦ (⊎_elim
-            (λ (e : place ≡ there.0). let one = ap (λ (k : ℕ). (get_or closed k c).file) e in let two = ap (λ (d : ClosedFile). d.file) (get_or_default closed place next c lt) in omega arith)
-            (λ (ne : place ≢ there.0). let before = rising place there.0 c (omega arith) within in let two = ap (λ (d : ClosedFile). d.file) (get_or_default closed place next c lt) in omega arith)
-            (cases_eq place there.0))
-          | inl below ↦ (let low = at.below there.0 c below in absurd (omega arith))
-        ];
+          let same = ap (λ (c : ClosedFile). c.file) there.2 in
+          let within : there.0 < length closed = there.1 in
+          elim (cases_lt there.0 place) [
+            | inr le ↦ (⊎_elim
+                (λ (e : place ≡ there.0). let one = ap (λ (k : ℕ). (get_or closed k c).file) e in let two = ap (λ (d : ClosedFile). d.file) (get_or_default closed place next c lt) in omega arith)
+                (λ (ne : place ≢ there.0). let before = rising place there.0 c (omega arith) within in let two = ap (λ (d : ClosedFile). d.file) (get_or_default closed place next c lt) in omega arith)
+                (cases_eq place there.0))
+            | inl below ↦ (let low = at.below there.0 c below in absurd (omega arith))
+          ];
     }
 
 -- there is none above the number
@@ -84,9 +84,9 @@ place_one closed file place c d rising here there named =
     let same = ap (λ (e : ClosedFile). e.file) there.2 in
     let one = here.named c in
     elim (cases_lt at place) [
-      inr le ↦ (⊎_elim
-        (λ (e : place ≡ at). ap (λ (k : ℕ). get_or closed k d) e ∙ get_or_default closed at d c within ∙ there.2)
-        (λ (ne : place ≢ at). let before = rising place at c (omega arith) within in absurd (omega arith))
-        (cases_eq place at))
+      | inr le ↦ (⊎_elim
+          (λ (e : place ≡ at). ap (λ (k : ℕ). get_or closed k d) e ∙ get_or_default closed at d c within ∙ there.2)
+          (λ (ne : place ≢ at). let before = rising place at c (omega arith) within in absurd (omega arith))
+          (cases_eq place at))
       | inl below ↦ (let before = rising at place c below here.there in absurd (omega arith))
     ]

@@ -3,6 +3,7 @@
 ghost use Rattle.std.specs.Prelude.{◌≡◌, ℕ, ◌+◌, ◌-◌, ◌<◌, ◌≤◌, ◌↔◌, List, [], ◌∷◌, ◌++◌, length, replicate, slice_set, get_or, All, AllPairs, Contains, IsTrue, IsNone, IfOk, OnOk, OnErr, MatchOption};
 ghost use Rattle.seq_accounting.specs.Accounts.{ClosedFile, AreLower, IsClosed, without, NoneClosedAbove, IsNextClosed, AreApart, AreFlushed, SameNumbers, SameFiles};
 ghost use Rattle.seq_accounting.specs.Noted.{Note, NoneAbove, IsLeastAbove, HasNoted};
+ghost use Rattle.seq_accounting.specs.Order.{IsInOrder};
 
 use crate::closed::{FileMark, place_above, place_of};
 use crate::error::NoMemory;
@@ -29,15 +30,16 @@ pub struct Accounting {
 }
 
 impl Model for Accounting {
-    ghost use Rattle.std.specs.Prelude.{◌-◌, vec_len, vec_capacity};
     ghost use Rattle.seq_accounting.specs.Accounts.{Accounts};
-    ghost use Rattle.seq_accounting.specs.Order.{IsInOrder};
 
     ghost Value = { Accounts };
 
-    ghost view = { λ a. record { flushed = a.flushed; noted = a.noted; flushing = a.flushing; oldest = a.oldest; since = a.since; current = a.current; closed = a.closed.items; last = a.last; room = vec_capacity a.closed - vec_len a.closed } };
+    ghost use Rattle.seq_accounting.specs.Order.{IsInOrder};
+    ghost use Rattle.seq_accounting.specs.View.{accounts_of};
 
-    ghost invariant = { λ a. IsInOrder (record { flushed = a.flushed; noted = a.noted; flushing = a.flushing; oldest = a.oldest; since = a.since; current = a.current; closed = a.closed.items; last = a.last; room = vec_capacity a.closed - vec_len a.closed }) };
+    ghost view = { accounts_of };
+
+    ghost invariant = { λ a. IsInOrder (accounts_of a) };
 }
 
 impl Accounting {
@@ -55,6 +57,7 @@ impl Accounting {
         ensures closed { IfOk result (λ a. a.closed ≡ []) }
         ensures last { IfOk result (λ a. a.last ≡ 0) }
         ensures history { IfOk result (λ a. HasNoted a []) }
+        ensures order { IfOk result IsInOrder }
     {
         let closed = Vec::with_capacity(alloc, FIRST_ROOM)?;
         let flushed = flushed_by(regions);
@@ -80,6 +83,7 @@ impl Accounting {
         ensures flushing { self.new.flushing ≡ self.old.flushing }
         ensures files { SameFiles self.old self.new }
         ensures history { (notes : List Note) → HasNoted self.old notes → HasNoted self.new (notes ++ record { region = region; number = number } ∷ []) }
+        ensures order { IsInOrder self.new }
     {
         let place = region as usize;
         self.since[place] = first_since(self.flushing[place], self.since[place], number);
@@ -95,6 +99,7 @@ impl Accounting {
         ensures same { self.new ≡ record self.old { room = self.new.room } }
         ensures room { self.old.room ≤ self.new.room }
         ensures history { (notes : List Note) → HasNoted self.old notes → HasNoted self.new notes }
+        ensures order { IsInOrder self.new }
     {
         Ok(self.closed.reserve(1)?)
     }
@@ -110,6 +115,7 @@ impl Accounting {
         ensures room { self.new.room + 1 ≡ self.old.room }
         ensures numbers { SameNumbers self.old self.new }
         ensures history { (notes : List Note) → HasNoted self.old notes → HasNoted self.new notes }
+        ensures order { IsInOrder self.new }
     {
         self.closed.push_reserved(FileMark::new(file, self.current));
         self.current = NOTHING;
@@ -129,6 +135,7 @@ impl Accounting {
         ensures current { self.new.current ≡ self.old.current }
         ensures files { SameFiles self.old self.new }
         ensures history { (notes : List Note) → HasNoted self.old notes → HasNoted self.new notes }
+        ensures order { IsInOrder self.new }
     {
         self.flushing[region as usize] = number;
         Flushing::of(region, number)
@@ -143,6 +150,7 @@ impl Accounting {
         ensures current { self.new.current ≡ self.old.current }
         ensures files { SameFiles self.old self.new }
         ensures history { (notes : List Note) → HasNoted self.old notes → HasNoted self.new notes }
+        ensures order { IsInOrder self.new }
     {
         let (region, number) = flushing.spend();
         let place = region as usize;
@@ -161,6 +169,7 @@ impl Accounting {
         ensures current { self.new.current ≡ self.old.current }
         ensures files { SameFiles self.old self.new }
         ensures history { (notes : List Note) → HasNoted self.old notes → HasNoted self.new notes }
+        ensures order { IsInOrder self.new }
     {
         let (region, _number) = flushing.spend();
         let place = region as usize;
@@ -215,13 +224,14 @@ impl Accounting {
         ensures room { self.old.room ≤ self.new.room }
         ensures numbers { SameNumbers self.old self.new }
         ensures history { (notes : List Note) → HasNoted self.old notes → HasNoted self.new notes }
+        ensures order { IsInOrder self.new }
     {
         self.closed.retain(|c| c.file() != file);
     }
 
     /// The least closed file above this number, by a binary search. Files are numbered from 1, so 0 begins.
     pub fn next_closed(&self, after: u64) -> Option<u64>
-        ensures given { (c : ClosedFile) → Contains self.now.closed c → 1 ≤ c.file }
+        ensures order { IsInOrder self.now }
         ensures next { MatchOption result (NoneClosedAbove self.now.closed after) (λ file. IsNextClosed self.now.closed after file) }
     {
         match self.closed.get(place_above(&self.closed, after)) {

@@ -6,10 +6,10 @@ use Rattle.seq_accounting.proofs.numbers.flushed_by.Goals as goal
 
 pub loop-mark-init : goal.loop-mark-init
 loop-mark-init c = record {
-    wide = refl;
-    marked = λ k d none. absurd (omega arith);
-    others = λ r none. nothing 65 r;
-  }
+  wide = refl;
+  marked = λ k d none. absurd (omega arith);
+  others = λ r none. nothing 65 r;
+}
 
 pub loop-mark-preserved : goal.loop-mark-preserved
 loop-mark-preserved c =

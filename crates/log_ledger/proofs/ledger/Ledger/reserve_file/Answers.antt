@@ -2,6 +2,7 @@ use Rattle.std.proofs.Common.{subst, sym}
 use Rattle.seq_accounting.specs.Accounts.{Accounts}
 use Rattle.log_ledger.specs.Books.{Books, AreInOrder}
 use Rattle.log_ledger.specs.Counted.{IsCounted}
+use Rattle.log_ledger.proofs.DrawnSums.{drawn_small}
 use Rattle.log_ledger.proofs.Committed.{counted_room}
 use Rattle.log_ledger.proofs.Orders.{order_room}
 use Rattle.log_ledger.proofs.ledger.Ledger.reserve_file.Goals as goal
@@ -32,3 +33,6 @@ returns-clause-counted c h counted =
     } in
     subst (λ (a : Accounts). IsCounted (record b { accounts = a }) h) (sym c.reserve_file.ensures.same)
     (counted_room b c.reserve_file.new.self.room h (subst (λ (x : Books). IsCounted x h) (sym c.self.view_is) counted))
+
+pub returns-clause-small : goal.returns-clause-small
+returns-clause-small c = drawn_small c.args.self.now (subst AreInOrder c.self.view_is c.self.invariant)

@@ -1,6 +1,8 @@
-use Rattle.std.proofs.Common.{◌≡◌, [], ◌∷◌, get_or, set, ap, ◌∙◌, subst}
+use Rattle.std.proofs.Common.{◌≡◌, ◌+◌, ◌≤◌, ℕ, List, [], ◌∷◌, get_or, set, ap, ◌∙◌, subst, sym}
 use Rattle.log_trucks.specs.Held.{Haul, held_of}
 use Rattle.log_ledger.specs.Books.{Books, AreInOrder}
+use Rattle.std.specs.Prelude.{sum}
+use Rattle.log_ledger.proofs.DrawnSums.{drawn_grow}
 use Rattle.log_ledger.proofs.Steps.{StagedBy}
 use Rattle.log_ledger.proofs.Staged.{counted_staged}
 use Rattle.log_ledger.proofs.Orders.{order_staged}
@@ -44,3 +46,8 @@ invariant_of-self c =
 pub returns-clause-counted : goal.returns-clause-counted
 returns-clause-counted c h e counted is bytes region number =
     counted_staged c.args.self.now (after c) c.args.truck.value h e (subst AreInOrder c.self.view_is c.self.invariant) (staged c) c.requires.served c.requires.above counted is bytes region number
+
+pub returns-clause-grows : goal.returns-clause-grows
+returns-clause-grows c =
+    subst (λ (xs : List ℕ). sum c.args.self.now.drawn + 1 ≤ sum xs) (sym (staged c).drawn)
+    (drawn_grow c.args.self.now c.args.truck.value.region c.args.truck.value.number (subst AreInOrder c.self.view_is c.self.invariant) c.requires.served c.requires.above)

@@ -20,3 +20,6 @@ invariant_of-self c =
       rising = rw (c.push_reserved.ensures.items, c.new.ensures) (rising_closed _ new order above);
       files = rw (c.push_reserved.ensures.items, c.new.ensures) (files_closed _ new order c.requires.given above refl);
     }
+
+pub returns-clause-order : goal.returns-clause-order
+returns-clause-order c = invariant_of-self c

@@ -26,3 +26,6 @@ pub returns-clause-closed : goal.returns-clause-closed
 returns-clause-closed c =
     let kept = filter_same _ (λ (f : ClosedFile). not (f.file == c.args.file)) _ (λ x b f' k. search rules) _ _ c.retain.ensures.filtered in
     kept ∙ ap (λ (a : Accounts). without a.closed c.args.file) c.self.view_is
+
+pub returns-clause-order : goal.returns-clause-order
+returns-clause-order c = invariant_of-self c

@@ -14,3 +14,6 @@ invariant_of-result c =
 
 pub returns-clause-history : goal.returns-clause-history
 returns-clause-history c = noted_nothing _ (nothing 65) (nothing 65)
+
+pub returns-clause-order : goal.returns-clause-order
+returns-clause-order c = invariant_of-result c

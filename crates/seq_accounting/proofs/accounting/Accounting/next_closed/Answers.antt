@@ -1,4 +1,4 @@
-use Rattle.std.proofs.Common.{Contains, subst, sym}
+use Rattle.std.proofs.Common.{subst, sym}
 use Rattle.seq_accounting.specs.Accounts.{Accounts, IsNextClosed}
 use Rattle.seq_accounting.proofs.FileLaws.{next_there}
 use Rattle.seq_accounting.proofs.accounting.Accounting.next_closed.Goals as goal
@@ -8,10 +8,4 @@ returns-in-Some-clause-next c =
     let found = rw c.deref.ensures.value at c.in-Some.ensures.lookup in
     let place = rw c.deref-2.ensures.value at c.place_above.ensures in
     rw c.file.ensures (subst (λ (a : Accounts). IsNextClosed a.closed c.args.after c.in-Some.next.now.file) c.self.view_is
-      (next_there _ c.args.after c.place_above.result c.in-Some.next.now c.self.invariant.rising place found.3.0 (sym found.1)))
-
-pub returns-in-Some-clause-given : goal.returns-in-Some-clause-given
-returns-in-Some-clause-given c f there = (c.self.invariant.files f (subst (λ (a : Accounts). Contains a.closed f) (sym c.self.view_is) there)).given
-
-pub returns-in-None-clause-given : goal.returns-in-None-clause-given
-returns-in-None-clause-given c f there = (c.self.invariant.files f (subst (λ (a : Accounts). Contains a.closed f) (sym c.self.view_is) there)).given
+    (next_there _ c.args.after c.place_above.result c.in-Some.next.now c.self.invariant.rising place found.3.0 (sym found.1)))

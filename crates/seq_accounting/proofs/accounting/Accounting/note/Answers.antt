@@ -20,4 +20,7 @@ returns-clause-history c notes h =
     let above = subst (λ (a : Accounts). get_or a.noted c.args.region 0 < c.args.number) (sym c.self.view_is) c.requires.above in
     let before = subst (λ (a : Accounts). HasNoted a notes) (sym c.self.view_is) h in
     noted_more _ _ notes (record { region = c.args.region; number = c.args.number }) c.first_of.result c.first_since.result c.self.invariant c.requires.region above refl refl refl refl refl
-      c.first_of.ensures.none c.first_of.ensures.some c.first_since.ensures.none c.first_since.ensures.some before
+    c.first_of.ensures.none c.first_of.ensures.some c.first_since.ensures.none c.first_since.ensures.some before
+
+pub returns-clause-order : goal.returns-clause-order
+returns-clause-order c = invariant_of-self c

@@ -17,3 +17,6 @@ pub returns-clause-history : goal.returns-clause-history
 returns-clause-history c notes h =
     let before = subst (λ (a : Accounts). HasNoted a notes) (sym c.self.view_is) h in
     noted_same _ _ notes refl refl refl refl refl before
+
+pub returns-clause-order : goal.returns-clause-order
+returns-clause-order c = invariant_of-self-2 c

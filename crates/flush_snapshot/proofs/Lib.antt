@@ -1,0 +1,4 @@
+pub mod Going
+pub mod Cuts
+pub mod Holds
+pub mod Moments

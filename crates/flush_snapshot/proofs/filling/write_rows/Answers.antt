@@ -1,0 +1,15 @@
+use Rattle.std.proofs.Common.{◌+◌, length, arith}
+use Rattle.log_model.specs.StoreText.{store_text}
+use Rattle.store_file.specs.Open.{store_of}
+use Rattle.flush_snapshot.proofs.Moments.{filled_moments, rows_moments}
+use Rattle.flush_snapshot.proofs.filling.write_rows.Goals as goal
+
+pub returns-in_err-fill_rows-clause-any_moment : goal.returns-in_err-fill_rows-clause-any_moment
+returns-in_err-fill_rows-clause-any_moment g c told =
+    filled_moments c.args.store.name (store_text (store_of c.args.store c.args.rows.now)) (length c.args.rows.now) (length c.args.rows.now + 4) (g.D.Disk.view c.args.disk.now) (g.D.Disk.view c.fill_rows.new.disk) (omega arith) (c.fill_rows.ensures.any_moment told)
+
+pub returns-clause-any_moment : goal.returns-clause-any_moment
+returns-clause-any_moment g c told =
+    let shape = c.fill_rows.ensures.shape in
+    rows_moments c.args.store c.fill_rows.new.store (g.D.Disk.view c.args.disk.now) (g.D.Disk.view c.fill_rows.new.disk) (g.D.Disk.view c.commit.new.disk) c.args.rows.now
+    (record { name = shape.0; from = shape.1; to = shape.2; count = shape.3 }) c.requires.whole c.requires.count (c.in_ok-fill_rows.ensures.filled told) (c.fill_rows.ensures.any_moment told) (c.commit.ensures.any_moment told)

@@ -1,0 +1,19 @@
+-- The store that a cut of cells becomes.
+use Rattle.std.specs.Prelude.{◌≤◌, ℕ, List}
+use Rattle.std.specs.List.{AllByRecursion}
+use Rattle.std.specs.FinMap.{empty}
+use Rattle.cell_model.specs.Order.{NumberedCell, cells_of}
+use Rattle.cell_model.specs.Merge.{put_numbered}
+use Rattle.log_model.specs.declared.name.Name.{Name}
+use Rattle.log_model.specs.StoreText.{Store}
+
+-- the cells in order; of two with one key and sequence id the later one stays
+abbrev pub ordered_cells : List NumberedCell → List NumberedCell
+ordered_cells cut = cells_of (put_numbered empty cut)
+
+abbrev pub cut_store : Name → ℕ → ℕ → List NumberedCell → Store
+cut_store name from to cut = record { region = name.region; from = from; to = to; cells = ordered_cells cut }
+
+-- each cell's sequence id lies between these
+abbrev pub IsWithin : ℕ → ℕ → List NumberedCell → Type 0
+IsWithin from to cut = AllByRecursion (λ x. (from ≤ x.0) × (x.0 ≤ to)) cut

@@ -1,0 +1,52 @@
+//! Writing a cut of cells as a store file.
+
+ghost use Rattle.std.specs.Prelude.{◌≡◌, ◌≤◌, ◌<◌, ◌+◌, ◌^◌, ℕ, length, IsTrue, IfOk, OnOk, IsErrOf};
+ghost use Rattle.log_model.specs.declared.name.NameKind.TheVariants as kinds;
+ghost use Rattle.log_model.specs.Files.{IsAbsent};
+ghost use Rattle.log_model.specs.StoreText.{IsStore, store_text};
+ghost use Rattle.disk_images.specs.Crash.{Throughout, OnlyAt};
+ghost use Rattle.disk_images.specs.OneFile.{Touches, IsDurableFile};
+ghost use Rattle.disk_images.specs.Calls.{HasCause};
+ghost use Rattle.store_file.specs.Whole.{IsWholeOrNot};
+ghost use Rattle.flush_snapshot.specs.Cut.{cut_store, ordered_cells, IsWithin};
+
+use crate::filling::write_rows;
+use disk_images::{Disk, Name};
+use kv_cell::NumberedCells;
+use mem_segments::Segment;
+use std::alloc::Global;
+use store_file::{FileRefusal, StoreFile};
+
+/// Writes the cut's cells, whose sequence ids lie from `from` to `to`, in order as one store file whose name is neither
+/// there nor gone, and gives their number. Of two cells with one key and sequence id the later one alone is stored.
+/// Memory is taken before the first disk call.
+pub fn write_cut<D: Disk>(
+    alloc: Global,
+    disk: &mut D,
+    name: Name,
+    from: u64,
+    to: u64,
+    cut: NumberedCells,
+) -> Result<u64, FileRefusal>
+    requires absent { IsTrue D.told → IsAbsent (D.view disk.old).files name × (¬ (D.view disk.old).gone name) }
+    requires kind { name.kind ≡ kinds.Store }
+    requires range { (1 ≤ from) × (from ≤ to) × (to < 2 ^ 48) }
+    requires within { IsWithin from to cut }
+
+    ensures stored { IsTrue D.told → OnOk result (IsDurableFile (D.view disk.new) name (store_text (cut_store name from to cut))) }
+    ensures store { ¬ IsErrOf result FileRefusal.Memory → IsStore (cut_store name from to cut) }
+    ensures count { IfOk result (λ n. n ≡ length (ordered_cells cut)) }
+
+    // At each moment each image of the file isn't there, or is the whole store.
+    ensures any_moment { IsTrue D.told → Throughout (OnlyAt name (IsWholeOrNot (store_text (cut_store name from to cut))) (D.view disk.old)) (7 + length (ordered_cells cut)) (D.view disk.old) (D.view disk.new) }
+    ensures touches { IsTrue D.told → Touches name (D.view disk.old) (D.view disk.new) }
+    ensures memory { IsErrOf result FileRefusal.Memory → disk.new ≡ disk.old }
+    ensures cause { HasCause (D.faults disk.old) (D.faults disk.new) (IsErrOf result FileRefusal.DiskFault) }
+{
+    let segment = Segment::of_cells(alloc, cut)?;
+    let rows = segment.rows();
+    let count = rows.len() as u64;
+    let store = StoreFile::begin(alloc, disk, name, from, to, count)?;
+    write_rows(disk, store, rows)?;
+    Ok(count)
+}

@@ -1,0 +1,11 @@
+pub mod Disk
+pub mod Lists
+pub mod Committed
+pub mod NextLog
+pub mod Archived
+pub mod Stored
+pub mod Leaving
+pub mod Calls
+pub mod Staged
+pub mod Numbering
+pub mod Whole

@@ -1,0 +1,81 @@
+use Rattle.std.proofs.Common.{◌≡◌, ℕ, List, refl, sym, ap, subst, arith}
+use Rattle.std.specs.Prelude.{sum}
+use Rattle.std.proofs.Math.Logic.{∥∥₁_map}
+use Rattle.std.proofs.lemmas.List.{nil_from_length}
+use Rattle.log_ledger.specs.Books.{Books}
+use Rattle.log_device.specs.Keeps.{Keeps}
+use Rattle.log_device.proofs.Numbering.{numbered_still}
+use Rattle.log_device.proofs.device.Device.roll_committed.Goals as goal
+
+pub invariant_of-self : goal.invariant_of-self
+invariant_of-self g c = record {
+  numbered = λ file is.
+      numbered_still file file c.args.self.now.ledger c.close_empty.new.self (c.args.self.now.numbered file is) refl refl
+      (ap (λ (b : Books). sum b.drawn) c.close_empty.ensures.closed) (ap (λ (b : Books). b.accounts.last) c.close_empty.ensures.closed);
+}
+
+pub returns-then-entries-eq0-clause-refused : goal.returns-then-entries-eq0-clause-refused
+returns-then-entries-eq0-clause-refused g c told h whole none unbroken =
+    let count : c.current-file.result.1 ≡ whole.file.entries = ap (λ (p : ℕ × ℕ). p.1) (c.current-file.ensures whole.file whole.is) in
+    record {
+      file = whole.file;
+      is = whole.is;
+      keeps = subst (λ (ns : List ℕ). Keeps whole.file (g.D.Disk.view c.args.self.now.disk) h ns) (sym (ap (λ (b : Books). b.next_store) c.close_empty.ensures.closed)) whole.keeps;
+      counted = c.close_empty.ensures.counted h whole.counted none (nil_from_length h.current (omega (arith, count, c.if-entries-eq0.true, whole.keeps.open_log.count)));
+    }
+
+pub invariant_of-self-2 : goal.invariant_of-self-2
+invariant_of-self-2 g c = record {
+  numbered = λ file is.
+      numbered_still file file c.args.self.now.ledger c.reserve_file.new.self (c.args.self.now.numbered file is) refl refl
+      (ap (λ (b : Books). sum b.drawn) c.reserve_file.ensures.same) (ap (λ (b : Books). b.accounts.last) c.reserve_file.ensures.same);
+}
+
+pub begin_next-requires-clause-whole : goal.begin_next-requires-clause-whole
+begin_next-requires-clause-whole g c told =
+    ∥∥₁_map (c.requires.whole told) (λ r. (r.0, record {
+      file = r.1.file;
+      is = r.1.is;
+      keeps = subst (λ (ns : List ℕ). Keeps r.1.file (g.D.Disk.view c.args.self.now.disk) r.0 ns) (sym (ap (λ (b : Books). b.next_store) c.reserve_file.ensures.same)) r.1.keeps;
+      counted = c.reserve_file.ensures.counted r.0 r.1.counted;
+    }))
+
+pub returns-in_err-begin_next-clause-any_moment : goal.returns-in_err-begin_next-clause-any_moment
+returns-in_err-begin_next-clause-any_moment g c told h file whole is =
+    c.begin_next.ensures.any_moment told h file
+    (record {
+      file = whole.file;
+      is = whole.is;
+      keeps = subst (λ (ns : List ℕ). Keeps whole.file (g.D.Disk.view c.args.self.now.disk) h ns) (sym (ap (λ (b : Books). b.next_store) c.reserve_file.ensures.same)) whole.keeps;
+      counted = c.reserve_file.ensures.counted h whole.counted;
+    }) is
+
+pub returns-in_err-begin_next-clause-in_order : goal.returns-in_err-begin_next-clause-in_order
+returns-in_err-begin_next-clause-in_order g c told h file whole is =
+    c.begin_next.ensures.in_order told h file
+    (record {
+      file = whole.file;
+      is = whole.is;
+      keeps = subst (λ (ns : List ℕ). Keeps whole.file (g.D.Disk.view c.args.self.now.disk) h ns) (sym (ap (λ (b : Books). b.next_store) c.reserve_file.ensures.same)) whole.keeps;
+      counted = c.reserve_file.ensures.counted h whole.counted;
+    }) is
+
+pub returns-clause-any_moment : goal.returns-clause-any_moment
+returns-clause-any_moment g c told h file whole is =
+    c.begin_next.ensures.any_moment told h file
+    (record {
+      file = whole.file;
+      is = whole.is;
+      keeps = subst (λ (ns : List ℕ). Keeps whole.file (g.D.Disk.view c.args.self.now.disk) h ns) (sym (ap (λ (b : Books). b.next_store) c.reserve_file.ensures.same)) whole.keeps;
+      counted = c.reserve_file.ensures.counted h whole.counted;
+    }) is
+
+pub returns-clause-in_order : goal.returns-clause-in_order
+returns-clause-in_order g c told h file whole is =
+    c.begin_next.ensures.in_order told h file
+    (record {
+      file = whole.file;
+      is = whole.is;
+      keeps = subst (λ (ns : List ℕ). Keeps whole.file (g.D.Disk.view c.args.self.now.disk) h ns) (sym (ap (λ (b : Books). b.next_store) c.reserve_file.ensures.same)) whole.keeps;
+      counted = c.reserve_file.ensures.counted h whole.counted;
+    }) is

@@ -1,0 +1,48 @@
+use Rattle.std.proofs.Common.{◌≡◌, ℕ, List, get_or, Some, refl, sym, ap, ◌∙◌, subst, arith}
+use Rattle.std.proofs.Math.Logic.{∥∥₁_map}
+use Rattle.log_trucks.specs.Held.{Haul}
+use Rattle.log_file.specs.Open.{OpenLog}
+use Rattle.log_ledger.specs.History.{staged_in}
+use Rattle.log_ledger.specs.Books.{IsServed}
+use Rattle.log_device.specs.Keeps.{Keeps}
+use Rattle.log_device.specs.Numbered.{IsNumbered}
+use Rattle.log_device.proofs.Numbering.{same_file, numbered_staged}
+use Rattle.log_device.proofs.Staged.{staged_kept, of_log}
+use Rattle.log_device.proofs.device.Device.stage.Goals as goal
+
+pub stage-requires : goal.stage-requires
+stage-requires g c =
+    let numbered = c.args.self.now.numbered c.in-Some.log c.in-Some.is in
+    let bytes = ap (λ (t : Haul). t.bytes) (c.behind-truck.view_is ∙ c.deref.ensures) in
+    ∥∥₁_map c.requires.entry (λ r. (r.0, bytes ∙ r.2, of_log c.in-Some.log r.0 numbered.region r.1))
+
+pub invariant_of-self-in-Ok : goal.invariant_of-self-in-Ok
+invariant_of-self-in-Ok g c = record {
+  numbered = λ file is.
+      subst (λ (f : OpenLog). IsNumbered f c.stage-in-Ok.new.self) (same_file c.stage.new.self file is)
+      (numbered_staged c.in-Some.log c.stage.new.self c.args.self.now.ledger c.stage-in-Ok.new.self (c.args.self.now.numbered c.in-Some.log c.in-Some.is)
+      c.stage.ensures.elsewhere.0 c.stage-in-Ok.ensures.grows c.stage-in-Ok.ensures.files.last);
+}
+
+pub invariant_of-self-in-Err : goal.invariant_of-self-in-Err
+invariant_of-self-in-Err g c = record {
+  numbered = λ file is. c.args.self.now.numbered file (c.in-Some.is ∙ ap (λ (f : OpenLog). Some f) (sym c.in-Err.ensures.same) ∙ is);
+}
+
+pub returns-in-Ok-clause-staged : goal.returns-in-Ok-clause-staged
+returns-in-Ok-clause-staged g c told h e whole entry bytes region number =
+    let file : whole.file ≡ c.in-Some.log = same_file whole.file c.in-Some.log (sym whole.is ∙ c.in-Some.is) in
+    let keeps = subst (λ (f : OpenLog). Keeps f (g.D.Disk.view c.args.self.now.disk) h c.args.self.now.ledger.next_store) file whole.keeps in
+    let numbered = c.args.self.now.numbered c.in-Some.log c.in-Some.is in
+    let its = ap (λ (t : Haul). t.bytes) (c.behind-truck.view_is ∙ c.deref.ensures) in
+    record {
+      file = c.stage.new.self;
+      is = refl;
+      keeps = subst (λ (ns : List ℕ). Keeps c.stage.new.self (g.D.Disk.view c.args.self.now.disk) (staged_in h e) ns) (sym c.stage-in-Ok.ensures.next_store)
+          (staged_kept c.in-Some.log c.stage.new.self (g.D.Disk.view c.args.self.now.disk) h c.args.self.now.ledger.next_store e keeps
+          (let drawn = whole.counted.drawn e.region (subst (λ (r : ℕ). IsServed c.args.self.now.ledger r) (sym region) c.requires.served) in
+          let at : get_or c.args.self.now.ledger.drawn e.region 0 ≡ get_or c.args.self.now.ledger.drawn c.args.truck.value.region 0 = ap (λ (r : ℕ). get_or c.args.self.now.ledger.drawn r 0) region in
+          omega (arith, c.requires.above, drawn, number, at))
+          c.stage.ensures.elsewhere (c.in-Ok.ensures.staged h.kept.staged e keeps.staged (its ∙ bytes) (of_log c.in-Some.log e numbered.region entry)));
+      counted = c.stage-in-Ok.ensures.counted h e whole.counted entry bytes region number;
+    }

@@ -1,0 +1,23 @@
+-- What a flush finds to flush.
+use Rattle.std.specs.Prelude.{◌≡◌, ◌<◌, ◌≤◌, ℕ, List, Contains}
+use Rattle.std.specs.List.{AllByRecursion}
+use Rattle.cell_model.specs.Order.{NumberedCell}
+use Rattle.log_model.specs.Entry.{Entry}
+use Rattle.recovery.specs.Kept.{Kept}
+
+-- this is the highest number of an entry of the region above the flushed one
+pub record IsHighestKept (k : Kept) (r n : ℕ) : Type 0 where
+  pub entry : Entry
+  pub member : Contains k.durable entry
+  pub region : entry.region ≡ r
+  pub number : entry.number ≡ n
+  pub above : k.flushed r < n
+  pub bound : (e : Entry) → Contains k.durable e → e.region ≡ r → e.number ≤ n
+
+-- the region has no entry above the flushed number
+abbrev pub NoneKept : Kept → ℕ → Type 0
+NoneKept k r = (e : Entry) → Contains k.durable e → e.region ≡ r → e.number ≤ k.flushed r
+
+-- the cells' sequence ids lie between these
+abbrev pub IsWithin : ℕ → ℕ → List NumberedCell → Type 0
+IsWithin from to cells = AllByRecursion (λ x. (from ≤ x.0) × (x.0 ≤ to)) cells

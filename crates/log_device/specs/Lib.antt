@@ -1,0 +1,5 @@
+pub mod Keeps
+pub mod Leaves
+pub mod Flushed
+pub mod Numbered
+pub mod Whole

@@ -1,0 +1,122 @@
+//! A region's entries go into a store file.
+
+ghost use Rattle.std.specs.Prelude.{◌≡◌, ◌≤◌, ◌<◌, ◌+◌, ◌↔◌, ◌++◌, ℕ, [], Contains, get_or, Some, Ok, Err, IsTrue, IfOk, OnOk, OnErr, IsErrOf};
+ghost use Rattle.log_model.specs.Entry.{Entry};
+ghost use Rattle.recovery.specs.Kept.{flushed_to};
+ghost use Rattle.disk_images.specs.Crash.{Throughout};
+ghost use Rattle.disk_images.specs.Calls.{HasCause};
+ghost use Rattle.log_file.specs.Open.{OpenLog};
+ghost use Rattle.log_ledger.specs.History.{History, committed_in, flushed_in};
+ghost use Rattle.log_ledger.specs.Books.{IsServed};
+ghost use Rattle.log_ledger.specs.Counted.{PutsCut};
+ghost use Rattle.log_device.specs.Keeps.{Between};
+ghost use Rattle.log_device.specs.Leaves.{Leaves};
+ghost use Rattle.log_device.specs.Flushed.{IsHighestKept, NoneKept, IsWithin};
+ghost use Rattle.log_device.specs.Whole.{IsWhole, IsBroken, disk_of, log_of, books_of};
+
+use crate::device::Device;
+use crate::error::DeviceFlush;
+use disk_images::{Disk, Name, NameKind};
+use flush_snapshot::write_cut;
+use kv_cell::NumberedCells;
+use log_file::FileRefusal;
+use std::alloc::Global;
+
+impl<D: Disk> Device<D> {
+    /// Commits all that is staged, and writes the cells of the region's entries that aren't flushed as one store file; it
+    /// gives the highest number of them, up to which the region is flushed then. `Nothing` comes exactly where no entry of
+    /// the region above the flushed number is kept after the commit, `Memory` after the commit and before any other disk
+    /// call.
+    pub fn flush(&mut self, alloc: Global, region: u32) -> Result<u64, DeviceFlush>
+        requires served { IsServed (books_of self.old) region }
+        requires whole { IsTrue D.told → (IsBroken self.old → ⊥) → ∥ ((h : History) × IsWhole self.old (D.view (disk_of self.old)) h) ∥₁ }
+
+        ensures any_moment { IsTrue D.told → (h : History) → IsWhole self.old (D.view (disk_of self.old)) h → (bound : ℕ) × Throughout (Leaves (books_of self.old).stored (books_of self.old).closed (D.view (disk_of self.old)).files h.kept.staged) bound (D.view (disk_of self.old)) (D.view (disk_of self.new)) }
+        ensures flushed { IsTrue D.told → (h : History) → IsWhole self.old (D.view (disk_of self.old)) h → IfOk result (λ n. IsHighestKept (committed_in h).kept region n × IsWhole self.new (D.view (disk_of self.new)) (flushed_in (committed_in h) region n)) }
+        ensures nothing { IsTrue D.told → (h : History) (n : ℕ) → IsWhole self.old (D.view (disk_of self.old)) h → result ≡ Err (DeviceFlush.Nothing n) → (n ≡ h.kept.flushed region) × NoneKept (committed_in h).kept region }
+        ensures refused { IsTrue D.told → (h : History) → IsWhole self.old (D.view (disk_of self.old)) h → OnErr result ((IsBroken self.new → ⊥) → IsWhole self.new (D.view (disk_of self.new)) (committed_in h)) }
+        ensures stored { IfOk result (λ n. get_or (books_of self.new).stored region 0 ≡ n) }
+        ensures stored_nothing { (n : ℕ) → result ≡ Err (DeviceFlush.Nothing n) → get_or (books_of self.new).stored region 0 ≡ n }
+        ensures others { (r : ℕ) → (r ≡ region → ⊥) → get_or (books_of self.new).stored r 0 ≡ get_or (books_of self.old).stored r 0 }
+        ensures closed { (books_of self.new).closed ≡ (books_of self.old).closed }
+        ensures drawn { (books_of self.new).drawn ≡ (books_of self.old).drawn }
+        ensures served { (r : ℕ) → IsServed (books_of self.old) r → IsServed (books_of self.new) r }
+        ensures broken { IsErrOf result DeviceFlush.WriteFault ↔ IsBroken self.new }
+        ensures stays { IsBroken self.old → self.new ≡ self.old }
+        ensures cause { HasCause (D.faults (disk_of self.old)) (D.faults (disk_of self.new)) ((IsBroken self.old → ⊥) × IsErrOf result DeviceFlush.WriteFault) }
+    {
+        self.commit_staged()?;
+        self.flush_committed(alloc, region)
+    }
+
+    /// Flushes a region where nothing is staged.
+    fn flush_committed(&mut self, alloc: Global, region: u32) -> Result<u64, DeviceFlush>
+        requires served { IsServed (books_of self.old) region }
+        requires whole { IsTrue D.told → ∥ ((h : History) × IsWhole self.old (D.view (disk_of self.old)) h × (h.kept.staged ≡ [])) ∥₁ }
+        requires unbroken { IsBroken self.old → ⊥ }
+
+        ensures any_moment { IsTrue D.told → (h : History) (file : OpenLog) → IsWhole self.old (D.view (disk_of self.old)) h → log_of self.old ≡ Some file → h.kept.staged ≡ [] → (bound : ℕ) × Throughout (Between h.kept file.name h.current (flushed_to h.kept region (get_or (books_of self.old).drawn region 0)) file.name h.current) bound (D.view (disk_of self.old)) (D.view (disk_of self.new)) }
+        ensures flushed { IsTrue D.told → (h : History) → IsWhole self.old (D.view (disk_of self.old)) h → h.kept.staged ≡ [] → IfOk result (λ n. IsWhole self.new (D.view (disk_of self.new)) (flushed_in h region n)) }
+        ensures number { IfOk result (λ n. (n ≡ get_or (books_of self.old).drawn region 0) × (get_or (books_of self.old).accounts.flushed region 0 < n)) }
+        ensures nothing { (n : ℕ) → result ≡ Err (DeviceFlush.Nothing n) → (n ≡ get_or (books_of self.old).accounts.flushed region 0) × (get_or (books_of self.old).drawn region 0 ≤ n) }
+        ensures refused { IsTrue D.told → (h : History) → IsWhole self.old (D.view (disk_of self.old)) h → OnErr result ((IsBroken self.new → ⊥) → IsWhole self.new (D.view (disk_of self.new)) h) }
+        ensures stored { IfOk result (λ n. get_or (books_of self.new).stored region 0 ≡ n) }
+        ensures stored_nothing { (n : ℕ) → result ≡ Err (DeviceFlush.Nothing n) → get_or (books_of self.new).stored region 0 ≡ n }
+        ensures others { (r : ℕ) → (r ≡ region → ⊥) → get_or (books_of self.new).stored r 0 ≡ get_or (books_of self.old).stored r 0 }
+        ensures closed { (books_of self.new).closed ≡ (books_of self.old).closed }
+        ensures drawn { (books_of self.new).drawn ≡ (books_of self.old).drawn }
+        ensures served { (r : ℕ) → IsServed (books_of self.old) r → IsServed (books_of self.new) r }
+        ensures broken { IsErrOf result DeviceFlush.WriteFault ↔ IsBroken self.new }
+        ensures cause { HasCause (D.faults (disk_of self.old)) (D.faults (disk_of self.new)) (IsErrOf result DeviceFlush.WriteFault) }
+    {
+        if !self.ledger.has_unflushed(region) {
+            self.ledger.keep(region);
+            return Err(DeviceFlush::Nothing {
+                flushed: self.ledger.flushed(region),
+            });
+        }
+        let cells = self.ledger.cells(alloc, region)?;
+        self.write_store(alloc, region, cells)
+    }
+
+    /// Writes these cells, which are what the region has above its flushed number, as its next store file.
+    fn write_store(&mut self, alloc: Global, region: u32, cells: NumberedCells) -> Result<u64, DeviceFlush>
+        requires served { IsServed (books_of self.old) region }
+        requires above { get_or (books_of self.old).accounts.flushed region 0 < get_or (books_of self.old).drawn region 0 }
+        requires within { IsWithin (get_or (books_of self.old).accounts.flushed region 0 + 1) (get_or (books_of self.old).drawn region 0) cells }
+        requires whole { IsTrue D.told → ∥ ((h : History) × IsWhole self.old (D.view (disk_of self.old)) h × (h.kept.staged ≡ [])) ∥₁ }
+        requires unbroken { IsBroken self.old → ⊥ }
+
+        ensures any_moment { IsTrue D.told → (h : History) (file : OpenLog) → IsWhole self.old (D.view (disk_of self.old)) h → log_of self.old ≡ Some file → h.kept.staged ≡ [] → PutsCut h.kept region (get_or (books_of self.old).drawn region 0) cells → (bound : ℕ) × Throughout (Between h.kept file.name h.current (flushed_to h.kept region (get_or (books_of self.old).drawn region 0)) file.name h.current) bound (D.view (disk_of self.old)) (D.view (disk_of self.new)) }
+        ensures flushed { IsTrue D.told → (h : History) → IsWhole self.old (D.view (disk_of self.old)) h → h.kept.staged ≡ [] → PutsCut h.kept region (get_or (books_of self.old).drawn region 0) cells → IfOk result (λ n. IsWhole self.new (D.view (disk_of self.new)) (flushed_in h region n)) }
+        ensures number { IfOk result (λ n. n ≡ get_or (books_of self.old).drawn region 0) }
+        ensures never_nothing { (n : ℕ) → result ≡ Err (DeviceFlush.Nothing n) → ⊥ }
+        ensures refused { OnErr result ((IsBroken self.new → ⊥) → self.new ≡ self.old) }
+        ensures stored { IfOk result (λ n. get_or (books_of self.new).stored region 0 ≡ n) }
+        ensures others { (r : ℕ) → (r ≡ region → ⊥) → get_or (books_of self.new).stored r 0 ≡ get_or (books_of self.old).stored r 0 }
+        ensures closed { (books_of self.new).closed ≡ (books_of self.old).closed }
+        ensures drawn { (books_of self.new).drawn ≡ (books_of self.old).drawn }
+        ensures served { (r : ℕ) → IsServed (books_of self.old) r → IsServed (books_of self.new) r }
+        ensures broken { IsErrOf result DeviceFlush.WriteFault ↔ IsBroken self.new }
+        ensures cause { HasCause (D.faults (disk_of self.old)) (D.faults (disk_of self.new)) (IsErrOf result DeviceFlush.WriteFault) }
+    {
+        let from = self.ledger.flushed(region) + 1;
+        let to = self.ledger.drawn(region);
+        let name = Name {
+            kind: NameKind::Store,
+            region,
+            number: self.ledger.next_store(region),
+        };
+        match write_cut(alloc, &mut self.disk, name, from, to, cells) {
+            Ok(_) => {
+                self.ledger.flush(region);
+                Ok(to)
+            }
+            Err(FileRefusal::Memory) => Err(DeviceFlush::Memory),
+            Err(FileRefusal::DiskFault) => {
+                self.log = None;
+                Err(DeviceFlush::WriteFault)
+            }
+        }
+    }
+}

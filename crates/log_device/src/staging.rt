@@ -1,0 +1,106 @@
+//! Entries are staged, and made durable.
+
+ghost use Rattle.std.specs.Prelude.{◌≡◌, ◌≤◌, ◌<◌, ◌+◌, ◌↔◌, ◌++◌, ℕ, List, [], length, get_or, slice_set, Some, None, Ok, IsTrue, IfOk, IfErr, OnOk, OnErr, IsErr};
+ghost use Rattle.log_model.specs.Entry.{Entry, IsEntry, entry_frame};
+ghost use Rattle.disk_images.specs.Crash.{Throughout};
+ghost use Rattle.disk_images.specs.Calls.{HasCause};
+ghost use Rattle.log_file.specs.Open.{OpenLog};
+ghost use Rattle.log_ledger.specs.History.{History, staged_in, committed_in};
+ghost use Rattle.log_ledger.specs.Books.{IsServed};
+ghost use Rattle.recovery.specs.Kept.{committed};
+ghost use Rattle.log_device.specs.Keeps.{Between};
+ghost use Rattle.log_device.specs.Leaves.{Leaves};
+ghost use Rattle.log_device.specs.Whole.{IsWhole, IsBroken, IsCommitted, disk_of, log_of, books_of};
+
+use crate::device::Device;
+use crate::error::{StageFull, WriteFault};
+use disk_images::Disk;
+use log_trucks::Truck;
+
+impl<D: Disk> Device<D> {
+    /// Stages an entry of a region that the device serves, with a number above all that the region had. No file changes,
+    /// and no memory is taken. It is refused exactly where the staged bytes, these and one gate byte pass 4,194,304, and
+    /// on a broken device, which has no stage; then nothing changes, and the truck comes back.
+    pub fn stage(&mut self, truck: Box<Truck>) -> Result<(), StageFull>
+        requires served { IsServed (books_of self.old) truck.value.region }
+        requires alone { truck.value.behind ≡ [] }
+        requires entry { ∥ ((e : Entry) × IsEntry e × (truck.value.bytes ≡ entry_frame e) × (e.region ≡ truck.value.region) × (e.number ≡ truck.value.number)) ∥₁ }
+        requires above { get_or (books_of self.old).drawn truck.value.region 0 < truck.value.number }
+
+        ensures staged { IsTrue D.told → (h : History) (e : Entry) → IsWhole self.old (D.view (disk_of self.old)) h → IsEntry e → truck.value.bytes ≡ entry_frame e → e.region ≡ truck.value.region → e.number ≡ truck.value.number → OnOk result (IsWhole self.new (D.view (disk_of self.new)) (staged_in h e)) }
+        ensures full { (file : OpenLog) → log_of self.old ≡ Some file → IsErr result ↔ (4194304 < length file.bytes + length truck.value.bytes + 1) }
+        ensures broken { IsBroken self.old → IsErr result }
+        ensures same { OnErr result (self.new ≡ self.old) }
+        ensures truck { IfErr result (λ full. full.truck ≡ truck) }
+        ensures disk { disk_of self.new ≡ disk_of self.old }
+        ensures drawn { OnOk result ((books_of self.new).drawn ≡ slice_set (books_of self.old).drawn truck.value.region truck.value.number) }
+        ensures synced { (books_of self.new).synced ≡ (books_of self.old).synced }
+        ensures stored { (books_of self.new).stored ≡ (books_of self.old).stored }
+        ensures closed { (books_of self.new).closed ≡ (books_of self.old).closed }
+        ensures served { (books_of self.new).next_store ≡ (books_of self.old).next_store }
+    {
+        let Some(log) = &mut self.log else {
+            return Err(StageFull { truck });
+        };
+        match log.stage(&truck.bytes) {
+            Ok(()) => {
+                self.ledger.stage(truck);
+                Ok(())
+            }
+            Err(_) => Err(StageFull { truck }),
+        }
+    }
+
+    /// Makes all that is staged durable, in four disk calls however many entries there are, and in none where there are
+    /// none; it gives their number, and takes no memory.
+    pub fn sync(&mut self) -> Result<u64, WriteFault>
+        requires { IsTrue D.told → (IsBroken self.old → ⊥) → ∥ ((h : History) × IsWhole self.old (D.view (disk_of self.old)) h) ∥₁ }
+
+        // At each moment each image is fit, and recovers to the files as they read with none of the staged entries or with all.
+        ensures any_moment { IsTrue D.told → (h : History) → IsWhole self.old (D.view (disk_of self.old)) h → Throughout (Leaves (books_of self.old).stored (books_of self.old).closed (D.view (disk_of self.old)).files h.kept.staged) 4 (D.view (disk_of self.old)) (D.view (disk_of self.new)) }
+        ensures committed { IsTrue D.told → (h : History) → IsWhole self.old (D.view (disk_of self.old)) h → OnOk result (IsWhole self.new (D.view (disk_of self.new)) (committed_in h)) }
+        ensures count { (file : OpenLog) → log_of self.old ≡ Some file → IfOk result (λ n. n ≡ file.staged) }
+
+        // Where nothing is staged it makes no disk call, and does not fail.
+        ensures idle { (file : OpenLog) → log_of self.old ≡ Some file → file.staged ≡ 0 → (disk_of self.new ≡ disk_of self.old) × (result ≡ Ok 0) }
+        ensures file { (file : OpenLog) → log_of self.old ≡ Some file → OnOk result (IsCommitted file (log_of self.new)) }
+        ensures synced { OnOk result ((books_of self.new) ≡ record (books_of self.old) { synced = (books_of self.old).drawn }) }
+        ensures faulty { OnErr result (books_of self.new ≡ books_of self.old) }
+        ensures broken { IsErr result ↔ IsBroken self.new }
+        ensures stays { IsBroken self.old → self.new ≡ self.old }
+        ensures cause { HasCause (D.faults (disk_of self.old)) (D.faults (disk_of self.new)) ((IsBroken self.old → ⊥) × IsErr result) }
+    {
+        self.commit_staged()
+    }
+
+    /// The same, with the files that each image is like.
+    pub(crate) fn commit_staged(&mut self) -> Result<u64, WriteFault>
+        requires { IsTrue D.told → (IsBroken self.old → ⊥) → ∥ ((h : History) × IsWhole self.old (D.view (disk_of self.old)) h) ∥₁ }
+
+        ensures any_moment { IsTrue D.told → (h : History) (file : OpenLog) → IsWhole self.old (D.view (disk_of self.old)) h → log_of self.old ≡ Some file → Throughout (Between h.kept file.name h.current (committed h.kept) file.name (h.current ++ h.kept.staged)) 4 (D.view (disk_of self.old)) (D.view (disk_of self.new)) }
+        ensures committed { IsTrue D.told → (h : History) → IsWhole self.old (D.view (disk_of self.old)) h → OnOk result (IsWhole self.new (D.view (disk_of self.new)) (committed_in h)) }
+        ensures count { (file : OpenLog) → log_of self.old ≡ Some file → IfOk result (λ n. n ≡ file.staged) }
+        ensures idle { (file : OpenLog) → log_of self.old ≡ Some file → file.staged ≡ 0 → (disk_of self.new ≡ disk_of self.old) × (result ≡ Ok 0) }
+        ensures file { (file : OpenLog) → log_of self.old ≡ Some file → OnOk result (IsCommitted file (log_of self.new)) }
+        ensures emptied { OnOk result ((file : OpenLog) → log_of self.new ≡ Some file → file.staged ≡ 0) }
+        ensures synced { OnOk result ((books_of self.new) ≡ record (books_of self.old) { synced = (books_of self.old).drawn }) }
+        ensures faulty { OnErr result (books_of self.new ≡ books_of self.old) }
+        ensures broken { IsErr result ↔ IsBroken self.new }
+        ensures stays { IsBroken self.old → self.new ≡ self.old }
+        ensures cause { HasCause (D.faults (disk_of self.old)) (D.faults (disk_of self.new)) ((IsBroken self.old → ⊥) × IsErr result) }
+    {
+        let Some(log) = &mut self.log else {
+            return Err(WriteFault);
+        };
+        match log.commit(&mut self.disk) {
+            Ok(count) => {
+                self.ledger.commit();
+                Ok(count)
+            }
+            Err(_) => {
+                self.log = None;
+                Err(WriteFault)
+            }
+        }
+    }
+}

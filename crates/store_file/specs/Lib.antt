@@ -1,0 +1,4 @@
+pub mod Open
+pub mod Reading
+pub mod ReadingLaws
+pub mod Whole

@@ -1,0 +1,41 @@
+-- A store file that is written.
+use Rattle.std.specs.Prelude.{◌≡◌, ◌≤◌, ◌<◌, ◌+◌, ◌^◌, ℕ, List, [], ◌∷◌, ◌++◌, length}
+use Rattle.byteorder.specs.Endian.{big_bytes}
+use Rattle.cell_model.specs.Order.{NumberedCell}
+use Rattle.log_model.specs.declared.name.Name.{Name}
+use Rattle.log_model.specs.StoreText.{Store, pairs_text}
+use Rattle.disk_images.specs.Crash.{DiskView}
+use Rattle.disk_images.specs.Gate.{IsFilled}
+
+-- its name, the sequence ids that it covers, the number of cells that it is to have, how many were put in, how many
+-- bytes stand on the disk, and those that wait to be written
+pub record OpenStore : Type 0 where
+  pub name : Name
+  pub from : ℕ
+  pub to : ℕ
+  pub count : ℕ
+  pub filled : ℕ
+  pub at : ℕ
+  pub bytes : List ℕ
+
+-- what holds of every store file that is written
+pub record IsBounded (o : OpenStore) : Type 0 where
+  pub small : o.at < 2 ^ 63
+  pub waiting : length o.bytes ≤ 262144
+  pub counted : o.filled ≤ o.at + length o.bytes
+
+-- what stands behind the gate in front of the cells: `HWS1`, the region, the two sequence ids, and the count
+unfoldable pub fields_text : ℕ → ℕ → ℕ → ℕ → List ℕ
+fields_text region from to count = (72 ∷ 87 ∷ 83 ∷ 49 ∷ []) ++ (big_bytes 4 region ++ (big_bytes 8 from ++ (big_bytes 8 to ++ big_bytes 8 count)))
+
+-- the store that it becomes with these cells
+abbrev pub store_of : OpenStore → List NumberedCell → Store
+store_of o cells = record { region = o.name.region; from = o.from; to = o.to; cells = cells }
+
+-- The file stands behind a closed gate. What is written behind the gate and what waits are the fields and these cells.
+pub record IsFilling (o : OpenStore) (disk : DiskView) (cells : List NumberedCell) : Type 0 where
+  pub written : List ℕ
+  pub file : IsFilled disk o.name (0 ∷ []) (0 ∷ written)
+  pub at : o.at ≡ length (0 ∷ written)
+  pub text : written ++ o.bytes ≡ fields_text o.name.region o.from o.to o.count ++ pairs_text cells
+  pub filled : o.filled ≡ length cells

@@ -1,0 +1,77 @@
+//! Reading a store file.
+
+ghost use Rattle.std.specs.Prelude.{◌≡◌, ◌≤◌, ◌<◌, ◌+◌, ◌^◌, ℕ, List, length, take, IsTrue, IfOk, MatchOption, IsErrOf, vec_len};
+ghost use Rattle.log_model.specs.StoreText.{IsThere, IsStoreText, IsStoreDamaged};
+ghost use Rattle.log_model.specs.Files.{Reads};
+ghost use Rattle.disk_images.specs.Calls.{HasCause};
+ghost use Rattle.log_file.specs.Looking.{OnlyLooks};
+ghost use Rattle.log_file.specs.Refusal.{IfDamaged};
+
+use crate::list::StoreText;
+use crate::reading::parse_store;
+use disk_images::{Disk, Name};
+use kv_cell::NoMemory;
+use log_file::ReadRefusal;
+use std::alloc::Global;
+
+/// How many bytes are read at once.
+const PIECE: usize = 262_144;
+
+/// Files of so many bytes and more are refused for want of memory.
+const TOO_LONG: u64 = 0x8000_0000_0000_0000;
+
+/// Reads a file that is there, in pieces of 262,144 bytes, up to the size found first. It gives None exactly where the
+/// file has no store: at most one byte, or a closed gate. Memory is taken for the file's bytes, once, and for its cells.
+/// The disk reads as before.
+pub fn read_store<D: Disk>(
+    alloc: Global,
+    disk: &mut D,
+    name: Name,
+) -> Result<Option<StoreText>, ReadRefusal>
+    requires { IsTrue D.told → ∥ ((c : List ℕ) × Reads (D.view disk.old).files name c) ∥₁ }
+
+    // What is read stands there, and what is refused as damaged is damaged there.
+    ensures text { IsTrue D.told → (c : List ℕ) → Reads (D.view disk.old).files name c → IfOk result (λ text. MatchOption text (IsThere c → ⊥)
+        (λ t. IsThere c × IsStoreText name.region c (record { region = name.region; from = t.from; to = t.to; cells = t.cells }))) }
+    ensures damaged { IsTrue D.told → (c : List ℕ) → Reads (D.view disk.old).files name c → IfDamaged result (λ at. IsStoreDamaged name.region c at) }
+    ensures looks { IsTrue D.told → (c : List ℕ) → Reads (D.view disk.old).files name c → OnlyLooks (length c + 1) (D.view disk.old) (D.view disk.new) }
+    ensures cause { HasCause (D.faults disk.old) (D.faults disk.new) (IsErrOf result ReadRefusal.DiskFault) }
+{
+    let size = disk.size(name)?.unwrap_or(0);
+    if size >= TOO_LONG {
+        return Err(ReadRefusal::Memory);
+    }
+    let mut bytes = new_bytes(alloc, size as usize)?;
+    let len = read_pieces(disk, name, &mut bytes)?;
+    parse_store(alloc, name.region, &bytes[..len])
+}
+
+fn new_bytes(alloc: Global, len: usize) -> Result<Vec<u8>, NoMemory>
+    ensures { IfOk result (λ bytes. vec_len bytes ≡ len) }
+{
+    Ok(vec![in alloc; 0; len]?)
+}
+
+/// Reads a file of which nothing was read yet into bytes that are as many as it has, and tells how many it read.
+fn read_pieces<D: Disk>(disk: &mut D, name: Name, into: &mut [u8]) -> Result<usize, ReadRefusal>
+    requires there { IsTrue D.told → ∥ ((c : List ℕ) × Reads (D.view disk.old).files name c) ∥₁ }
+    requires size { IsTrue D.told → (c : List ℕ) → Reads (D.view disk.old).files name c → length into.old ≡ length c }
+    requires small { length into.old < 2 ^ 63 }
+
+    ensures within { IfOk result (λ n. n ≤ length into.old) }
+    ensures whole { IsTrue D.told → (c : List ℕ) → Reads (D.view disk.old).files name c → IfOk result (λ n. take n into.new ≡ c) }
+    ensures undamaged { IfDamaged result (λ at. ⊥) }
+    ensures looks { IsTrue D.told → OnlyLooks (length into.old) (D.view disk.old) (D.view disk.new) }
+    ensures cause { HasCause (D.faults disk.old) (D.faults disk.new) (IsErrOf result ReadRefusal.DiskFault) }
+{
+    let mut at = 0;
+    while at < into.len() {
+        let want = (into.len() - at).min(PIECE);
+        let n = disk.read(name, at as u64, &mut into[at..at + want])?;
+        if n == 0 {
+            break;
+        }
+        at += n;
+    }
+    Ok(at)
+}

@@ -1,0 +1,5 @@
+//! Worked store files.
+
+mod one_file;
+mod reading;
+mod writing;
