@@ -9,3 +9,6 @@ pub mod Calls
 pub mod Staged
 pub mod Numbering
 pub mod Whole
+pub mod Cut
+pub mod StoreSteps
+pub mod HighestKept

@@ -187,10 +187,12 @@ module _ (log : OpenLog) (u v w : DiskView) (h : History) (ns : List ℕ) (keeps
         gone = λ m is. let g = keeps.gone m (touches.gone m (touches_next.gone m is)) in let at : now.name.number ≡ next.number = ap (λ (n : Name). n.number) name in (g.0, g.1, omega (arith, g.2, at));
         olds = λ m kind there.
             let o = keeps.olds m kind (other_kind m (λ is. absurd (cc (sym kind ∙ is))) there) in
-            let at : now.name.number ≡ next.number = ap (λ (n : Name). n.number) name in
-            (omega (arith, o.0, at), λ c member. elim (one_more h.logs just_closed c member) as (λ _. c.number ≢ m.number) [
-              | inl old ↦ o.1 c old
-              | inr is ↦ λ same. let number : log.name.number ≡ c.number = ap (λ (x : ClosedLog). x.number) is in absurd (omega (arith, number, same, o.0))
-            ]);
+            let at : now.name.number ≡ next.number = ap (λ (n : Name). n.number) name in (
+              omega (arith, o.0, at),
+              λ c member. elim (one_more h.logs just_closed c member) as (λ _. c.number ≢ m.number) [
+                | inl old ↦ o.1 c old
+                | inr is ↦ λ same. let number : log.name.number ≡ c.number = ap (λ (x : ClosedLog). x.number) is in absurd (omega (arith, number, same, o.0))
+              ],
+            );
         stores = λ m kind there. keeps.stores m kind (other_kind m (λ is. absurd (cc (sym kind ∙ is))) there);
       }

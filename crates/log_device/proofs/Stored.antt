@@ -28,17 +28,22 @@ gate_of : (s : Store) → IsThere (store_text s)
 unfolding store_text
 gate_of s = (omega arith, refl)
 
+-- the next store's name is free
+module _ (log : OpenLog) (u : DiskView) (h : History) (ns : List ℕ) (keeps : Keeps log u h ns) (sound : IsTrueDisk u) (r : ℕ) (served : 0 < get_or ns r 0) where
+  free_in_files : (image : Option (List ℕ)) → content u.files (store_name r (get_or ns r 0)) ≡ image → content u.files (store_name r (get_or ns r 0)) ≡ None
+  free_in_files None is = is
+  free_in_files (Some bytes) is = absurd (let low = keeps.stores (store_name r (get_or ns r 0)) refl (λ none. none_some (content u.files (store_name r (get_or ns r 0))) bytes none is) served in omega (arith, low))
+
+  pub free_store : IsAbsent u.files (store_name r (get_or ns r 0)) × (¬ u.gone (store_name r (get_or ns r 0)))
+  free_store = (free_in_files (content u.files (store_name r (get_or ns r 0))) refl, λ gone. absurd (cc ((keeps.gone (store_name r (get_or ns r 0)) gone).0)))
+
 module _ (log : OpenLog) (u w : DiskView) (h : History) (ns : List ℕ) (keeps : Keeps log u h ns) (sound : IsTrueDisk u) (r n : ℕ) (s : Store) (by : ℕ) (served : 0 < get_or ns r 0)
     (cut : IsCut h.kept r n s) (is_store : IsStore s) (logged : n ≤ lasts h.kept.first h.kept.durable r) where
   abbrev pub name : Name
   name = store_name r (get_or ns r 0)
 
-  free_in_files : (image : Option (List ℕ)) → content u.files name ≡ image → content u.files name ≡ None
-  free_in_files None is = is
-  free_in_files (Some bytes) is = absurd (let low = keeps.stores name refl (λ none. none_some (content u.files name) bytes none is) served in omega (arith, low))
-
-  pub name_free : IsAbsent u.files name × (¬ u.gone name)
-  name_free = (free_in_files (content u.files name) refl, λ gone. absurd (cc ((keeps.gone name gone).0)))
+  name_free : IsAbsent u.files name × (¬ u.gone name)
+  name_free = free_store log u h ns keeps sound r served
 
   hidden : (I : Files) → IsImageNow u I → IsNotThere (content I name)
   hidden I there bytes is gate = none_some (content I name) bytes (sound.absent name name_free.0 name_free.1 I there) is

@@ -1,7 +1,5 @@
 -- What a flush finds to flush.
-use Rattle.std.specs.Prelude.{◌≡◌, ◌<◌, ◌≤◌, ℕ, List, Contains}
-use Rattle.std.specs.List.{AllByRecursion}
-use Rattle.cell_model.specs.Order.{NumberedCell}
+use Rattle.std.specs.Prelude.{◌≡◌, ◌<◌, ◌≤◌, ℕ, Contains}
 use Rattle.log_model.specs.Entry.{Entry}
 use Rattle.recovery.specs.Kept.{Kept}
 
@@ -17,7 +15,3 @@ pub record IsHighestKept (k : Kept) (r n : ℕ) : Type 0 where
 -- the region has no entry above the flushed number
 abbrev pub NoneKept : Kept → ℕ → Type 0
 NoneKept k r = (e : Entry) → Contains k.durable e → e.region ≡ r → e.number ≤ k.flushed r
-
--- the cells' sequence ids lie between these
-abbrev pub IsWithin : ℕ → ℕ → List NumberedCell → Type 0
-IsWithin from to cells = AllByRecursion (λ x. (from ≤ x.0) × (x.0 ≤ to)) cells

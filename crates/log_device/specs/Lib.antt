@@ -3,3 +3,4 @@ pub mod Leaves
 pub mod Flushed
 pub mod Numbered
 pub mod Whole
+pub mod Archived

@@ -6,12 +6,13 @@ ghost use Rattle.recovery.specs.Kept.{flushed_to};
 ghost use Rattle.disk_images.specs.Crash.{Throughout};
 ghost use Rattle.disk_images.specs.Calls.{HasCause};
 ghost use Rattle.log_file.specs.Open.{OpenLog};
+ghost use Rattle.flush_snapshot.specs.Cut.{IsWithin};
 ghost use Rattle.log_ledger.specs.History.{History, committed_in, flushed_in};
-ghost use Rattle.log_ledger.specs.Books.{IsServed};
+ghost use Rattle.log_ledger.specs.Books.{IsServed, AreInOrder};
 ghost use Rattle.log_ledger.specs.Counted.{PutsCut};
 ghost use Rattle.log_device.specs.Keeps.{Between};
 ghost use Rattle.log_device.specs.Leaves.{Leaves};
-ghost use Rattle.log_device.specs.Flushed.{IsHighestKept, NoneKept, IsWithin};
+ghost use Rattle.log_device.specs.Flushed.{IsHighestKept, NoneKept};
 ghost use Rattle.log_device.specs.Whole.{IsWhole, IsBroken, disk_of, log_of, books_of};
 
 use crate::device::Device;
@@ -80,8 +81,14 @@ impl<D: Disk> Device<D> {
     }
 
     /// Writes these cells, which are what the region has above its flushed number, as its next store file.
-    fn write_store(&mut self, alloc: Global, region: u32, cells: NumberedCells) -> Result<u64, DeviceFlush>
+    fn write_store(
+        &mut self,
+        alloc: Global,
+        region: u32,
+        cells: NumberedCells,
+    ) -> Result<u64, DeviceFlush>
         requires served { IsServed (books_of self.old) region }
+        requires order { AreInOrder (books_of self.old) }
         requires above { get_or (books_of self.old).accounts.flushed region 0 < get_or (books_of self.old).drawn region 0 }
         requires within { IsWithin (get_or (books_of self.old).accounts.flushed region 0 + 1) (get_or (books_of self.old).drawn region 0) cells }
         requires whole { IsTrue D.told → ∥ ((h : History) × IsWhole self.old (D.view (disk_of self.old)) h × (h.kept.staged ≡ [])) ∥₁ }

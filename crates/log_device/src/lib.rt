@@ -10,4 +10,6 @@ mod rolling;
 mod staging;
 
 pub use device::Device;
-pub use error::{DeviceFlush, DeviceRefusal, DeviceWhy, RollRefusal, Rolled, StageFull, WriteFault};
+pub use error::{
+    DeviceFlush, DeviceRefusal, DeviceWhy, RollRefusal, Rolled, StageFull, WriteFault,
+};

@@ -10,7 +10,12 @@ use disk_images::{Disk, Name};
 use log_file::{DiskFault, LogFile, Stage};
 
 /// Ends a log in which nothing is staged, and begins the next one with this stage. It makes seven disk calls.
-pub(crate) fn next_log<D: Disk>(disk: &mut D, log: LogFile, next: Name, stage: Stage) -> Result<LogFile, DiskFault>
+pub(crate) fn next_log<D: Disk>(
+    disk: &mut D,
+    log: LogFile,
+    next: Name,
+    stage: Stage,
+) -> Result<LogFile, DiskFault>
     requires kept { IsTrue D.told → ∥ ((h : History) × (ns : List ℕ) × Keeps log (D.view disk.old) h ns) ∥₁ }
     requires idle { log.staged ≡ 0 }
     requires next { next ≡ log_name (log.name.number + 1) }

@@ -20,3 +20,10 @@ drawn_small b order =
     let bound = sum_bound b.drawn (2 ^ 48) (λ r. omega (arith, (order.regions r).drawn)) in
     let width : length b.drawn * 2 ^ 48 ≡ 65 * 2 ^ 48 = ap (λ (n : ℕ). n * 2 ^ 48) order.wide.drawn in
     omega (arith, bound, width)
+
+-- a region that is served has a place
+pub served_place : (b : Books) (r : ℕ) → AreInOrder b → IsServed b r → r < 65
+served_place b r order served = elim (cases_lt r (length b.next_store)) as (λ _. r < 65) [
+  | inl within ↦ omega (arith, within, order.wide.next_store)
+  | inr past ↦ absurd (let none = get_or_past b.next_store r 0 past in omega (arith, none, served))
+]

@@ -35,8 +35,8 @@ begin_with-requires-clause-absent g c told =
     let u = g.D.Disk.view c.args.disk.now in
     let v = g.D.Disk.view c.finish.new.disk in
     let free : (r : (h : History) × (ns : List ℕ) × Keeps c.args.log u h ns) → IsAbsent v.files (log_name (c.args.log.name.number + 1)) × (v.gone (log_name (c.args.log.name.number + 1)) → ⊥) =
-        λ r. still_free c.args.log u v v r.0 r.1 r.2 (g.met.D.Disk.is_true c.args.disk.now told) (g.met.D.Disk.is_true c.finish.new.disk told)
-            (c.finish.ensures.any_moment told r.0.current r.2.open_log) (c.finish.ensures.touches told) (c.in_ok-finish.ensures.finished told r.0.current r.2.open_log) in
+    λ r. still_free c.args.log u v v r.0 r.1 r.2 (g.met.D.Disk.is_true c.args.disk.now told) (g.met.D.Disk.is_true c.finish.new.disk told)
+    (c.finish.ensures.any_moment told r.0.current r.2.open_log) (c.finish.ensures.touches told) (c.in_ok-finish.ensures.finished told r.0.current r.2.open_log) in
     subst (λ (n : Name). IsAbsent v.files n × (v.gone n → ⊥)) (sym c.requires.next)
     (absent_by (content v.files (log_name (c.args.log.name.number + 1))) (c.requires.kept told) (λ r. (free r).0), λ gone. ∥∥₁_elim (c.requires.kept told) (λ a b. absurd a) (λ r. (free r).1 gone))
 
@@ -69,9 +69,9 @@ returns-clause-kept g c told h ns keeps none =
     let w = g.D.Disk.view c.begin_with.new.disk in
     three c.begin_with.result
     (λ (now : OpenLog) (is_open : IsOpen now w []) (name : now.name ≡ c.args.next) (empty : (now.entries ≡ 0) × IsStaged now []).
-        roll_kept c.args.log u v w h ns keeps (g.met.D.Disk.is_true c.args.disk.now told) (g.met.D.Disk.is_true c.finish.new.disk told)
-        (c.finish.ensures.any_moment told h.current keeps.open_log) (c.finish.ensures.touches told) (c.in_ok-finish.ensures.finished told h.current keeps.open_log)
-        (subst (λ (n : Name). Throughout (OnlyAt n (HasEntries n []) v) 3 v w) c.requires.next (c.begin_with.ensures.any_moment told))
-        (subst (λ (n : Name). Touches n v w) c.requires.next (c.begin_with.ensures.touches told))
-        now none (name ∙ c.requires.next) is_open empty.1)
+    roll_kept c.args.log u v w h ns keeps (g.met.D.Disk.is_true c.args.disk.now told) (g.met.D.Disk.is_true c.finish.new.disk told)
+    (c.finish.ensures.any_moment told h.current keeps.open_log) (c.finish.ensures.touches told) (c.in_ok-finish.ensures.finished told h.current keeps.open_log)
+    (subst (λ (n : Name). Throughout (OnlyAt n (HasEntries n []) v) 3 v w) c.requires.next (c.begin_with.ensures.any_moment told))
+    (subst (λ (n : Name). Touches n v w) c.requires.next (c.begin_with.ensures.touches told))
+    now none (name ∙ c.requires.next) is_open empty.1)
     (c.begin_with.ensures.begun told) c.begin_with.ensures.name c.begin_with.ensures.empty

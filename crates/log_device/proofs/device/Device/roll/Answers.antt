@@ -41,7 +41,7 @@ returns-in_err-commit_staged-clause-in_order g c told h file whole is =
 pub roll_committed-requires-clause-whole : goal.roll_committed-requires-clause-whole
 roll_committed-requires-clause-whole g c told =
     ∥∥₁_map (c.requires told (λ broken. absurd (cc (subst (λ (x : Result ℕ WriteFault). IsErr x) c.in_ok-commit_staged.was
-        (c.commit_staged.ensures.broken.1 (ap (λ (d : Device g.row.D.Denot). d.log) (c.commit_staged.ensures.stays broken) ∙ broken)))))) (λ r. (committed_in r.0, c.in_ok-commit_staged.ensures.committed told r.0 r.1))
+    (c.commit_staged.ensures.broken.1 (ap (λ (d : Device g.row.D.Denot). d.log) (c.commit_staged.ensures.stays broken) ∙ broken)))))) (λ r. (committed_in r.0, c.in_ok-commit_staged.ensures.committed told r.0 r.1))
 
 pub returns-clause-any_moment : goal.returns-clause-any_moment
 returns-clause-any_moment g c told h whole =

@@ -33,12 +33,15 @@ invariant_of-self-2 g c = record {
 
 pub begin_next-requires-clause-whole : goal.begin_next-requires-clause-whole
 begin_next-requires-clause-whole g c told =
-    ∥∥₁_map (c.requires.whole told) (λ r. (r.0, record {
-      file = r.1.file;
-      is = r.1.is;
-      keeps = subst (λ (ns : List ℕ). Keeps r.1.file (g.D.Disk.view c.args.self.now.disk) r.0 ns) (sym (ap (λ (b : Books). b.next_store) c.reserve_file.ensures.same)) r.1.keeps;
-      counted = c.reserve_file.ensures.counted r.0 r.1.counted;
-    }))
+    ∥∥₁_map (c.requires.whole told) (λ r. (
+      r.0,
+      record {
+        file = r.1.file;
+        is = r.1.is;
+        keeps = subst (λ (ns : List ℕ). Keeps r.1.file (g.D.Disk.view c.args.self.now.disk) r.0 ns) (sym (ap (λ (b : Books). b.next_store) c.reserve_file.ensures.same)) r.1.keeps;
+        counted = c.reserve_file.ensures.counted r.0 r.1.counted;
+      },
+    ))
 
 pub returns-in_err-begin_next-clause-any_moment : goal.returns-in_err-begin_next-clause-any_moment
 returns-in_err-begin_next-clause-any_moment g c told h file whole is =
