@@ -1,15 +1,15 @@
 -- The numbers that the regions begin with.
-use Rattle.std.proofs.Common.{◌≡◌, ◌≢◌, ◌⊎◌, ◌↔◌, inl, inr, ℕ, suc, ◌+◌, ◌<◌, ◌≤◌, ◌^◌, ⊎_elim, List, [], ◌∷◌, ◌++◌, length, map, get_or, set, replicate, Contains, refl, sym, ap, subst, ◌∙◌, arith, length-set, get_or-set_other, take}
+use Rattle.std.proofs.Common.{◌≡◌, ◌≢◌, ◌⊎◌, inl, inr, ℕ, suc, ◌+◌, ◌<◌, ◌≤◌, ⊎_elim, List, [], ◌∷◌, length, map, get_or, set, replicate, Contains, refl, sym, ap, subst, ◌∙◌, arith, length-set, get_or-set_other}
 use Rattle.std.specs.Prelude.{All, AllPairs}
 use Rattle.std.proofs.lemmas.Grind.{get_or-set_at}
 use Rattle.std.proofs.lemmas.Bool.{cases_eq}
-use Rattle.std.proofs.lemmas.List.{get_or_default, length-map, length-replicate}
+use Rattle.std.proofs.lemmas.List.{get_or_default, length-replicate}
 use Rattle.std.proofs.lemmas.List.Elements.{Contains-get_or, All-map}
 use Rattle.std.proofs.lemmas.List.Kept.{AllPairs-cons}
 use Rattle.seq_accounting.specs.declared.region.RegionMark.{RegionMark}
 use Rattle.seq_accounting.specs.Accounts.{AreApart, AreFlushed}
 use Rattle.log_ledger.specs.declared.base.RegionBase.{RegionBase}
-use Rattle.log_ledger.specs.Bases.{IsBase, AreOther, AreRegions, IsAmong, mark_of, AreNumbersOf}
+use Rattle.log_ledger.specs.Bases.{AreOther, AreRegions, IsAmong, mark_of, AreNumbersOf}
 use Rattle.log_ledger.proofs.Chains.{none_at, at_first, at_later, at_either}
 use Rattle.log_ledger.proofs.Sets.{spread}
 

@@ -1,8 +1,7 @@
 -- The numbers at the start.
-use Rattle.std.proofs.Common.{◌≡◌, ◌⊎◌, ◌↔◌, inl, inr, ℕ, ◌+◌, ◌-◌, ◌<◌, ◌≤◌, ◌^◌, List, [], ◌∷◌, ◌++◌, length, map, get_or, replicate, Contains, refl, sym, ap, ◌∙◌, subst, arith}
+use Rattle.std.proofs.Common.{◌≡◌, ◌↔◌, inl, inr, ℕ, ◌+◌, ◌-◌, ◌≤◌, ◌^◌, List, [], length, map, get_or, replicate, Contains, refl, sym, ap, ◌∙◌, subst, arith}
 use Rattle.std.specs.Prelude.{AllPairs}
 use Rattle.std.proofs.lemmas.List.{length-replicate}
-use Rattle.log_model.specs.Entry.{Entry}
 use Rattle.log_model.specs.Files.{Files}
 use Rattle.log_model.specs.Recovered.{IsFlushed}
 use Rattle.recovery.specs.Kept.{HasNoLogs, start_of}
@@ -10,7 +9,7 @@ use Rattle.recovery.proofs.Lists.{none_in}
 use Rattle.recovery.proofs.Started.{started_orderly}
 use Rattle.seq_accounting.specs.declared.region.RegionMark.{RegionMark}
 use Rattle.seq_accounting.specs.Accounts.{Accounts, ClosedFile, IsBefore, AreFlushed}
-use Rattle.log_trucks.specs.Held.{Held, AreHeld}
+use Rattle.log_trucks.specs.Held.{Held}
 use Rattle.log_ledger.specs.declared.base.RegionBase.{RegionBase}
 use Rattle.log_ledger.specs.History.{started_in}
 use Rattle.log_ledger.specs.Books.{Books, IsServed, IsChain, IsRegionInOrder, AreInOrder}

@@ -1,5 +1,5 @@
 -- The cells of trucks, and what they put.
-use Rattle.std.proofs.Common.{◌≡◌, ◌⊎◌, ◌↔◌, inl, inr, ℕ, ◌+◌, ◌<◌, ◌≤◌, List, [], ◌∷◌, ◌++◌, get_or, Contains, Some, refl, sym, ap, ◌∙◌, subst, arith, append-nil}
+use Rattle.std.proofs.Common.{◌≡◌, ℕ, ◌+◌, ◌<◌, ◌≤◌, List, [], ◌∷◌, ◌++◌, Contains, Some, refl, sym, ap, ◌∙◌, subst, arith, append-nil}
 use Rattle.std.specs.Prelude.{Result, Ok, Err, IfOk}
 use Rattle.std.specs.List.{AllByRecursion, AllByRecursion-prop, flat_map}
 use Rattle.std.specs.FinMap.{get, empty}
@@ -14,7 +14,7 @@ use Rattle.log_model.specs.Entry.{Entry}
 use Rattle.log_model.specs.Recovered.{Puts, put_entries}
 use Rattle.recovery.specs.Kept.{Kept}
 use Rattle.recovery.proofs.Contents.{cut_has}
-use Rattle.log_trucks.specs.Held.{Held, IsHeld, AreHeld}
+use Rattle.log_trucks.specs.Held.{Held, AreHeld}
 use Rattle.log_ledger.specs.Books.{IsChain}
 use Rattle.log_ledger.specs.Counted.{CarriesUnflushed, PutsCut}
 use Rattle.log_ledger.proofs.Chains.{at_first, at_later}

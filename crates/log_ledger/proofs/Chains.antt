@@ -1,8 +1,8 @@
 -- Trucks and the entries that they keep.
-use Rattle.std.proofs.Common.{◌≡◌, ◌⊎◌, inl, inr, ℕ, ◌<◌, ◌≤◌, List, [], ◌∷◌, Contains, refl, sym, ap, ◌∙◌, subst, arith}
+use Rattle.std.proofs.Common.{◌≡◌, ◌⊎◌, inl, inr, List, [], ◌∷◌, Contains, sym, ap, ◌∙◌, arith}
 use Rattle.std.proofs.lemmas.List.Elements.{Contains-append_left, Contains-append_right, Contains-append_cases, Contains-push, Contains-push_cases}
 use Rattle.log_model.specs.Entry.{Entry}
-use Rattle.log_trucks.specs.Held.{Held, IsHeld, AreHeld}
+use Rattle.log_trucks.specs.Held.{Held, AreHeld}
 use Rattle.recovery.proofs.Lists.{none_in, first_or_later}
 
 pub none_at : {A : Type 0} (x : A) → Contains [] x → ⊥

@@ -1,14 +1,12 @@
 -- The numbers once what is staged is committed, and once the current file is closed.
-use Rattle.std.proofs.Common.{◌≡◌, ◌⊎◌, ◌↔◌, inl, inr, ℕ, ◌<◌, ◌≤◌, List, [], ◌∷◌, ◌++◌, get_or, replicate, Contains, refl, sym, ap, ◌∙◌, subst, arith, append-nil}
+use Rattle.std.proofs.Common.{◌≡◌, ◌⊎◌, ◌↔◌, inl, inr, ℕ, ◌<◌, List, [], ◌∷◌, ◌++◌, get_or, Contains, refl, sym, ap, ◌∙◌, subst, arith, append-nil}
 use Rattle.std.proofs.lemmas.List.Elements.{Contains-append_left, Contains-append_right, Contains-append_cases}
 use Rattle.log_model.specs.Entry.{Entry}
-use Rattle.recovery.specs.Kept.{Kept, lasts}
 use Rattle.recovery.proofs.Rising.{lasts-append}
 use Rattle.recovery.proofs.Likes.{orderly_committed}
 use Rattle.recovery.proofs.Lists.{none_in}
 use Rattle.seq_accounting.specs.Accounts.{ClosedFile}
-use Rattle.log_trucks.specs.Held.{Held}
-use Rattle.log_ledger.specs.History.{History, ClosedLog, committed_in, closed_in}
+use Rattle.log_ledger.specs.History.{History, committed_in, closed_in}
 use Rattle.log_ledger.specs.Books.{Books, IsServed, AreInOrder}
 use Rattle.log_ledger.specs.Counted.{IsHighest, IsCountedLog, AreCounted, CarriesUnflushed, IsCounted}
 use Rattle.log_ledger.proofs.Sets.{same_at, spread}

@@ -1,16 +1,19 @@
 -- The numbers once a region is flushed, and once a closed file is forgotten.
-use Rattle.std.proofs.Common.{◌≡◌, ◌⊎◌, ◌↔◌, inl, inr, ℕ, ◌+◌, ◌<◌, ◌≤◌, ◌==◌, if◌then◌else◌, Bool, false, List, [], ◌∷◌, ◌++◌, length, get_or, set, Contains, refl, sym, ap, ◌∙◌, subst, arith, append-nil}
+use Rattle.std.proofs.Common.{◌≡◌, ◌↔◌, inl, inr, ℕ, ◌+◌, ◌<◌, ◌≤◌, List, [], ◌++◌, length, get_or, set, Contains, refl, sym, ap, ◌∙◌, subst, arith}
 use Rattle.std.proofs.lemmas.Bool.{cases_eq, cases_lt}
 use Rattle.std.proofs.lemmas.Bool.Decides.{nat_tests}
+use Rattle.std.proofs.lemmas.List.Elements.{Contains-append_left}
 use Rattle.log_model.specs.Entry.{Entry}
 use Rattle.recovery.specs.Kept.{Kept, lasts, flushed_to}
+use Rattle.recovery.specs.Change.{last_of}
+use Rattle.recovery.proofs.Rising.{last_is}
 use Rattle.recovery.proofs.Likes.{orderly_flushed}
 use Rattle.recovery.proofs.Lists.{none_in}
 use Rattle.seq_accounting.specs.Accounts.{ClosedFile}
-use Rattle.log_trucks.specs.Held.{Held, AreHeld}
+use Rattle.log_trucks.specs.Held.{Held}
 use Rattle.log_ledger.specs.History.{History, flushed_in, archived_in}
 use Rattle.log_ledger.specs.Books.{Books, IsServed, IsChain, AreInOrder}
-use Rattle.log_ledger.specs.Counted.{IsHighest, AreCounted, CarriesUnflushed, IsCounted}
+use Rattle.log_ledger.specs.Counted.{IsHighest, AreCounted, CarriesUnflushed, IsCounted, IsHighestKept}
 use Rattle.log_ledger.proofs.Sets.{same_at, set_here, set_there, within}
 use Rattle.log_ledger.proofs.Chains.{truck_of}
 use Rattle.log_ledger.proofs.Logs.{counted_logs, counted_others}
@@ -30,6 +33,27 @@ none_unflushed b h r order served counted all e has region = elim (cases_lt (h.k
   | inl above ↦ omega (arith, unflushed_bound h.kept r (get_or b.accounts.flushed r 0) (get_or b.drawn r 0) (get_or b.chains r []) (order.regions r).chain (counted.chains r served) e has region above, all, counted.flushed r served)
   | inr low ↦ low
 ]
+
+-- where not all is flushed, the last durable entry has the last sequence id
+pub highest_kept : (b : Books) (h : History) (r : ℕ) → AreInOrder b → IsServed b r → IsCounted b h → h.kept.staged ≡ [] → get_or b.accounts.flushed r 0 < get_or b.drawn r 0
+    → IsHighestKept h.kept r (get_or b.drawn r 0)
+highest_kept b h r order served counted none some = elim (last_is r (h.kept.first r) h.kept.durable) as (λ _. IsHighestKept h.kept r (get_or b.drawn r 0)) [
+  | inl e ↦ record { entry = e.0; member = e.1; region = e.2; number = e.3 ∙ sym last; above = above; bound = bound }
+  | inr first ↦ absurd (omega (arith, last, first, counted.orderly.from r, above))
+]
+  where
+    last : get_or b.drawn r 0 ≡ last_of r (h.kept.first r) h.kept.durable
+    last = counted.drawn r served ∙ ap (λ (l : List Entry). lasts (lasts h.kept.first h.kept.durable) l r) none
+
+    above : h.kept.flushed r < get_or b.drawn r 0
+    above = omega (arith, counted.flushed r served, some)
+
+    bound : (e : Entry) → Contains h.kept.durable e → e.region ≡ r → e.number ≤ get_or b.drawn r 0
+    bound e has region = elim (cases_lt (h.kept.flushed r) e.number) as (λ _. e.number ≤ get_or b.drawn r 0) [
+      | inl over ↦ unflushed_bound h.kept r (get_or b.accounts.flushed r 0) (get_or b.drawn r 0) (get_or b.chains r []) (order.regions r).chain (counted.chains r served) e
+          (Contains-append_left h.kept.durable h.kept.staged e has) region over
+      | inr under ↦ omega (arith, under, above)
+    ]
 
 flushed_here : (k : Kept) (r n q : ℕ) → q ≡ r → (flushed_to k r n).flushed q ≡ n
 flushed_here k r n q here = grind (arith, nat_tests)

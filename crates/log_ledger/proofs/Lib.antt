@@ -11,4 +11,5 @@ mod Cells
 mod Orders
 mod Bases
 mod Begun
+pub mod Tells
 pub mod DrawnSums

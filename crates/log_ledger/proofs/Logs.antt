@@ -1,15 +1,13 @@
 -- Closed files and the logs that they are.
-use Rattle.std.proofs.Common.{◌≡◌, ◌⊎◌, inl, inr, ℕ, ◌+◌, ◌<◌, ◌≤◌, Bool, true, false, not, ◌==◌, cond, List, [], ◌∷◌, ◌++◌, length, get_or, Contains, refl, sym, ap, ◌∙◌, subst, arith}
+use Rattle.std.proofs.Common.{◌≡◌, inl, inr, ℕ, Bool, true, false, not, ◌==◌, cond, List, [], ◌∷◌, ◌++◌, length, get_or, Contains, refl, sym, ap, ◌∙◌, subst, arith}
 use Rattle.std.specs.Prelude.{filter, Option, Some, None, MatchOption}
-use Rattle.std.proofs.lemmas.Bool.{cases_eq, eq-eqb, ne_eqb}
-use Rattle.log_model.specs.Entry.{Entry}
 use Rattle.log_model.specs.Recovered.{IsWhollyFlushed}
 use Rattle.seq_accounting.specs.Accounts.{ClosedFile}
-use Rattle.seq_accounting.specs.Accounts.{AreLower, IsBefore, without}
+use Rattle.seq_accounting.specs.Accounts.{AreLower, without}
 use Rattle.log_archive.specs.First.{NoneToGo, IsFirstToGo}
 use Rattle.log_ledger.specs.History.{History, ClosedLog, is_other}
 use Rattle.log_ledger.specs.Books.{Books, IsServed}
-use Rattle.log_ledger.specs.Counted.{IsHighest, IsCountedLog, AreCounted, IsCounted, MayGo, NoneMayGo}
+use Rattle.log_ledger.specs.Counted.{IsCountedLog, AreCounted, IsCounted, MayGo, NoneMayGo}
 use Rattle.log_ledger.proofs.Chains.{none_at, at_first, at_later, at_either}
 use Rattle.log_ledger.proofs.Highest.{highest_lower}
 use Rattle.log_ledger.proofs.Sets.{within}

@@ -1,8 +1,8 @@
 -- What always holds stays so at each call.
-use Rattle.std.proofs.Common.{◌≡◌, ◌⊎◌, inl, inr, ℕ, suc, ◌+◌, ◌<◌, ◌≤◌, ◌^◌, ◌==◌, Bool, true, false, not, cond, List, [], ◌∷◌, ◌++◌, length, get_or, set, replicate, Contains, refl, sym, ap, ◌∙◌, subst, arith}
+use Rattle.std.proofs.Common.{◌≡◌, inl, inr, ℕ, suc, ◌+◌, ◌<◌, ◌≤◌, ◌^◌, ◌==◌, Bool, not, cond, List, [], ◌∷◌, length, get_or, set, replicate, Contains, refl, sym, ap, ◌∙◌, subst, arith}
 use Rattle.std.specs.Prelude.{AllPairs, filter}
 use Rattle.std.specs.Coded.{le_prop}
-use Rattle.std.proofs.Math.Logic.{∥∥₁_map, ∥∥₁_elim, ∥∥₁_map₂}
+use Rattle.std.proofs.Math.Logic.{∥∥₁_elim, ∥∥₁_map₂}
 use Rattle.std.proofs.Math.Nat.{ℕ_set}
 use Rattle.std.proofs.lemmas.Bool.{cases_eq, eq-eqb, ne_eqb}
 use Rattle.std.proofs.lemmas.List.{length-replicate}
@@ -11,9 +11,9 @@ use Rattle.std.proofs.lemmas.List.Kept.{AllPairs-filter}
 use Rattle.std.proofs.lemmas.List.Quantifiers.{all_pairs_push}
 use Rattle.log_model.specs.Entry.{Entry, IsEntry, entry_frame}
 use Rattle.seq_accounting.specs.Accounts.{ClosedFile}
-use Rattle.seq_accounting.specs.Accounts.{Accounts, IsBefore, IsClosed, without}
+use Rattle.seq_accounting.specs.Accounts.{IsBefore, IsClosed, without}
 use Rattle.log_trucks.specs.Held.{Held, Haul, held_of, AreHeld}
-use Rattle.log_ledger.specs.Books.{Books, IsServed, AreWide, IsChain, IsRegionInOrder, AreInOrder}
+use Rattle.log_ledger.specs.Books.{Books, IsServed, IsChain, IsRegionInOrder, AreInOrder}
 use Rattle.log_ledger.proofs.Sets.{same_at, set_here, set_there, length_of_set, spread, within}
 use Rattle.log_ledger.proofs.Chains.{none_at, at_first, at_later, at_either}
 use Rattle.log_ledger.proofs.Steps.{StagedBy, ClosedBy, FlushedBy, ForgottenBy}

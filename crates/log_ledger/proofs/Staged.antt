@@ -1,17 +1,17 @@
 -- The numbers once a truck is staged.
-use Rattle.std.proofs.Common.{◌≡◌, ◌⊎◌, ◌↔◌, inl, inr, ℕ, ◌<◌, ◌≤◌, List, [], ◌∷◌, ◌++◌, length, get_or, set, Contains, refl, sym, ap, ◌∙◌, subst, arith, append_assoc}
+use Rattle.std.proofs.Common.{◌≡◌, ◌⊎◌, inl, inr, ℕ, ◌<◌, List, [], ◌∷◌, ◌++◌, length, get_or, Contains, sym, ap, ◌∙◌, subst, arith, append_assoc}
 use Rattle.std.proofs.lemmas.Bool.{cases_eq}
-use Rattle.std.proofs.lemmas.List.Elements.{Contains-append_left, Contains-append_right, Contains-append_cases, Contains-push, Contains-push_cases}
+use Rattle.std.proofs.lemmas.List.Elements.{Contains-append_left, Contains-push, Contains-push_cases}
 use Rattle.log_model.specs.Entry.{Entry, IsEntry, entry_frame}
 use Rattle.recovery.specs.Kept.{Kept, lasts, with_staged}
 use Rattle.recovery.proofs.Rising.{lasts_here, lasts_other}
 use Rattle.recovery.proofs.Likes.{orderly_staged}
 use Rattle.recovery.proofs.Lists.{first_or_later, is_first, is_later}
 use Rattle.seq_accounting.specs.Accounts.{ClosedFile}
-use Rattle.log_trucks.specs.Held.{Held, Haul, held_of, IsHeld, AreHeld}
-use Rattle.log_ledger.specs.History.{History, ClosedLog, staged_in}
-use Rattle.log_ledger.specs.Books.{Books, IsServed, IsChain, AreInOrder}
-use Rattle.log_ledger.specs.Counted.{IsHighest, IsCountedLog, AreCounted, CarriesUnflushed, IsCounted}
+use Rattle.log_trucks.specs.Held.{Held, Haul, held_of, IsHeld}
+use Rattle.log_ledger.specs.History.{History, staged_in}
+use Rattle.log_ledger.specs.Books.{Books, IsServed, AreInOrder}
+use Rattle.log_ledger.specs.Counted.{IsHighest, AreCounted, CarriesUnflushed, IsCounted}
 use Rattle.log_ledger.proofs.Sets.{same_at, set_here, set_there, within}
 use Rattle.log_ledger.proofs.Chains.{truck_of}
 use Rattle.log_ledger.proofs.Highest.{highest_here, highest_other}

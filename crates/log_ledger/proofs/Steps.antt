@@ -1,5 +1,5 @@
 -- How the calls change the numbers.
-use Rattle.std.proofs.Common.{◌≡◌, ℕ, ◌+◌, List, [], ◌∷◌, ◌++◌, get_or, set, replicate}
+use Rattle.std.proofs.Common.{◌≡◌, ℕ, ◌+◌, [], ◌∷◌, ◌++◌, get_or, set, replicate}
 use Rattle.seq_accounting.specs.Accounts.{without}
 use Rattle.log_trucks.specs.Held.{Haul, held_of}
 use Rattle.log_ledger.specs.Books.{Books, SameRegions}

@@ -60,3 +60,12 @@ NoneMayGo h = (c : ClosedLog) → Contains h.logs c → IsWhollyFlushed h.kept.f
 -- cells put exactly what the region's unflushed entries put up to a sequence id
 abbrev pub PutsCut : Kept → ℕ → ℕ → List NumberedCell → Type 0
 PutsCut k r n cells = (v : VersionKey) (p : Payload) → (get (put_numbered empty cells) v ≡ Some p) ↔ ((e : Entry) × Contains k.durable e × (e.region ≡ r) × (k.flushed r < e.number) × (e.number ≤ n) × Puts e v p)
+
+-- the region's last durable entry isn't flushed, and has this sequence id
+pub record IsHighestKept (k : Kept) (r n : ℕ) : Type 0 where
+  pub entry : Entry
+  pub member : Contains k.durable entry
+  pub region : entry.region ≡ r
+  pub number : entry.number ≡ n
+  pub above : k.flushed r < n
+  pub bound : (e : Entry) → Contains k.durable e → e.region ≡ r → e.number ≤ n

@@ -1,12 +1,12 @@
 //! What is flushed of each region.
 
-ghost use Rattle.std.specs.Prelude.{◌≡◌, ◌↔◌, ◌+◌, ◌<◌, ◌≤◌, ◌++◌, [], false, Contains, IfOk, IsTrue, get_or, slice_set};
+ghost use Rattle.std.specs.Prelude.{◌≡◌, ◌↔◌, ◌+◌, ◌<◌, ◌≤◌, ◌++◌, [], false, true, Contains, IfOk, IsTrue, get_or, slice_set};
 ghost use Rattle.std.specs.List.{AllByRecursion};
 ghost use Rattle.log_model.specs.Entry.{Entry};
 ghost use Rattle.seq_accounting.specs.Accounts.{SameFiles};
 ghost use Rattle.log_ledger.specs.History.{History, flushed_in};
 ghost use Rattle.log_ledger.specs.Books.{IsServed, AreInOrder};
-ghost use Rattle.log_ledger.specs.Counted.{IsCounted, PutsCut};
+ghost use Rattle.log_ledger.specs.Counted.{IsCounted, IsHighestKept, PutsCut};
 
 use crate::ledger::Ledger;
 use kv_cell::{NoMemory, NumberedCells};
@@ -19,6 +19,7 @@ impl Ledger {
         ensures order { AreInOrder self.now }
         ensures above { IsTrue result ↔ (get_or self.now.accounts.flushed region 0 < get_or self.now.drawn region 0) }
         ensures none { (h : History) → IsCounted self.now h → result ≡ false → (e : Entry) → Contains (h.kept.durable ++ h.kept.staged) e → e.region ≡ region → e.number ≤ h.kept.flushed region }
+        ensures highest { (h : History) → IsCounted self.now h → h.kept.staged ≡ [] → result ≡ true → IsHighestKept h.kept region (get_or self.now.drawn region 0) }
     {
         self.accounts.flushed(region) < self.drawn[region as usize]
     }

@@ -10,3 +10,6 @@ mod staging;
 
 pub use base::RegionBase;
 pub use ledger::Ledger;
+
+#[cfg(test)]
+mod tests;

@@ -1,6 +1,6 @@
 //! The accounting of regions and files.
 
-ghost use Rattle.std.specs.Prelude.{◌≡◌, ℕ, ◌+◌, ◌-◌, ◌<◌, ◌≤◌, ◌↔◌, List, [], ◌∷◌, ◌++◌, length, replicate, slice_set, get_or, All, AllPairs, Contains, IsTrue, IsNone, IfOk, OnOk, OnErr, MatchOption};
+ghost use Rattle.std.specs.Prelude.{◌≡◌, ℕ, ◌+◌, ◌-◌, ◌<◌, ◌≤◌, ◌↔◌, List, [], ◌∷◌, ◌++◌, replicate, slice_set, get_or, All, AllPairs, Contains, IsTrue, IsNone, IfOk, OnOk, OnErr, MatchOption};
 ghost use Rattle.seq_accounting.specs.Accounts.{ClosedFile, AreLower, IsClosed, without, NoneClosedAbove, IsNextClosed, AreApart, AreFlushed, SameNumbers, SameFiles};
 ghost use Rattle.seq_accounting.specs.Noted.{Note, NoneAbove, IsLeastAbove, HasNoted};
 ghost use Rattle.seq_accounting.specs.Order.{IsInOrder};
@@ -47,7 +47,6 @@ impl Accounting {
     pub fn new(alloc: Global, regions: &[RegionMark]) -> Result<Accounting, NoMemory>
         requires within { All (λ m. m.region ≤ 64) regions.now }
         requires apart { AllPairs AreApart regions.now }
-        ensures wide { IfOk result (λ a. length a.flushed ≡ REGIONS) }
         ensures flushed { IfOk result (λ a. AreFlushed regions.now a.flushed) }
         ensures noted { IfOk result (λ a. a.noted ≡ a.flushed) }
         ensures flushing { IfOk result (λ a. a.flushing ≡ replicate REGIONS 0) }

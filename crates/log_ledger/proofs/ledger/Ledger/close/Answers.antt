@@ -1,4 +1,4 @@
-use Rattle.std.proofs.Common.{◌≡◌, [], ◌∷◌, ◌++◌, subst, sym, ◌∙◌, arith, ap}
+use Rattle.std.proofs.Common.{[], ◌∷◌, ◌++◌, subst, ◌∙◌}
 use Rattle.log_ledger.specs.Books.{Books, AreInOrder}
 use Rattle.log_ledger.proofs.Steps.{ClosedBy}
 use Rattle.log_ledger.proofs.Committed.{counted_closed}

@@ -1,4 +1,4 @@
-use Rattle.std.proofs.Common.{subst, sym, ap, ◌∙◌}
+use Rattle.std.proofs.Common.{subst, sym}
 use Rattle.log_ledger.specs.Books.{Books, AreInOrder}
 use Rattle.log_ledger.specs.Counted.{IsCounted}
 use Rattle.log_ledger.specs.History.{committed_in}

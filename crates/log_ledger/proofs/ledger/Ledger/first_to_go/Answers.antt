@@ -2,7 +2,6 @@ use Rattle.std.proofs.Common.{subst}
 use Rattle.std.specs.Prelude.{MatchOption}
 use Rattle.log_archive.specs.First.{NoneToGo, IsFirstToGo}
 use Rattle.log_ledger.specs.Books.{Books, AreInOrder}
-use Rattle.log_ledger.specs.Counted.{IsCounted}
 use Rattle.log_ledger.proofs.Logs.{first_counted}
 use Rattle.log_ledger.proofs.DrawnSums.{drawn_small}
 use Rattle.log_ledger.proofs.Orders.{few_closed}

@@ -1,4 +1,4 @@
-use Rattle.std.proofs.Common.{◌≡◌, ◌+◌, [], get_or, set, subst, sym, ◌∙◌, ap}
+use Rattle.std.proofs.Common.{◌+◌, [], get_or, set, subst, ◌∙◌}
 use Rattle.log_ledger.specs.Books.{Books, AreInOrder}
 use Rattle.log_ledger.proofs.Steps.{FlushedBy}
 use Rattle.log_ledger.proofs.Flushed.{counted_flushed}

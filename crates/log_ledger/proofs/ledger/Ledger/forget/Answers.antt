@@ -1,4 +1,4 @@
-use Rattle.std.proofs.Common.{◌≡◌, ◌+◌, List, length, subst, sym, ◌∙◌, ap}
+use Rattle.std.proofs.Common.{◌≡◌, ◌+◌, List, length, subst, sym, ◌∙◌}
 use Rattle.seq_accounting.specs.Accounts.{ClosedFile, IsClosed, without}
 use Rattle.log_ledger.specs.Books.{Books, AreInOrder}
 use Rattle.log_ledger.proofs.Steps.{ForgottenBy}

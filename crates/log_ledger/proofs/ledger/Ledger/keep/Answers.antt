@@ -1,4 +1,4 @@
-use Rattle.std.proofs.Common.{◌≡◌, ℕ, get_or, set, subst, sym, ◌∙◌, ap}
+use Rattle.std.proofs.Common.{ℕ, set, subst, sym}
 use Rattle.log_ledger.specs.Books.{Books, IsServed}
 use Rattle.log_ledger.specs.Counted.{IsCounted}
 use Rattle.log_ledger.proofs.Flushed.{counted_kept}

@@ -1,7 +1,6 @@
 use Rattle.std.proofs.Common.{◌≡◌, ◌+◌, ◌≤◌, ℕ, List, [], ◌∷◌, get_or, set, ap, ◌∙◌, subst, sym}
 use Rattle.log_trucks.specs.Held.{Haul, held_of}
 use Rattle.log_ledger.specs.Books.{Books, AreInOrder}
-use Rattle.log_ledger.specs.Counted.{IsCounted}
 use Rattle.std.specs.Prelude.{sum}
 use Rattle.log_ledger.proofs.DrawnSums.{drawn_grow}
 use Rattle.log_ledger.proofs.Steps.{StagedBy}
