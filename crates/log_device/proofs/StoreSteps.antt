@@ -40,8 +40,8 @@ module _ (file : OpenLog) (u w : DiskView) (h : History) (b : Books) (keeps : Ke
     stored_moments over = (
       7 + length (ordered_cells cells),
       subst (λ (n : ℕ). Throughout (Between h.kept file.name h.current (flushed_to h.kept r n) file.name h.current) (7 + length (ordered_cells cells)) u w) to_is
-      (store_moments file u w h b.next_store keeps sound r to (cut_store (store_name r (get_or b.next_store r 0)) from to cells) (7 + length (ordered_cells cells)) served its_cut is_store logged
-      (subst (λ (m : ℕ). Throughout (OnlyAt (store_name r m) (IsWholeOrNot (store_text (cut_store (store_name r m) from to cells))) u) (7 + length (ordered_cells cells)) u w) number_is over)),
+          (store_moments file u w h b.next_store keeps sound r to (cut_store (store_name r (get_or b.next_store r 0)) from to cells) (7 + length (ordered_cells cells)) served its_cut is_store logged
+          (subst (λ (m : ℕ). Throughout (OnlyAt (store_name r m) (IsWholeOrNot (store_text (cut_store (store_name r m) from to cells))) u) (7 + length (ordered_cells cells)) u w) number_is over)),
     )
 
     pub stored_kept : (after : List ℕ) → after ≡ set b.next_store r (get_or b.next_store r 0 + 1) → Throughout (OnlyAt (store_name r number) (IsWholeOrNot (store_text (cut_store (store_name r number) from to cells))) u) (7 + length (ordered_cells cells)) u w

@@ -44,8 +44,7 @@ returns-in-Ok-clause-any_moment g c told h file whole is =
 pub returns-in-Ok-clause-gone : goal.returns-in-Ok-clause-gone
 returns-in-Ok-clause-gone g c told h whole is_ok =
     let w = g.D.Disk.view c.rename_log.new.disk in
-    let go = c.in-Some.ensures.exact h whole.counted in
-    (
+    let go = c.in-Some.ensures.exact h whole.counted in (
       c.in-Some.file,
       go,
       record {

@@ -29,7 +29,7 @@ returns-in_err-commit_staged-clause-any_moment g c told h whole =
 pub flush_committed-requires-clause-whole : goal.flush_committed-requires-clause-whole
 flush_committed-requires-clause-whole g c told =
     ∥∥₁_map (c.requires.whole told (λ broken. absurd (cc (subst (λ (x : Result ℕ WriteFault). IsErr x) c.in_ok-commit_staged.was
-        (c.commit_staged.ensures.broken.1 (ap (λ (d : Device g.row.D.Denot). d.log) (c.commit_staged.ensures.stays broken) ∙ broken))))))
+    (c.commit_staged.ensures.broken.1 (ap (λ (d : Device g.row.D.Denot). d.log) (c.commit_staged.ensures.stays broken) ∙ broken))))))
     (λ r. (committed_in r.0, c.in_ok-commit_staged.ensures.committed told r.0 r.1, refl))
 
 pub returns-clause-any_moment : goal.returns-clause-any_moment
@@ -44,13 +44,12 @@ returns-clause-any_moment g c told h whole =
     let served : IsServed books r = subst (λ (b : Books). IsServed b r) (sym c.in_ok-commit_staged.ensures.synced) c.requires.served in
     let drawn = then.counted.drawn r served in
     let low = (orderly_committed h.kept whole.keeps.orderly).low r in
-    let over = c.flush_committed.ensures.any_moment told (committed_in h) now.0 then now.1 refl in
-    (
+    let over = c.flush_committed.ensures.any_moment told (committed_in h) now.0 then now.1 refl in (
       4 + over.0,
       joined (Leaves c.args.self.now.ledger.stored c.args.self.now.ledger.closed u.files h.kept.staged) 4 over.0 u v w
-      (commit_leaves whole.file u h c.args.self.now.ledger whole.keeps whole.counted (g.met.D.Disk.is_true c.args.self.now.disk told) v (c.commit_staged.ensures.any_moment told h whole.file whole whole.is))
-      (flush_leaves whole.file u h c.args.self.now.ledger whole.keeps whole.counted (g.met.D.Disk.is_true c.args.self.now.disk told) r (get_or books.drawn r 0) over.0 v w (omega (arith, low, drawn)) (omega (arith, drawn))
-      (subst (λ (n : Name). Throughout (Between (committed h.kept) n (h.current ++ h.kept.staged) (flushed_to (committed h.kept) r (get_or books.drawn r 0)) n (h.current ++ h.kept.staged)) over.0 v w) now.2 over.1)),
+          (commit_leaves whole.file u h c.args.self.now.ledger whole.keeps whole.counted (g.met.D.Disk.is_true c.args.self.now.disk told) v (c.commit_staged.ensures.any_moment told h whole.file whole whole.is))
+          (flush_leaves whole.file u h c.args.self.now.ledger whole.keeps whole.counted (g.met.D.Disk.is_true c.args.self.now.disk told) r (get_or books.drawn r 0) over.0 v w (omega (arith, low, drawn)) (omega (arith, drawn))
+          (subst (λ (n : Name). Throughout (Between (committed h.kept) n (h.current ++ h.kept.staged) (flushed_to (committed h.kept) r (get_or books.drawn r 0)) n (h.current ++ h.kept.staged)) over.0 v w) now.2 over.1)),
     )
 
 pub returns-clause-flushed : goal.returns-clause-flushed
@@ -73,8 +72,7 @@ returns-clause-nothing g c told h n whole is =
     let like = (then.keeps.images v.files (g.met.D.Disk.is_true c.commit_staged.new.self.disk told).reads).like in
     let told_of = c.flush_committed.ensures.nothing n is in
     let flushed = then.counted.flushed r served in
-    let drawn = then.counted.drawn r served in
-    (
+    let drawn = then.counted.drawn r served in (
       told_of.0 ∙ flushed,
       λ e member region.
           let at : lasts h.kept.first (h.kept.durable ++ h.kept.staged) e.region ≡ lasts h.kept.first (h.kept.durable ++ h.kept.staged) r = ap (lasts h.kept.first (h.kept.durable ++ h.kept.staged)) region in

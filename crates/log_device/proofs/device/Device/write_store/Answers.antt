@@ -43,7 +43,7 @@ write_cut-requires-clause-absent g c told =
     let sound = g.met.D.Disk.is_true c.args.self.now.disk told in
     let ns = c.args.self.now.ledger.next_store in
     let free : (r : (h : History) × IsWhole c.args.self.now u h × (h.kept.staged ≡ [])) → IsAbsent u.files (store_name c.args.region (get_or ns c.args.region 0)) × (u.gone (store_name c.args.region (get_or ns c.args.region 0)) → ⊥) =
-        λ r. free_store r.1.file u r.0 ns r.1.keeps sound c.args.region c.requires.served in
+    λ r. free_store r.1.file u r.0 ns r.1.keeps sound c.args.region c.requires.served in
     subst (λ (n : ℕ). IsAbsent u.files (store_name c.args.region n) × (u.gone (store_name c.args.region n) → ⊥)) (sym c.next_store.ensures.number)
     (absent_by (content u.files (store_name c.args.region (get_or ns c.args.region 0))) (c.requires.whole told) (λ r. (free r).0), λ gone. ∥∥₁_elim (c.requires.whole told) (λ a b. absurd a) (λ r. (free r).1 gone))
 
