@@ -6,6 +6,7 @@ ghost use Rattle.entry_frame.specs.Feed.{IsDrained};
 use super::*;
 use kv_cell::{Batch, Cell};
 use std::alloc::Global;
+use std::process::Abort;
 use std::test::*;
 
 /// One put into region 1 with number 1 at time 1000: row `r`, column `f:q`, timestamp 1, value `v`.
@@ -56,37 +57,103 @@ fn take_all(alloc: Global, feed: &mut Feed, entries: &mut Vec<Entry>) -> Result<
     Ok(())
 }
 
-/// Feeds the bytes in two pieces.
+/// Feeds the bytes in pieces that end at these offsets, which don't fall, and at the end.
 fn read_cut(
     alloc: Global,
     bytes: &[u8],
-    cut: usize,
+    cuts: &[usize],
 ) -> Result<(Vec<Entry>, Option<u64>), FeedRefusal>
-    requires cut { cut ≤ length bytes.now }
     requires short { length bytes.now < 100 }
 {
     let mut feed = Feed::new(alloc, LOG_1);
     let mut entries = Vec::new(alloc);
-    feed.give(&bytes[..cut])?;
-    take_all(alloc, &mut feed, &mut entries)?;
-    feed.give(&bytes[cut..])?;
+    let mut from = 0;
+    for cut in cuts {
+        let to = (*cut).max(from).min(bytes.len());
+        feed.give(&bytes[from..to])?;
+        take_all(alloc, &mut feed, &mut entries)?;
+        from = to;
+    }
+    feed.give(&bytes[from..])?;
     take_all(alloc, &mut feed, &mut entries)?;
     Ok((entries, feed.finish()?))
+}
+
+/// Asserts that the bytes, cut so, have the entries of these frames, and this end.
+fn assert_read<R: Abort>(
+    rt: &R,
+    alloc: Global,
+    bytes: &[u8],
+    cuts: &[usize],
+    frames: &[u8],
+    end: Option<u64>,
+) -> Result<(), Fail>
+    requires short { length bytes.now < 100 }
+{
+    let (entries, ended) = read_cut(alloc, bytes, cuts).ok().ok_or("a log")?;
+    let mut spelled = Vec::new(alloc);
+    for entry in &entries {
+        let frame = encode_entry(alloc, entry.region, entry.number, entry.time, &entry.batch)?;
+        spelled.extend_from_slice(frame.as_slice())?;
+    }
+    assert!(rt; ended == end, "{cuts:?}");
+    assert!(rt; spelled.as_slice() == frames, "{cuts:?}");
+    Ok(())
+}
+
+/// Asserts that the bytes have the entry of the one put and this end, whole, in two pieces, in three and byte by byte.
+fn assert_one_put<R: Abort>(
+    rt: &R,
+    alloc: Global,
+    bytes: &[u8],
+    end: Option<u64>,
+) -> Result<(), Fail>
+    requires short { length bytes.now < 100 }
+{
+    let mut each = Vec::new(alloc);
+    for first in 0..bytes.len() + 1 {
+        assert_read(rt, alloc, bytes, &[first], &ONE_PUT, end)?;
+        for second in first..bytes.len() + 1 {
+            assert_read(rt, alloc, bytes, &[first, second], &ONE_PUT, end)?;
+        }
+        each.push(first)?;
+    }
+    assert_read(rt, alloc, bytes, &each, &ONE_PUT, end)
 }
 
 #[test]
 fn one_put_is_71_bytes_however_they_are_cut(rt: HostRuntime) -> Result<(), Fail> {
     let mut file = [0; 71];
     file[..70].copy_from_slice(&ENDED[..70]);
-    for cut in 0..72 {
-        let (entries, ended) = read_cut(rt.alloc(), &file, cut).ok().ok_or("a log")?;
-        assert_eq!(rt; entries.len(), 1);
-        assert!(rt; ended.is_none());
-        assert!(rt;
-            entries
-                .iter()
-                .all(|entry| entry.number == 1 && entry.time == 1000)
-        );
+    assert_one_put(&rt, rt.alloc(), &file, None)
+}
+
+#[test]
+fn its_end_is_read_however_it_is_cut(rt: HostRuntime) -> Result<(), Fail> {
+    assert_one_put(&rt, rt.alloc(), &ENDED, Some(1))
+}
+
+/// The cuts behind the bytes of 17 that the bits name, the first byte by the lowest bit.
+fn cuts_of(alloc: Global, bits: u32) -> Result<Vec<usize>, Fail> {
+    let mut cuts = Vec::new(alloc);
+    for place in 0..16_u32 {
+        if bits >> place & 1 == 1 {
+            cuts.push(place as usize + 1)?;
+        }
+    }
+    Ok(cuts)
+}
+
+#[test]
+fn header_and_gate_have_no_entry_however_they_are_cut(rt: HostRuntime) -> Result<(), Fail> {
+    let mut file = [0; 17];
+    file.copy_from_slice(&ENDED[..17]);
+    for gate in [0, 0xA5] {
+        file[16] = gate;
+        for bits in 0..65_536 {
+            let cuts = cuts_of(rt.alloc(), bits)?;
+            assert_read(&rt, rt.alloc(), &file, &cuts, b"", None)?;
+        }
     }
     Ok(())
 }
