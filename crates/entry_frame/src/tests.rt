@@ -98,13 +98,14 @@ fn read_cut(
     Ok((entries, feed.finish()?))
 }
 
-/// Asserts that the bytes, cut so, have the entries of these frames, and no end.
+/// Asserts that the bytes, cut so, have the entries of these frames, and this end.
 fn assert_read<R: Abort>(
     rt: &R,
     alloc: Global,
     bytes: &[u8],
     cuts: &[usize],
     frames: &[u8],
+    end: Option<u64>,
 ) -> Result<(), Fail>
     requires short { length bytes.now < 100 }
 {
@@ -114,25 +115,41 @@ fn assert_read<R: Abort>(
         let frame = encode_entry(alloc, entry.region, entry.number, entry.time, &entry.batch)?;
         spelled.extend_from_slice(frame.as_slice())?;
     }
-    assert!(rt; ended.is_none());
+    assert!(rt; ended == end, "{cuts:?}");
     assert!(rt; spelled.as_slice() == frames, "{cuts:?}");
     Ok(())
 }
 
-#[test]
-fn one_put_is_71_bytes_however_they_are_cut(rt: HostRuntime) -> Result<(), Fail> {
-    let alloc = rt.alloc();
-    let mut file = [0; 71];
-    file[..70].copy_from_slice(&ENDED[..70]);
+/// Asserts that the bytes have the entry of the one put and this end, whole, in two pieces, in three and byte by byte.
+fn assert_one_put<R: Abort>(
+    rt: &R,
+    alloc: Global,
+    bytes: &[u8],
+    end: Option<u64>,
+) -> Result<(), Fail>
+    requires short { length bytes.now < 100 }
+{
     let mut each = Vec::new(alloc);
-    for first in 0..72 {
-        assert_read(&rt, alloc, &file, &[first], &ONE_PUT)?;
-        for second in first..72 {
-            assert_read(&rt, alloc, &file, &[first, second], &ONE_PUT)?;
+    for first in 0..bytes.len() + 1 {
+        assert_read(rt, alloc, bytes, &[first], &ONE_PUT, end)?;
+        for second in first..bytes.len() + 1 {
+            assert_read(rt, alloc, bytes, &[first, second], &ONE_PUT, end)?;
         }
         each.push(first)?;
     }
-    assert_read(&rt, alloc, &file, &each, &ONE_PUT)
+    assert_read(rt, alloc, bytes, &each, &ONE_PUT, end)
+}
+
+#[test]
+fn one_put_is_71_bytes_however_they_are_cut(rt: HostRuntime) -> Result<(), Fail> {
+    let mut file = [0; 71];
+    file[..70].copy_from_slice(&ENDED[..70]);
+    assert_one_put(&rt, rt.alloc(), &file, None)
+}
+
+#[test]
+fn its_end_is_read_however_it_is_cut(rt: HostRuntime) -> Result<(), Fail> {
+    assert_one_put(&rt, rt.alloc(), &ENDED, Some(1))
 }
 
 /// The cuts behind the bytes of 17 that the bits name, the first byte by the lowest bit.
@@ -154,7 +171,7 @@ fn header_and_gate_have_no_entry_however_they_are_cut(rt: HostRuntime) -> Result
         file[16] = gate;
         for bits in 0..65_536 {
             let cuts = cuts_of(rt.alloc(), bits)?;
-            assert_read(&rt, rt.alloc(), &file, &cuts, b"")?;
+            assert_read(&rt, rt.alloc(), &file, &cuts, b"", None)?;
         }
     }
     Ok(())
