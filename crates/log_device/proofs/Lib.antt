@@ -11,3 +11,4 @@ pub mod Numbering
 pub mod Whole
 pub mod Cut
 pub mod StoreSteps
+pub mod Starting

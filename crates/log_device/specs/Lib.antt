@@ -3,3 +3,5 @@ pub mod Leaves
 pub mod Flushed
 pub mod Numbered
 pub mod Whole
+pub mod Opened
+pub mod Refusal

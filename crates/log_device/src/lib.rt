@@ -5,6 +5,7 @@ mod device;
 mod error;
 mod flushing;
 mod next;
+mod opening;
 mod renaming;
 mod rolling;
 mod staging;
