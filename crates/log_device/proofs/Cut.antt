@@ -1,13 +1,8 @@
 -- What is cut of the kept entries, and the numbers behind a flush.
-use Rattle.std.proofs.Common.{◌≡◌, ◌↔◌, inl, inr, ℕ, ◌+◌, ◌<◌, ◌≤◌, List, Contains, get_or, set, length, Some, refl, sym, ap, ◌∙◌, subst, arith}
-use Rattle.std.specs.FinMap.{get, empty}
+use Rattle.std.proofs.Common.{◌≡◌, inl, inr, ℕ, ◌+◌, ◌<◌, List, get_or, set, length, refl, ap, ◌∙◌, arith}
 use Rattle.std.proofs.lemmas.Bool.{cases_eq, cases_lt}
 use Rattle.std.proofs.lemmas.List.{get_or-set_same, get_or-set_other, get_or_past}
-use Rattle.cell_model.specs.Order.{VersionKey, Payload, NumberedCell}
-use Rattle.cell_model.specs.Merge.{put_numbered}
-use Rattle.log_model.specs.declared.name.Name.{Name}
-use Rattle.log_model.specs.Entry.{Entry}
-use Rattle.log_model.specs.Recovered.{Puts, Holds}
+use Rattle.cell_model.specs.Order.{NumberedCell}
 use Rattle.recovery.specs.Kept.{Kept, IsCut}
 use Rattle.flush_snapshot.specs.Cut.{cut_store}
 use Rattle.flush_snapshot.proofs.Holds.{cut_holds}

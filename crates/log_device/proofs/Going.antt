@@ -1,6 +1,6 @@
 -- What archiving has done so far.
-use Rattle.std.proofs.Common.{◌≡◌, ◌⊎◌, inl, inr, ℕ, ◌+◌, ◌<◌, ◌≤◌, ◌^◌, ◌==◌, Bool, true, false, not, List, [], ◌∷◌, length, Contains, Option, Some, refl, sym, ap, ◌∙◌, subst, arith}
-use Rattle.std.proofs.lemmas.Bool.{cases_eq, eq-eqb, ne_eqb}
+use Rattle.std.proofs.Common.{◌≡◌, ◌⊎◌, inl, inr, ℕ, ◌+◌, ◌<◌, ◌^◌, true, not, List, [], ◌∷◌, length, Contains, refl, sym, ap, ◌∙◌, subst, arith}
+use Rattle.std.proofs.lemmas.Bool.{cases_eq, ne_eqb}
 use Rattle.log_model.specs.Recovered.{IsWhollyFlushed}
 use Rattle.disk_images.specs.Crash.{DiskView, Throughout}
 use Rattle.disk_images.proofs.Moments.{at_once, joined}
@@ -10,7 +10,7 @@ use Rattle.log_ledger.specs.History.{ClosedLog, History, archived_in, is_other}
 use Rattle.log_ledger.specs.Books.{Books}
 use Rattle.log_ledger.specs.Counted.{AreCounted, MayGo}
 use Rattle.log_device.specs.declared.device.Device.{Device}
-use Rattle.log_device.specs.Keeps.{Keeps, Shows}
+use Rattle.log_device.specs.Keeps.{Shows}
 use Rattle.log_device.specs.Archived.{LogsLeft}
 use Rattle.log_device.specs.Whole.{IsWhole, IsBroken, log_of, books_of}
 use Rattle.log_device.proofs.Lists.{passes, passed}

@@ -5,7 +5,7 @@ use Rattle.log_model.specs.Entry.{Entry}
 use Rattle.log_model.specs.Files.{Files}
 use Rattle.recovery.specs.Kept.{Kept, IsLike, IsOrderly, lasts}
 use Rattle.recovery.proofs.Rising.{last_is}
-use Rattle.log_device.specs.Flushed.{IsHighestKept}
+use Rattle.log_ledger.specs.Counted.{IsHighestKept}
 
 -- no durable entry is above the last one
 pub below_last : (k : Kept) (F : Files) (e : Entry) → IsLike k F → IsOrderly k → Contains k.durable e → e.number ≤ lasts k.first k.durable e.region

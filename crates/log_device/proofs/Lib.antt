@@ -13,3 +13,4 @@ pub mod Cut
 pub mod StoreSteps
 pub mod HighestKept
 pub mod Going
+pub mod Starting

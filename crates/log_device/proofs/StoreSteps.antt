@@ -1,6 +1,5 @@
 -- What writing the cut of a region leaves of what is kept, in the ledger's words.
-use Rattle.std.proofs.Common.{inl, ◌≡◌, ◌+◌, ◌<◌, ◌≤◌, ℕ, List, [], get_or, set, length, refl, sym, ap, ◌∙◌, subst, arith}
-use Rattle.log_model.specs.Files.{content, IsAbsent}
+use Rattle.std.proofs.Common.{inl, ◌≡◌, ◌+◌, ◌<◌, ◌≤◌, ℕ, List, [], get_or, set, length, sym, ap, subst, arith}
 use Rattle.log_model.specs.declared.name.Name.{Name}
 use Rattle.log_model.specs.StoreText.{IsStore, store_text}
 use Rattle.cell_model.specs.Order.{NumberedCell}

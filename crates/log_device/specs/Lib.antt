@@ -4,3 +4,5 @@ pub mod Flushed
 pub mod Numbered
 pub mod Whole
 pub mod Archived
+pub mod Opened
+pub mod Refusal

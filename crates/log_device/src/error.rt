@@ -3,9 +3,11 @@
 ghost use Rattle.std.specs.Prelude.{◌≡◌};
 ghost use Rattle.log_device.specs.declared.error.RollRefusal.TheVariants as roll_refusals;
 ghost use Rattle.log_device.specs.declared.error.DeviceFlush.TheVariants as flush_refusals;
-ghost use Rattle.log_device.specs.declared.error.DeviceWhy.TheVariants as whys;
+ghost use Rattle.log_device.specs.Refusal.{why_of_names, why_of_file};
 
+use disk_images::NamesError;
 use kv_cell::NoMemory;
+use log_file::FileRefusal;
 use log_trucks::Truck;
 use thiserror::Error;
 
@@ -98,5 +100,27 @@ impl From<WriteFault> for DeviceFlush {
 
     fn from(_e: WriteFault) -> DeviceFlush {
         DeviceFlush::WriteFault
+    }
+}
+
+impl From<NamesError> for DeviceWhy {
+    ghost from_gives = { λ e why. why ≡ why_of_names e };
+
+    fn from(e: NamesError) -> DeviceWhy {
+        match e {
+            NamesError::Failed => DeviceWhy::DiskFault,
+            NamesError::Memory => DeviceWhy::Memory,
+        }
+    }
+}
+
+impl From<FileRefusal> for DeviceWhy {
+    ghost from_gives = { λ e why. why ≡ why_of_file e };
+
+    fn from(e: FileRefusal) -> DeviceWhy {
+        match e {
+            FileRefusal::Memory => DeviceWhy::Memory,
+            FileRefusal::DiskFault => DeviceWhy::DiskFault,
+        }
     }
 }

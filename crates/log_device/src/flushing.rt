@@ -9,10 +9,10 @@ ghost use Rattle.log_file.specs.Open.{OpenLog};
 ghost use Rattle.flush_snapshot.specs.Cut.{IsWithin};
 ghost use Rattle.log_ledger.specs.History.{History, committed_in, flushed_in};
 ghost use Rattle.log_ledger.specs.Books.{IsServed, AreInOrder};
-ghost use Rattle.log_ledger.specs.Counted.{PutsCut};
+ghost use Rattle.log_ledger.specs.Counted.{IsHighestKept, PutsCut};
 ghost use Rattle.log_device.specs.Keeps.{Between};
 ghost use Rattle.log_device.specs.Leaves.{Leaves};
-ghost use Rattle.log_device.specs.Flushed.{IsHighestKept, NoneKept};
+ghost use Rattle.log_device.specs.Flushed.{NoneKept};
 ghost use Rattle.log_device.specs.Whole.{IsWhole, IsBroken, disk_of, log_of, books_of};
 
 use crate::device::Device;

@@ -1,12 +1,10 @@
-use Rattle.std.proofs.Common.{◌≡◌, ◌+◌, ◌<◌, ◌≤◌, ◌^◌, inl, inr, ℕ, Bool, List, [], length, Ok, refl, sym, ap, ◌∙◌, subst, arith}
+use Rattle.std.proofs.Common.{◌+◌, ◌<◌, ◌^◌, inl, inr, Bool, length, Ok, refl, sym, ap, ◌∙◌, subst, arith}
 use Rattle.std.specs.Option.{is_some}
 use Rattle.std.proofs.Math.Logic.{∥∥₁_map}
 use Rattle.disk_images.specs.Crash.{Throughout}
 use Rattle.disk_images.proofs.Moments.{joined, more_time}
-use Rattle.log_ledger.specs.History.{History}
 use Rattle.log_device.specs.declared.device.Device.{Device}
 use Rattle.log_device.specs.Keeps.{Shows}
-use Rattle.log_device.specs.Leaves.{Leaves}
 use Rattle.log_device.specs.Whole.{IsWhole}
 use Rattle.log_device.proofs.Calls.{archive_leaves}
 use Rattle.log_device.proofs.Going.{counted_length, nothing_gone, one_gone, all_gone, with_logs}

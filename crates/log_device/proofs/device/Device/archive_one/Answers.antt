@@ -1,11 +1,8 @@
-use Rattle.std.proofs.Common.{◌≡◌, ◌+◌, ◌<◌, ◌≤◌, ◌^◌, ℕ, List, length, Contains, Some, refl, sym, ap, ◌∙◌, subst, arith}
+use Rattle.std.proofs.Common.{ℕ, List, refl, sym, ap, subst, arith}
 use Rattle.std.specs.Prelude.{sum}
 use Rattle.std.specs.Coded.{le_prop}
 use Rattle.std.proofs.Math.Logic.{∥∥₁_map, ∥∥₁_elim}
-use Rattle.log_model.specs.declared.name.Name.{Name}
-use Rattle.disk_images.specs.Crash.{Throughout}
 use Rattle.disk_images.proofs.Moments.{at_once, more_time}
-use Rattle.log_file.specs.Open.{OpenLog}
 use Rattle.log_ledger.specs.History.{archived_in}
 use Rattle.log_device.specs.Keeps.{Keeps, Shows}
 use Rattle.log_device.proofs.Numbering.{numbered_still}

@@ -1,11 +1,10 @@
-use Rattle.std.proofs.Common.{◌≡◌, ◌+◌, ◌<◌, ◌≤◌, ℕ, List, [], ◌++◌, get_or, Result, Ok, Err, IfOk, IsErr, Some, refl, sym, ap, ◌∙◌, subst, arith}
+use Rattle.std.proofs.Common.{◌≡◌, ◌+◌, ℕ, ◌++◌, get_or, Result, Ok, Err, IfOk, IsErr, refl, sym, ap, ◌∙◌, subst, arith}
 use Rattle.std.proofs.Math.Logic.{∥∥₁_map}
 use Rattle.log_model.specs.declared.name.Name.{Name}
 use Rattle.disk_images.specs.Crash.{Throughout}
 use Rattle.disk_images.proofs.Moments.{joined}
 use Rattle.recovery.specs.Kept.{committed, flushed_to, lasts}
 use Rattle.recovery.proofs.Likes.{orderly_committed}
-use Rattle.log_file.specs.Open.{OpenLog}
 use Rattle.log_ledger.specs.Books.{Books, IsServed}
 use Rattle.log_ledger.specs.History.{committed_in}
 use Rattle.log_device.specs.declared.device.Device.{Device}

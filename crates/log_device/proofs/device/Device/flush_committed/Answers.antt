@@ -1,4 +1,4 @@
-use Rattle.std.proofs.Common.{◌≡◌, ℕ, List, get_or, refl, sym, ap, ◌∙◌, subst, arith}
+use Rattle.std.proofs.Common.{get_or, refl, ap}
 use Rattle.std.specs.Prelude.{sum}
 use Rattle.recovery.specs.Kept.{flushed_to}
 use Rattle.log_ledger.specs.Books.{Books}

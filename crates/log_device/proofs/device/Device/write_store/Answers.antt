@@ -1,29 +1,19 @@
-use Rattle.std.proofs.Common.{◌≡◌, ◌+◌, ◌<◌, ◌≤◌, ℕ, List, [], Err, get_or, set, length, Some, refl, sym, ap, ◌∙◌, subst, arith}
+use Rattle.std.proofs.Common.{◌≡◌, ◌+◌, ℕ, List, [], Err, get_or, refl, sym, ap, ◌∙◌, subst, arith}
 use Rattle.std.specs.Prelude.{sum}
 use Rattle.std.proofs.Math.Logic.{∥∥₁_elim}
 use Rattle.std.proofs.lemmas.List.{get_or-set_same}
-use Rattle.log_model.specs.declared.name.Name.{Name}
 use Rattle.log_model.specs.Files.{content, IsAbsent}
-use Rattle.log_model.specs.StoreText.{Store, store_text}
-use Rattle.disk_images.specs.Crash.{DiskView, Throughout, OnlyAt}
-use Rattle.disk_images.specs.Calls.{IsTrueDisk}
-use Rattle.disk_images.specs.OneFile.{Touches, IsDurableFile}
-use Rattle.recovery.specs.Kept.{IsCut, flushed_to, lasts}
-use Rattle.flush_snapshot.specs.Cut.{cut_store}
-use Rattle.store_file.specs.Whole.{IsWholeOrNot}
-use Rattle.log_file.specs.Open.{OpenLog}
+use Rattle.disk_images.specs.Crash.{Throughout}
+use Rattle.recovery.specs.Kept.{flushed_to}
 use Rattle.log_file.specs.declared.error.FileRefusal.{FileRefusal}
-use Rattle.log_ledger.specs.Books.{Books, AreInOrder}
-use Rattle.log_ledger.specs.Counted.{IsCounted, PutsCut}
+use Rattle.log_ledger.specs.Counted.{IsCounted}
 use Rattle.log_ledger.specs.History.{History, flushed_in}
 use Rattle.log_ledger.proofs.DrawnSums.{served_place}
-use Rattle.log_device.specs.Keeps.{Keeps, Between, store_name}
+use Rattle.log_device.specs.Keeps.{Between, store_name}
 use Rattle.log_device.specs.Whole.{IsWhole}
-use Rattle.log_device.specs.Numbered.{IsNumbered}
-use Rattle.log_device.proofs.Numbering.{same_file, numbered_still}
+use Rattle.log_device.proofs.Numbering.{numbered_still}
 use Rattle.log_device.proofs.Whole.{kept_file}
 use Rattle.log_device.proofs.Disk.{absent_by}
-use Rattle.log_device.proofs.Cut.{is_cut, place_of}
 use Rattle.log_device.proofs.Stored.{free_store}
 use Rattle.log_device.proofs.StoreSteps.{stored_moments, stored_kept, still_moments}
 use Rattle.log_device.proofs.device.Device.write_store.Goals as goal

@@ -1,0 +1,24 @@
+use Rattle.std.proofs.Common.{refl}
+use Rattle.std.proofs.Math.Logic.{∥∥₁_map}
+use Rattle.log_device.proofs.Starting.{still_moments}
+use Rattle.log_device.proofs.device.Device.start.Goals as goal
+
+pub returns-in_default-clause-any_moment : goal.returns-in_default-clause-any_moment
+returns-in_default-clause-any_moment g c told flushed opened = still_moments (g.D.Disk.view c.args.disk) c.args.regions.now flushed opened (g.met.D.Disk.is_true c.args.disk told)
+
+pub first_log-requires : goal.first_log-requires
+first_log-requires g c told = ∥∥₁_map (c.requires.opened told) (λ r. (c.args.regions.now, r.0, r.1))
+
+pub returns-in-Ok-first_log-clause-any_moment : goal.returns-in-Ok-first_log-clause-any_moment
+returns-in-Ok-first_log-clause-any_moment g c told flushed opened = c.first_log.ensures.any_moment told c.args.regions.now flushed opened
+
+pub returns-in-Ok-first_log-clause-started : goal.returns-in-Ok-first_log-clause-started
+returns-in-Ok-first_log-clause-started g c told flushed opened = record {
+  file = c.in-Ok-first_log.log;
+  is = refl;
+  keeps = c.in-Ok-first_log.ensures.kept told c.args.regions.now flushed c.in-Ok.ledger.next_store opened c.in-Ok.ensures.next_store;
+  counted = c.in-Ok.ensures.counted (g.D.Disk.view c.args.disk).files flushed opened.marks opened.no_logs opened.flushed_of;
+}
+
+pub returns-in-Err-clause-any_moment : goal.returns-in-Err-clause-any_moment
+returns-in-Err-clause-any_moment g c told flushed opened = c.first_log.ensures.any_moment told c.args.regions.now flushed opened

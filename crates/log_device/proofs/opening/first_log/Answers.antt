@@ -1,0 +1,42 @@
+use Rattle.std.proofs.Common.{[], arith}
+use Rattle.std.proofs.Math.Logic.{∥∥₁_elim}
+use Rattle.log_model.specs.Files.{content}
+use Rattle.disk_images.proofs.Moments.{more_time}
+use Rattle.recovery.specs.Change.{RecoversSome}
+use Rattle.log_device.specs.Keeps.{log_name}
+use Rattle.log_device.proofs.Disk.{absent_by}
+use Rattle.log_device.proofs.Starting.{free, look_moments, start_moments, start_kept}
+use Rattle.log_device.proofs.opening.first_log.Goals as goal
+
+pub returns-in_err-number-clause-any_moment : goal.returns-in_err-number-clause-any_moment
+returns-in_err-number-clause-any_moment g c told regions flushed opened =
+    let u = g.D.Disk.view c.args.disk.now in
+    let v = g.D.Disk.view c.next_number.new.disk in
+    more_time (RecoversSome u.files []) 1 4 u v (omega arith) (look_moments u regions flushed opened (g.met.D.Disk.is_true c.args.disk.now told) v (c.next_number.ensures.looks told))
+
+pub begin-requires-clause-absent : goal.begin-requires-clause-absent
+begin-requires-clause-absent g c told =
+    let u = g.D.Disk.view c.args.disk.now in
+    let v = g.D.Disk.view c.next_number.new.disk in
+    let name = log_name c.in_ok-number.number in
+    let sound = g.met.D.Disk.is_true c.args.disk.now told in
+    let looks = c.next_number.ensures.looks told in (
+      absent_by (content v.files name) (c.requires told) (λ r. (free u r.0 r.1 r.2 sound v looks c.in_ok-number.number).0),
+      λ gone. ∥∥₁_elim (c.requires told) (λ a b. absurd a) (λ r. (free u r.0 r.1 r.2 sound v looks c.in_ok-number.number).1 gone),
+    )
+
+pub returns-in_err-log-clause-any_moment : goal.returns-in_err-log-clause-any_moment
+returns-in_err-log-clause-any_moment g c told regions flushed opened =
+    start_moments (g.D.Disk.view c.args.disk.now) regions flushed opened (g.met.D.Disk.is_true c.args.disk.now told) (g.D.Disk.view c.next_number.new.disk) (c.next_number.ensures.looks told)
+    (g.D.Disk.view c.begin.new.disk) c.in_ok-number.number (c.begin.ensures.any_moment told)
+
+pub returns-clause-any_moment : goal.returns-clause-any_moment
+returns-clause-any_moment g c told regions flushed opened =
+    start_moments (g.D.Disk.view c.args.disk.now) regions flushed opened (g.met.D.Disk.is_true c.args.disk.now told) (g.D.Disk.view c.next_number.new.disk) (c.next_number.ensures.looks told)
+    (g.D.Disk.view c.begin.new.disk) c.in_ok-number.number (c.begin.ensures.any_moment told)
+
+pub returns-clause-kept : goal.returns-clause-kept
+returns-clause-kept g c told regions flushed next_store opened are =
+    start_kept (g.D.Disk.view c.args.disk.now) regions flushed opened (g.met.D.Disk.is_true c.args.disk.now told) (g.D.Disk.view c.next_number.new.disk) (c.next_number.ensures.looks told)
+    (g.D.Disk.view c.begin.new.disk) c.in_ok-number.number (c.begin.ensures.any_moment told) (c.begin.ensures.touches told)
+    next_store are (λ m there. c.in_ok-number.ensures.above told opened.small m there) c.in_ok-log.log c.in_ok-log.ensures.name (c.in_ok-log.ensures.begun told) c.in_ok-log.ensures.empty.1
