@@ -25,3 +25,6 @@ pub use error::{
 };
 pub use log_ledger::RegionBase;
 pub use log_trucks::Truck;
+
+#[cfg(test)]
+mod tests;
