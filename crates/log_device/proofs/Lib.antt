@@ -14,3 +14,4 @@ pub mod StoreSteps
 pub mod HighestKept
 pub mod Going
 pub mod Starting
+pub mod LastNumber

@@ -9,7 +9,7 @@ kept_by : {A : Type 0} (b : Bool) (x : A) (l : List A) (a : A) → Contains l a 
 kept_by true x l a is = Contains-append_right (x ∷ []) l a is
 kept_by false x l a is = is
 
-first_or_later : {A : Type 0} (x : A) (xs : List A) (a : A) → Contains (x ∷ xs) a → (x ≡ a) ⊎ Contains xs a
+pub first_or_later : {A : Type 0} (x : A) (xs : List A) (a : A) → Contains (x ∷ xs) a → (x ≡ a) ⊎ Contains xs a
 first_or_later x xs a h = elim (Contains-append_cases (x ∷ []) xs a h) as (λ _. (x ≡ a) ⊎ Contains xs a) [
   | inl first ↦ elim (Contains-push_cases [] x a first) as (λ _. (x ≡ a) ⊎ Contains xs a) [ inl none ↦ absurd (omega (arith, none.1)) | inr is ↦ inl is ]
   | inr later ↦ inr later

@@ -4,7 +4,7 @@ use Rattle.log_model.specs.declared.name.Name.{Name}
 use Rattle.log_model.specs.declared.name.NameKind.{NameKind}
 use Rattle.log_model.specs.declared.name.NameKind.TheVariants as kinds
 use Rattle.log_model.specs.Files.{Files, content, IsFit, IsPresent}
-use Rattle.log_model.specs.Recovered.{IsFlushed}
+use Rattle.log_model.specs.Recovered.{IsGreatest, IsFlushed}
 use Rattle.recovery.specs.Kept.{HasNoLogs}
 use Rattle.disk_images.specs.Crash.{DiskView, IsImageNow}
 use Rattle.log_ledger.specs.declared.base.RegionBase.{RegionBase}
@@ -33,6 +33,10 @@ number_by kinds.Edits n = 0
 -- the number of a log or of an old log, 0 of another file
 abbrev pub log_number : Name → ℕ
 log_number m = number_by m.kind m.number
+
+-- the greatest number of a log or of an old log that is there, 0 where none is
+abbrev pub IsLastNumber : Files → ℕ → Type 0
+IsLastNumber files n = IsGreatest (λ k. (m : Name) × IsPresent files m × (log_number m ≡ k)) n
 
 -- the disk of a start, whether it was refused or not
 abbrev pub started_disk : {D : Type 0} → Result (Device D) (DeviceRefusal D) → D

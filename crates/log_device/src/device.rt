@@ -36,6 +36,7 @@ impl<D> Device<D> {
     pub fn stored(&self, region: u32) -> u64
         requires { region ≤ 64 }
         ensures number { result ≡ get_or (books_of self.now).stored region 0 }
+        ensures synced { result ≤ get_or (books_of self.now).synced region 0 }
         ensures limit { result < 2 ^ 48 }
     {
         self.ledger.stored(region)

@@ -53,6 +53,7 @@ impl<D: Disk> Device<D> {
     /// Flushes a region where nothing is staged.
     fn flush_committed(&mut self, alloc: Global, region: u32) -> Result<u64, DeviceFlush>
         requires served { IsServed (books_of self.old) region }
+        requires committed { get_or (books_of self.old).drawn region 0 ≤ get_or (books_of self.old).synced region 0 }
         requires whole { IsTrue D.told → ∥ ((h : History) × IsWhole self.old (D.view (disk_of self.old)) h × (h.kept.staged ≡ [])) ∥₁ }
         requires unbroken { IsBroken self.old → ⊥ }
 
@@ -90,6 +91,7 @@ impl<D: Disk> Device<D> {
         requires served { IsServed (books_of self.old) region }
         requires order { AreInOrder (books_of self.old) }
         requires above { get_or (books_of self.old).accounts.flushed region 0 < get_or (books_of self.old).drawn region 0 }
+        requires committed { get_or (books_of self.old).drawn region 0 ≤ get_or (books_of self.old).synced region 0 }
         requires within { IsWithin (get_or (books_of self.old).accounts.flushed region 0 + 1) (get_or (books_of self.old).drawn region 0) cells }
         requires whole { IsTrue D.told → ∥ ((h : History) × IsWhole self.old (D.view (disk_of self.old)) h × (h.kept.staged ≡ [])) ∥₁ }
         requires unbroken { IsBroken self.old → ⊥ }

@@ -88,6 +88,7 @@ order_begun regions b are begun = record {
           synced = omega (arith, synced);
           closed = omega (arith, same_at b.drawn b.closed r 0 begun.closed, synced);
           flushed = omega (arith, flushed);
+          durable = omega (arith, flushed, synced);
           stored = omega (arith, same_at b.drawn b.stored r 0 begun.stored, flushed);
           idle = same_at (replicate 65 0) b.accounts.flushing r 0 begun.flushing ∙ spread 65 r 0;
           current = omega (arith, same_at (replicate 65 0) b.accounts.current r 0 begun.current ∙ spread 65 r 0);

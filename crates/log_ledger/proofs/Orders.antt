@@ -44,6 +44,7 @@ region_same old new r s is = record {
   synced = omega (arith, is.synced, s.synced, s.drawn);
   closed = omega (arith, is.closed, s.closed, s.synced);
   flushed = omega (arith, is.flushed, s.flushed, s.drawn);
+  durable = omega (arith, is.durable, s.flushed, s.synced);
   stored = omega (arith, is.stored, s.stored, s.flushed);
   idle = s.flushing ∙ is.idle;
   current = omega (arith, is.current, s.current, s.drawn);
@@ -121,6 +122,7 @@ order_staged old new t order s ours above entry = record {
           synced = omega (arith, synced, drawn, was.synced, higher);
           closed = omega (arith, same_at old.closed new.closed r 0 s.closed, synced, was.closed);
           flushed = omega (arith, flushed, drawn, was.flushed, higher);
+          durable = omega (arith, flushed, synced, was.durable);
           stored = omega (arith, same_at old.stored new.stored r 0 s.stored, flushed, was.stored);
           idle = same_at old.accounts.flushing new.accounts.flushing r 0 s.flushing ∙ was.idle;
           current = omega (arith, current, drawn);
@@ -170,6 +172,7 @@ order_closed old new file order s above = record {
           synced = omega (arith, synced, drawn, was.synced);
           closed = omega (arith, closed, synced);
           flushed = omega (arith, flushed, drawn, was.flushed);
+          durable = omega (arith, flushed, synced, was.durable);
           stored = omega (arith, same_at old.stored new.stored r 0 s.stored, flushed, was.stored);
           idle = same_at old.accounts.flushing new.accounts.flushing r 0 s.flushing ∙ was.idle;
           current = omega (arith, current);
@@ -178,8 +181,9 @@ order_closed old new file order s above = record {
         }
 
 -- a region flushed
-pub order_flushed : (old new : Books) (r : ℕ) → AreInOrder old → FlushedBy old new r → IsServed old r → get_or old.accounts.flushed r 0 < get_or old.drawn r 0 → AreInOrder new
-order_flushed old new r order s ours some = record {
+pub order_flushed : (old new : Books) (r : ℕ) → AreInOrder old → FlushedBy old new r → IsServed old r → get_or old.accounts.flushed r 0 < get_or old.drawn r 0
+    → get_or old.drawn r 0 ≤ get_or old.synced r 0 → AreInOrder new
+order_flushed old new r order s ours some committed = record {
   wide = record {
     drawn = ap length s.drawn ∙ order.wide.drawn;
     synced = ap length s.synced ∙ order.wide.synced;
@@ -240,6 +244,7 @@ order_flushed old new r order s ours some = record {
           synced = omega (arith, same_at old.synced new.synced q 0 s.synced, drawn, was.synced);
           closed = omega (arith, same_at old.closed new.closed q 0 s.closed, same_at old.synced new.synced q 0 s.synced, was.closed);
           flushed = omega (arith, flushed, drawn, same);
+          durable = omega (arith, flushed, same_at old.synced new.synced q 0 s.synced, ap (λ n. get_or old.synced n 0) here, committed);
           stored = omega (arith, stored, flushed);
           idle = set_here (set old.accounts.flushing r (get_or old.drawn r 0)) new.accounts.flushing r 0 q 0 s.flushing (omega (arith, place, under_way_wide)) here;
           current = omega (arith, same_at old.accounts.current new.accounts.current q 0 s.current, drawn, was.current);

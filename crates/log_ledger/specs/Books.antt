@@ -48,6 +48,8 @@ pub record IsRegionInOrder (b : Books) (r : ℕ) : Type 0 where
   pub synced : get_or b.synced r 0 ≤ get_or b.drawn r 0
   pub closed : get_or b.closed r 0 ≤ get_or b.synced r 0
   pub flushed : get_or b.accounts.flushed r 0 ≤ get_or b.drawn r 0
+  -- a region is flushed up to an entry that was committed
+  pub durable : get_or b.accounts.flushed r 0 ≤ get_or b.synced r 0
   pub stored : get_or b.stored r 0 ≤ get_or b.accounts.flushed r 0
   pub idle : get_or b.accounts.flushing r 0 ≡ 0
   pub current : get_or b.accounts.current r 0 ≤ get_or b.drawn r 0

@@ -33,10 +33,12 @@ impl Ledger {
         self.chains.cells(alloc, region)
     }
 
-    /// Takes the region as flushed up to its last entry, by a store file of its next number, and lets its trucks go.
+    /// Takes the region, whose entries are all committed, as flushed up to its last one, by a store file of its next
+    /// number, and lets its trucks go.
     pub fn flush(&mut self, region: u32)
         requires served { IsServed self.old region }
         requires some { get_or self.old.accounts.flushed region 0 < get_or self.old.drawn region 0 }
+        requires committed { get_or self.old.drawn region 0 ≤ get_or self.old.synced region 0 }
         ensures counted { (h : History) → IsCounted self.old h → h.kept.staged ≡ [] → IsCounted self.new (flushed_in h region (get_or self.old.drawn region 0)) }
         ensures stored { self.new.stored ≡ slice_set self.old.stored region (get_or self.old.drawn region 0) }
         ensures next_store { self.new.next_store ≡ slice_set self.old.next_store region (get_or self.old.next_store region 0 + 1) }

@@ -95,6 +95,7 @@ impl Ledger {
         requires { region ≤ 64 }
         ensures number { result ≡ get_or self.now.stored region 0 }
         ensures flushed { result ≤ get_or self.now.accounts.flushed region 0 }
+        ensures synced { result ≤ get_or self.now.synced region 0 }
         ensures limit { result < 2 ^ 48 }
     {
         self.stored[region as usize]

@@ -1,5 +1,6 @@
-use Rattle.std.proofs.Common.{[], arith}
+use Rattle.std.proofs.Common.{[], ap, ◌∙◌, arith}
 use Rattle.std.proofs.Math.Logic.{∥∥₁_elim}
+use Rattle.log_model.specs.declared.name.Name.{Name}
 use Rattle.log_model.specs.Files.{content}
 use Rattle.disk_images.proofs.Moments.{more_time}
 use Rattle.recovery.specs.Change.{RecoversSome}
@@ -34,6 +35,9 @@ pub returns-clause-any_moment : goal.returns-clause-any_moment
 returns-clause-any_moment g c told regions flushed opened =
     start_moments (g.D.Disk.view c.args.disk.now) regions flushed opened (g.met.D.Disk.is_true c.args.disk.now told) (g.D.Disk.view c.next_number.new.disk) (c.next_number.ensures.looks told)
     (g.D.Disk.view c.begin.new.disk) c.in_ok-number.number (c.begin.ensures.any_moment told)
+
+pub returns-clause-number : goal.returns-clause-number
+returns-clause-number g c told regions flushed last opened greatest = ap (λ (m : Name). m.number) c.in_ok-log.ensures.name ∙ c.in_ok-number.ensures.next told opened.small last greatest
 
 pub returns-clause-kept : goal.returns-clause-kept
 returns-clause-kept g c told regions flushed next_store opened are =

@@ -1,4 +1,4 @@
-use Rattle.std.proofs.Common.{◌≡◌, ◌+◌, ℕ, ◌++◌, get_or, Result, Ok, Err, IfOk, IsErr, refl, sym, ap, ◌∙◌, subst, arith}
+use Rattle.std.proofs.Common.{◌≡◌, ◌≤◌, ◌+◌, ℕ, ◌++◌, get_or, Result, Ok, Err, IfOk, IsErr, refl, sym, ap, ◌∙◌, subst, arith}
 use Rattle.std.proofs.Math.Logic.{∥∥₁_map}
 use Rattle.log_model.specs.declared.name.Name.{Name}
 use Rattle.disk_images.specs.Crash.{Throughout}
@@ -30,6 +30,9 @@ flush_committed-requires-clause-whole g c told =
     ∥∥₁_map (c.requires.whole told (λ broken. absurd (cc (subst (λ (x : Result ℕ WriteFault). IsErr x) c.in_ok-commit_staged.was
     (c.commit_staged.ensures.broken.1 (ap (λ (d : Device g.row.D.Denot). d.log) (c.commit_staged.ensures.stays broken) ∙ broken))))))
     (λ r. (committed_in r.0, c.in_ok-commit_staged.ensures.committed told r.0 r.1, refl))
+
+pub flush_committed-requires-clause-committed : goal.flush_committed-requires-clause-committed
+flush_committed-requires-clause-committed g c = subst (λ (b : Books). get_or b.drawn c.args.region 0 ≤ get_or b.synced c.args.region 0) (sym c.in_ok-commit_staged.ensures.synced) (omega arith)
 
 pub returns-clause-any_moment : goal.returns-clause-any_moment
 returns-clause-any_moment g c told h whole =

@@ -1,5 +1,7 @@
-use Rattle.std.proofs.Common.{refl}
+use Rattle.std.proofs.Common.{◌≡◌, ◌+◌, refl, subst}
 use Rattle.std.proofs.Math.Logic.{∥∥₁_map}
+use Rattle.log_file.specs.Open.{OpenLog}
+use Rattle.log_device.proofs.Numbering.{same_file}
 use Rattle.log_device.proofs.Starting.{still_moments}
 use Rattle.log_device.proofs.device.Device.start.Goals as goal
 
@@ -19,6 +21,10 @@ returns-in-Ok-first_log-clause-started g c told flushed opened = record {
   keeps = c.in-Ok-first_log.ensures.kept told c.args.regions.now flushed c.in-Ok.ledger.next_store opened c.in-Ok.ensures.next_store;
   counted = c.in-Ok.ensures.counted (g.D.Disk.view c.args.disk).files flushed opened.marks opened.no_logs opened.flushed_of;
 }
+
+pub returns-in-Ok-first_log-clause-number : goal.returns-in-Ok-first_log-clause-number
+returns-in-Ok-first_log-clause-number g c told flushed last opened greatest file is =
+    subst (λ (x : OpenLog). x.name.number ≡ last + 1) (same_file c.in-Ok-first_log.log file is) (c.in-Ok-first_log.ensures.number told c.args.regions.now flushed last opened greatest)
 
 pub returns-in-Err-clause-any_moment : goal.returns-in-Err-clause-any_moment
 returns-in-Err-clause-any_moment g c told flushed opened = c.first_log.ensures.any_moment told c.args.regions.now flushed opened

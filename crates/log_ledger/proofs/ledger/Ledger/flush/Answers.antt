@@ -38,7 +38,7 @@ flushed c =
     }
 
 pub invariant_of-self : goal.invariant_of-self
-invariant_of-self c = order_flushed c.args.self.now (after c) c.args.region (subst AreInOrder c.self.view_is c.self.invariant) (flushed c) c.requires.served c.requires.some
+invariant_of-self c = order_flushed c.args.self.now (after c) c.args.region (subst AreInOrder c.self.view_is c.self.invariant) (flushed c) c.requires.served c.requires.some c.requires.committed
 
 pub returns-clause-counted : goal.returns-clause-counted
 returns-clause-counted c h counted none = counted_flushed c.args.self.now (after c) c.args.region h (subst AreInOrder c.self.view_is c.self.invariant) (flushed c) c.requires.served c.requires.some counted none
