@@ -1,8 +1,13 @@
 //! Regions that are flushed.
 
 use super::trucks::*;
+use super::untold::Untold;
 use crate::DeviceFlush;
+use disk_images::Name;
+use std::alloc::Global;
+use std::process::Abort;
 use std::test::Fail as TestFail;
+use store_file::read_store;
 
 /// What stands before the cells in a store of region 1 that covers the numbers 1 to 5 and has five cells.
 const STORE_HEAD: &[u8] = &[
@@ -60,5 +65,41 @@ fn second_flush_finds_nothing(rt: HostRuntime) -> Result<(), TestFail> {
         names(alloc, &mut device)?.as_slice(),
         [log(1), store(1, 1)].as_slice()
     );
+    Ok(())
+}
+
+/// Asserts that a store of region 1 covers these numbers, and has one cell of each, the highest number first.
+fn assert_store<R: Abort>(
+    rt: &R,
+    alloc: Global,
+    disk: &mut Untold,
+    name: Name,
+    covers: (u64, u64),
+) -> Result<(), TestFail> {
+    let text = read_store(alloc, disk, name)?.ok_or("there")?;
+    let (from, to) = covers;
+    assert_eq!(rt; (text.from, text.to), covers);
+    let mut next = to;
+    for (number, _) in text.cells.as_slice() {
+        assert_eq!(rt; *number, next);
+        next = next.saturating_sub(1);
+    }
+    assert_eq!(rt; next.saturating_add(1), from);
+    Ok(())
+}
+
+#[test]
+fn next_flush_goes_on_behind_the_last_one(rt: HostRuntime) -> Result<(), TestFail> {
+    let alloc = rt.alloc();
+    let mut device = two_regions(alloc)?;
+    put(alloc, &mut device, 1)?;
+    put(alloc, &mut device, 1)?;
+    assert_eq!(rt; flush(alloc, &mut device, 1)?, Ok(2));
+    put(alloc, &mut device, 2)?;
+    put(alloc, &mut device, 1)?;
+    assert_eq!(rt; flush(alloc, &mut device, 1)?, Ok(3));
+    let mut disk = device.into_disk();
+    assert_store(&rt, alloc, &mut disk, store(1, 1), (1, 2))?;
+    assert_store(&rt, alloc, &mut disk, store(1, 2), (3, 3))?;
     Ok(())
 }

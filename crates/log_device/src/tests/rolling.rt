@@ -135,3 +135,23 @@ fn flush_lets_two_logs_go(rt: HostRuntime) -> Result<(), TestFail> {
     );
     Ok(())
 }
+
+#[test]
+fn ample_memory_is_enough(rt: HostRuntime) -> Result<(), TestFail> {
+    let alloc = rt.alloc();
+    let mut device = two_regions(alloc)?;
+    for round in 1..21 {
+        assert_eq!(rt; put(alloc, &mut device, 1)?, round);
+        assert_eq!(rt;
+            device.roll(alloc),
+            Ok(Rolled {
+                closed: round,
+                entries: 1
+            })
+        );
+        assert_eq!(rt; flush(alloc, &mut device, 1)?, Ok(round));
+        assert_eq!(rt; device.archive(), Ok(1));
+    }
+    assert_eq!(rt; names(alloc, &mut device)?.as_slice().len(), 41);
+    Ok(())
+}

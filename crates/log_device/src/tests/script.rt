@@ -94,6 +94,21 @@ fn flush(alloc: Global, device: &mut Device<Untold>, region: u32) -> Result<Answ
     })
 }
 
+/// What the device answers to each step of the script, and its numbers then, as `numbers` gives them.
+pub(super) const ANSWERS: [(Answer, [u64; 6]); 11] = [
+    (Answer::Staged(1), [0, 0, 0, 0, 0, 0]),
+    (Answer::Done(1), [1, 0, 0, 0, 0, 0]),
+    (Answer::Staged(2), [1, 0, 0, 0, 0, 0]),
+    (Answer::Staged(1), [1, 0, 0, 0, 0, 0]),
+    (Answer::Done(2), [2, 1, 0, 0, 0, 0]),
+    (Answer::Rolled(1, 3), [2, 1, 0, 0, 2, 1]),
+    (Answer::Done(2), [2, 1, 2, 0, 2, 1]),
+    (Answer::Staged(3), [2, 1, 2, 0, 2, 1]),
+    (Answer::Staged(2), [2, 1, 2, 0, 2, 1]),
+    (Answer::Done(2), [3, 2, 2, 2, 2, 1]),
+    (Answer::Done(1), [3, 2, 2, 2, 2, 1]),
+];
+
 /// What is synced, stored and closed of regions 1 and 2.
 pub(super) fn numbers(device: &Device<Untold>) -> [u64; 6] {
     [

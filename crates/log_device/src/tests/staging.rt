@@ -1,6 +1,6 @@
 //! The stage, and what a sync makes durable.
 
-use super::script::{Answer, Step, take};
+use super::script::{ANSWERS, Answer, SCRIPT, Step, numbers, take};
 use super::trucks::*;
 use super::untold::Untold;
 use crate::{Device, Truck};
@@ -90,5 +90,17 @@ fn sync_makes_four_calls_however_much_is_staged(rt: HostRuntime) -> Result<(), T
     assert_eq!(rt; (device.synced(1), device.synced(2)), (50, 50));
     assert_eq!(rt; device.sync(), Ok(0));
     assert_eq!(rt; device.disk.all_calls(), 8);
+    Ok(())
+}
+
+#[test]
+fn numbers_rise_step_by_step(rt: HostRuntime) -> Result<(), TestFail> {
+    let alloc = rt.alloc();
+    let mut device = two_regions(alloc)?;
+    assert_eq!(rt; numbers(&device), [0; 6]);
+    for (step, (answer, after)) in SCRIPT.into_iter().zip(ANSWERS) {
+        assert_eq!(rt; take(alloc, &mut device, step)?, answer, "{step:?}");
+        assert_eq!(rt; numbers(&device), after, "{step:?}");
+    }
     Ok(())
 }

@@ -89,3 +89,26 @@ fn disk_that_is_given_back_reads_the_same(rt: HostRuntime) -> Result<(), TestFai
     assert_eq!(rt; disk.names(alloc)?.as_slice(), files.as_slice());
     Ok(())
 }
+
+#[test]
+fn new_log_is_above_each_old_one(rt: HostRuntime) -> Result<(), TestFail> {
+    let alloc = rt.alloc();
+    let mut disk = Untold::new(alloc, &[])?;
+    for name in [old(2), old(7), store(1, 9)] {
+        disk.create(name)?;
+    }
+    let mut device = start(alloc, disk, &TWO_REGIONS)?;
+    assert_eq!(rt;
+        names(alloc, &mut device)?.as_slice(),
+        [log(8), old(2), old(7), store(1, 9)].as_slice()
+    );
+    put(alloc, &mut device, 1)?;
+    assert_eq!(rt;
+        device.roll(alloc),
+        Ok(Rolled {
+            closed: 8,
+            entries: 1
+        })
+    );
+    Ok(())
+}
