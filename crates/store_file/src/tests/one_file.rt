@@ -1,28 +1,32 @@
-//! A disk that holds one file, is only read, and tells nothing of it.
+//! A disk that holds one file, and tells nothing of it.
 
-ghost use Rattle.std.specs.Prelude.{◌≤◌, false, IsErr};
+ghost use Rattle.std.specs.Prelude.{◌≤◌, ◌<◌, ◌+◌, ◌^◌, false, length, IsErr, OnOk};
 ghost use Rattle.disk_images.specs.Calls.{Rose};
 
 use disk_images::{Disk, Failed, Name, NameList, NamesError};
 use std::alloc::Global;
 
-/// One file, the size that it tells, how many calls there were, and how many go well before one fails.
+/// One file, and the size that it tells where that isn't its length; how many calls there were, how many of them wrote and
+/// synced, and how many go well before one fails.
 #[derive(Drop)]
 pub(super) struct OneFile {
     pub(super) bytes: Vec<u8>,
-    pub(super) size: u64,
+    pub(super) size: Option<u64>,
     pub(super) calls: u64,
+    pub(super) writes: u64,
+    pub(super) syncs: u64,
     pub(super) good: u64,
     pub(super) faults: u64,
 }
 
 impl OneFile {
     pub(super) fn of(bytes: Vec<u8>) -> OneFile {
-        let size = bytes.len() as u64;
         OneFile {
             bytes,
-            size,
+            size: None,
             calls: 0,
+            writes: 0,
+            syncs: 0,
             good: 100,
             faults: 0,
         }
@@ -47,6 +51,23 @@ impl OneFile {
         self.faults = self.faults.saturating_add(1);
         Failed
     }
+
+    fn overwrite(&mut self, at: u64, bytes: &[u8]) -> Result<(), Failed>
+        ensures fits { OnOk result (at + length bytes.now < 2 ^ 63) }
+        ensures rose { IsErr result → Rose self.old.faults self.new.faults }
+        ensures later { self.old.faults ≤ self.new.faults }
+    {
+        if at > 1_000_000 || bytes.len() > 1_000_000 {
+            return Err(self.fail());
+        }
+        let at = at as usize;
+        let end = at + bytes.len();
+        if self.bytes.len() < end && self.bytes.resize(end, 0).is_err() {
+            return Err(self.fail());
+        }
+        self.bytes[at..end].copy_from_slice(bytes);
+        Ok(())
+    }
 }
 
 impl Disk for OneFile {
@@ -66,7 +87,7 @@ impl Disk for OneFile {
 
     fn size(&mut self, _name: Name) -> Result<Option<u64>, Failed> {
         self.turn()?;
-        Ok(Some(self.size))
+        Ok(Some(self.size.unwrap_or(self.bytes.len() as u64)))
     }
 
     fn read(&mut self, _name: Name, at: u64, into: &mut [u8]) -> Result<usize, Failed> {
@@ -78,26 +99,30 @@ impl Disk for OneFile {
     }
 
     fn create(&mut self, _name: Name) -> Result<(), Failed> {
-        Err(self.fail())
+        self.turn()
     }
 
-    fn write_at(&mut self, _name: Name, _at: u64, _bytes: &[u8]) -> Result<(), Failed> {
-        Err(self.fail())
+    fn write_at(&mut self, _name: Name, at: u64, bytes: &[u8]) -> Result<(), Failed> {
+        self.turn()?;
+        self.writes = self.writes.saturating_add(1);
+        self.overwrite(at, bytes)
     }
 
     fn sync(&mut self, _name: Name) -> Result<(), Failed> {
-        Err(self.fail())
+        self.turn()?;
+        self.syncs = self.syncs.saturating_add(1);
+        Ok(())
     }
 
     fn rename(&mut self, _from: Name, _to: Name) -> Result<(), Failed> {
-        Err(self.fail())
+        self.turn()
     }
 
     fn remove(&mut self, _name: Name) -> Result<(), Failed> {
-        Err(self.fail())
+        self.turn()
     }
 
     fn settle(&mut self) -> Result<(), Failed> {
-        Err(self.fail())
+        self.turn()
     }
 }

@@ -245,7 +245,7 @@ fn failing_call_is_a_disk_fault(rt: HostRuntime) -> Result<(), Fail> {
 fn file_that_cannot_be_held_is_refused_unread(rt: HostRuntime) -> Result<(), Fail> {
     let alloc = rt.alloc();
     let mut disk = OneFile::of(Vec::from_slice(alloc, &TWO_CELLS)?);
-    disk.size = 0x8000_0000_0000_0000;
+    disk.size = Some(0x8000_0000_0000_0000);
     let refusal = read_store(alloc, &mut disk, STORE_1).err();
     assert_eq!(rt; refusal, Some(ReadRefusal::Memory));
     assert_eq!(rt; disk.calls, 1);
@@ -256,7 +256,7 @@ fn file_that_cannot_be_held_is_refused_unread(rt: HostRuntime) -> Result<(), Fai
 fn file_that_got_shorter_is_read_as_it_is(rt: HostRuntime) -> Result<(), Fail> {
     let alloc = rt.alloc();
     let mut disk = OneFile::of(Vec::from_slice(alloc, &TWO_CELLS)?);
-    disk.size = 1000;
+    disk.size = Some(1000);
     let text = read_store(alloc, &mut disk, STORE_1)?.ok_or("there")?;
     assert_eq!(rt; text.cells.len(), 2);
     Ok(())
