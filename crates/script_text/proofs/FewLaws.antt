@@ -1,11 +1,11 @@
 -- A text says at most as many calls as it has bytes.
-use Rattle.std.proofs.Common.{◌≡◌, ℕ, zero, suc, ◌+◌, ◌≤◌, Bool, true, false, if◌then◌else◌, ◌==◌, nat_lt, Option, Some, None, is_none, unwrap_or, List, [], ◌∷◌, ◌++◌, length, arith, refl}
+use Rattle.std.proofs.Common.{◌≡◌, ℕ, ◌+◌, ◌≤◌, Bool, true, false, if◌then◌else◌, ◌==◌, nat_lt, Option, Some, None, is_none, unwrap_or, List, [], ◌∷◌, ◌++◌, length, arith}
 use Rattle.std.proofs.lemmas.List.{length-append}
 use Rattle.cell_model.specs.Cell.{Cell}
 use Rattle.region_model.specs.Calls.{Call}
 use Rattle.script_model.specs.Text.{lines_of, add_byte, words_of, is_skipped}
 use Rattle.script_model.specs.Tables.{Spoken, Calls, Opens, cell_in, spoken_of, second_number}
-use Rattle.script_model.specs.Script.{Said, with_call, with_cell, after_cell, after_spoken, say, after_line, said_by, nothing_said}
+use Rattle.script_model.specs.Script.{Said, after_cell, after_spoken, say, after_line, said_by, nothing_said}
 
 either : (b : Bool) (n : ℕ) (x y : Said) → length x.calls ≤ n → length y.calls ≤ n → length (if b then x else y).calls ≤ n
 either true n x y first second = first

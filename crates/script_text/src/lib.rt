@@ -13,6 +13,7 @@ mod laws;
 mod numbers;
 mod parse;
 mod pieces;
+mod saying;
 mod script;
 mod state;
 mod tokens;

@@ -4,16 +4,15 @@ ghost use Rattle.std.specs.Prelude.{◌≡◌, ◌+◌, ◌-◌, ◌^◌, ◌<�
 ghost use Rattle.cell_model.specs.Batch.{body_length};
 ghost use Rattle.cell_model.specs.Cell.{spelling_length};
 ghost use Rattle.script_model.specs.Calls.{IsScript, by_handler, script_of};
-ghost use Rattle.script_model.specs.Script.{after_cell, after_spoken, end_fault, nothing_said, say, with_call, with_cell, words_fault};
-ghost use Rattle.script_model.specs.Tables.{begins_with, call_fault, cell_in, due_fault, head_fault, second_number, spoken_of};
+ghost use Rattle.script_model.specs.Script.{end_fault, nothing_said, with_call, with_cell};
+ghost use Rattle.script_model.specs.Tables.{head_fault, second_number};
 ghost use Rattle.script_text.specs.Calls.{call_of, is_sync};
 ghost use Rattle.script_text.specs.Spoken.{IsCallOf};
 ghost use Rattle.script_text.specs.State.{InScript, handler_call};
 ghost use Rattle.script_text.specs.Why.{Tells};
 
-use crate::calls::{Spoken, call_line, head_line};
-use crate::cells::due_line;
-use crate::faults::{LineError, ScriptWhy};
+use crate::calls::head_line;
+use crate::faults::LineError;
 use crate::grouping::group;
 use crate::script::{Call, Script};
 use kv_cell::{Batch, Cell, Durability, NoMemory};
@@ -75,21 +74,21 @@ impl State {
         }
     }
 
-    fn time(&self) -> Option<u64>
+    pub(crate) fn time(&self) -> Option<u64>
         ensures value { result ≡ self.now.time }
         ensures within { IfSome result (λ t. t < 2 ^ 63 - 1) }
     {
         self.time
     }
 
-    fn regions(&self) -> Option<u32>
+    pub(crate) fn regions(&self) -> Option<u32>
         ensures value { result ≡ self.now.regions }
         ensures within { IfSome result (λ n. (1 ≤ n) × (n ≤ 64)) }
     {
         self.regions
     }
 
-    fn handlers(&self) -> Option<u64>
+    pub(crate) fn handlers(&self) -> Option<u64>
         ensures value { result ≡ self.now.handlers }
         ensures within { IfSome result (λ n. (1 ≤ n) × (n ≤ 16)) }
     {
@@ -97,21 +96,21 @@ impl State {
     }
 
     /// The number of cells that are due.
-    fn due(&self) -> u64
+    pub(crate) fn due(&self) -> u64
         ensures { result ≡ self.now.due }
     {
         self.due
     }
 
     /// The length in bytes of the body of the open put's log entry so far.
-    fn body(&self) -> usize
+    pub(crate) fn body(&self) -> usize
         ensures value { result ≡ body_length self.now.cells }
         ensures within { result ≤ 1048576 }
     {
         self.body
     }
 
-    fn say_time(&mut self, words: &[&[u8]]) -> Result<(), LineError>
+    pub(crate) fn say_time(&mut self, words: &[&[u8]]) -> Result<(), LineError>
         ensures exact { Tells result (head_fault false (codes "time") 0 (2 ^ 63 - 2) (map (λ w. w.now) words.now)) }
         ensures said { OnOk result (self.new ≡ record self.old { time = Some (second_number (map (λ w. w.now) words.now)) }) }
     {
@@ -120,7 +119,7 @@ impl State {
         Ok(())
     }
 
-    fn say_regions(&mut self, log: bool, words: &[&[u8]]) -> Result<(), LineError>
+    pub(crate) fn say_regions(&mut self, log: bool, words: &[&[u8]]) -> Result<(), LineError>
         requires { self.old.regions ≡ None }
         ensures exact { Tells result (head_fault log (codes "regions") 1 64 (map (λ w. w.now) words.now)) }
         ensures said { OnOk result (self.new ≡ record self.old { regions = Some (second_number (map (λ w. w.now) words.now)) }) }
@@ -130,7 +129,7 @@ impl State {
         Ok(())
     }
 
-    fn say_handlers(&mut self, log: bool, words: &[&[u8]]) -> Result<(), LineError>
+    pub(crate) fn say_handlers(&mut self, log: bool, words: &[&[u8]]) -> Result<(), LineError>
         requires first { self.old.handlers ≡ None }
         requires behind { self.old.regions ≡ None → ⊥ }
         ensures exact { Tells result (head_fault log (codes "handlers") 1 16 (map (λ w. w.now) words.now)) }
@@ -142,7 +141,7 @@ impl State {
     }
 
     /// Says a call.
-    fn add_call(&mut self, handler: u64, call: Call) -> Result<(), NoMemory>
+    pub(crate) fn add_call(&mut self, handler: u64, call: Call) -> Result<(), NoMemory>
         requires within { InScript self.old.handlers self.old.regions (handler, call_of call) }
         ensures { OnOk result (self.new ≡ with_call self.old handler (call_of call)) }
     {
@@ -151,7 +150,7 @@ impl State {
     }
 
     /// Says a put whose cells follow.
-    fn open(&mut self, handler: u64, region: u32, durability: Durability, count: u64)
+    pub(crate) fn open(&mut self, handler: u64, region: u32, durability: Durability, count: u64)
         requires none { self.old.due ≡ 0 }
         requires behind { self.old.handlers ≡ None → ⊥ }
         requires handler { (1 ≤ handler) × (handler ≤ unwrap_or self.old.handlers 0) }
@@ -166,7 +165,7 @@ impl State {
     }
 
     /// Says a cell of the open put, and with the last of them the put.
-    fn add_cell(&mut self, alloc: Global, cell: Cell) -> Result<(), NoMemory>
+    pub(crate) fn add_cell(&mut self, alloc: Global, cell: Cell) -> Result<(), NoMemory>
         requires due { 0 < self.old.due }
         requires room { body_length self.old.cells + spelling_length cell ≤ 1048576 }
         ensures { OnOk result (self.new ≡ with_cell self.old cell) }
@@ -184,88 +183,6 @@ impl State {
                 batch: batch_of(cells),
             };
             self.add_call(self.handler, call)?;
-        }
-        Ok(())
-    }
-
-    /// Says a line where a cell is due.
-    fn say_due(
-        &mut self,
-        alloc: Global,
-        log: bool,
-        time: u64,
-        words: &[&[u8]],
-    ) -> Result<(), LineError>
-        requires due { 0 < self.old.due }
-        requires time { time < 9223372036854775808 }
-        ensures exact { Tells result (due_fault log time (body_length self.old.cells) (map (λ w. w.now) words.now)) }
-        ensures said { OnOk result (self.new ≡ after_cell self.old (cell_in time (map (λ w. w.now) words.now))) }
-    {
-        let body = self.body();
-        let cell = due_line(alloc, log, time, body, words)?;
-        self.add_cell(alloc, cell)?;
-        Ok(())
-    }
-
-    /// Says a line of calls.
-    fn say_call(
-        &mut self,
-        alloc: Global,
-        log: bool,
-        handlers: u64,
-        regions: u32,
-        words: &[&[u8]],
-    ) -> Result<(), LineError>
-        requires none { self.old.due ≡ 0 }
-        requires handlers { self.old.handlers ≡ Some handlers }
-        requires regions { self.old.regions ≡ Some regions }
-        ensures exact { Tells result (call_fault log handlers regions (map (λ w. w.now) words.now)) }
-        ensures said { OnOk result (self.new ≡ after_spoken self.old (spoken_of (map (λ w. w.now) words.now))) }
-    {
-        match call_line(alloc, log, handlers, regions, words)? {
-            Spoken::Calls { handler, call } => self.add_call(handler, call)?,
-            Spoken::Opens {
-                handler,
-                region,
-                durability,
-                count,
-            } => self.open(handler, region, durability, count),
-        }
-        Ok(())
-    }
-
-    /// Says a line with words, for the command `log` or for `run`.
-    pub fn say(&mut self, alloc: Global, log: bool, words: &[&[u8]]) -> Result<(), LineError>
-        ensures exact { Tells result (words_fault log self.old (map (λ w. w.now) words.now)) }
-        ensures said { OnOk result (self.new ≡ say self.old (map (λ w. w.now) words.now)) }
-    {
-        let Some(time) = self.time() else {
-            return self.say_time(words);
-        };
-        let Some(regions) = self.regions() else {
-            return self.say_regions(log, words);
-        };
-        let Some(handlers) = self.handlers() else {
-            return self.say_handlers(log, words);
-        };
-        if self.due() > 0 {
-            return self.say_due(alloc, log, time, words);
-        }
-        if begins_with(b"cell", words) {
-            return Err(LineError::Wrong(ScriptWhy::Count));
-        }
-        self.say_call(alloc, log, handlers, regions, words)
-    }
-
-    /// Whether the text may end here.
-    pub fn end(&self) -> Result<(), LineError>
-        ensures exact { Tells result (end_fault self.now) }
-    {
-        let Some(_handlers) = self.handlers() else {
-            return Err(LineError::Wrong(ScriptWhy::Word));
-        };
-        if self.due() > 0 {
-            return Err(LineError::Wrong(ScriptWhy::Count));
         }
         Ok(())
     }
@@ -309,15 +226,6 @@ fn make_script(
         regions,
         handlers,
     })
-}
-
-fn begins_with(name: &[u8], words: &[&[u8]]) -> bool
-    ensures { result ≡ begins_with name.now (map (λ w. w.now) words.now) }
-{
-    match words {
-        [first, ..] => *first == name,
-        [] => false,
-    }
 }
 
 /// The batch of cells that are within its limits.

@@ -1,4 +1,4 @@
-use Rattle.std.proofs.Common.{◌≡◌, ◌∙◌, ap, arith}
+use Rattle.std.proofs.Common.{◌∙◌, ap, arith}
 use Rattle.script_model.specs.Script.{Said, said_by}
 use Rattle.script_model.specs.Text.{lines_of}
 use Rattle.script_text.proofs.FewLaws.{few_calls}

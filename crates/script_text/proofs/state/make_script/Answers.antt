@@ -1,5 +1,4 @@
-use Rattle.std.proofs.Common.{map, ◌∙◌, ap, subst, arith, ◌≤◌}
-use Rattle.std.proofs.lemmas.List.{length-map}
+use Rattle.std.proofs.Common.{map}
 use Rattle.script_text.proofs.GroupLaws.{in_limits}
 use Rattle.script_text.specs.State.{handler_call}
 use Rattle.script_text.proofs.state.make_script.Goals as goal

@@ -1,0 +1,106 @@
+//! What a line says, behind those so far.
+
+ghost use Rattle.std.specs.Prelude.{◌≡◌, ◌<◌, OnOk, Some, map};
+ghost use Rattle.cell_model.specs.Batch.{body_length};
+ghost use Rattle.script_model.specs.Script.{after_cell, after_spoken, end_fault, say, words_fault};
+ghost use Rattle.script_model.specs.Tables.{begins_with, call_fault, cell_in, due_fault, spoken_of};
+ghost use Rattle.script_text.specs.Why.{Tells};
+
+use crate::calls::{Spoken, call_line};
+use crate::cells::due_line;
+use crate::faults::{LineError, ScriptWhy};
+use crate::state::State;
+use std::alloc::Global;
+
+impl State {
+    /// Says a line where a cell is due.
+    fn say_due(
+        &mut self,
+        alloc: Global,
+        log: bool,
+        time: u64,
+        words: &[&[u8]],
+    ) -> Result<(), LineError>
+        requires due { 0 < self.old.due }
+        requires time { time < 9223372036854775808 }
+        ensures exact { Tells result (due_fault log time (body_length self.old.cells) (map (λ w. w.now) words.now)) }
+        ensures said { OnOk result (self.new ≡ after_cell self.old (cell_in time (map (λ w. w.now) words.now))) }
+    {
+        let body = self.body();
+        let cell = due_line(alloc, log, time, body, words)?;
+        self.add_cell(alloc, cell)?;
+        Ok(())
+    }
+
+    /// Says a line of calls.
+    fn say_call(
+        &mut self,
+        alloc: Global,
+        log: bool,
+        handlers: u64,
+        regions: u32,
+        words: &[&[u8]],
+    ) -> Result<(), LineError>
+        requires none { self.old.due ≡ 0 }
+        requires handlers { self.old.handlers ≡ Some handlers }
+        requires regions { self.old.regions ≡ Some regions }
+        ensures exact { Tells result (call_fault log handlers regions (map (λ w. w.now) words.now)) }
+        ensures said { OnOk result (self.new ≡ after_spoken self.old (spoken_of (map (λ w. w.now) words.now))) }
+    {
+        match call_line(alloc, log, handlers, regions, words)? {
+            Spoken::Calls { handler, call } => self.add_call(handler, call)?,
+            Spoken::Opens {
+                handler,
+                region,
+                durability,
+                count,
+            } => self.open(handler, region, durability, count),
+        }
+        Ok(())
+    }
+
+    /// Says a line with words, for the command `log` or for `run`.
+    pub fn say(&mut self, alloc: Global, log: bool, words: &[&[u8]]) -> Result<(), LineError>
+        ensures exact { Tells result (words_fault log self.old (map (λ w. w.now) words.now)) }
+        ensures said { OnOk result (self.new ≡ say self.old (map (λ w. w.now) words.now)) }
+    {
+        let Some(time) = self.time() else {
+            return self.say_time(words);
+        };
+        let Some(regions) = self.regions() else {
+            return self.say_regions(log, words);
+        };
+        let Some(handlers) = self.handlers() else {
+            return self.say_handlers(log, words);
+        };
+        if self.due() > 0 {
+            return self.say_due(alloc, log, time, words);
+        }
+        if begins_with(b"cell", words) {
+            return Err(LineError::Wrong(ScriptWhy::Count));
+        }
+        self.say_call(alloc, log, handlers, regions, words)
+    }
+
+    /// Whether the text may end here.
+    pub fn end(&self) -> Result<(), LineError>
+        ensures exact { Tells result (end_fault self.now) }
+    {
+        let Some(_handlers) = self.handlers() else {
+            return Err(LineError::Wrong(ScriptWhy::Word));
+        };
+        if self.due() > 0 {
+            return Err(LineError::Wrong(ScriptWhy::Count));
+        }
+        Ok(())
+    }
+}
+
+fn begins_with(name: &[u8], words: &[&[u8]]) -> bool
+    ensures { result ≡ begins_with name.now (map (λ w. w.now) words.now) }
+{
+    match words {
+        [first, ..] => *first == name,
+        [] => false,
+    }
+}
