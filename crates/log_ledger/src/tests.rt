@@ -100,7 +100,7 @@ fn is_unflushed(ledger: &Ledger, region: u32) -> bool
     ledger.next_store(region) != 0 && ledger.has_unflushed(region)
 }
 
-/// Flushes a region that has something to flush.
+/// Flushes a region that has something to flush, all of it committed.
 fn flush(ledger: &mut Ledger, region: u32) -> Result<(), Fail>
     requires { region ≤ 64 }
     ensures { ledger.new.accounts.last ≡ ledger.old.accounts.last }
@@ -110,6 +110,9 @@ fn flush(ledger: &mut Ledger, region: u32) -> Result<(), Fail>
     }
     if !ledger.has_unflushed(region) {
         return Err(Fail::from("something to flush"));
+    }
+    if ledger.synced(region) < ledger.drawn(region) {
+        return Err(Fail::from("all of it committed"));
     }
     ledger.flush(region);
     Ok(())
