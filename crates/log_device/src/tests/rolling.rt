@@ -26,7 +26,7 @@ fn roll_of_an_empty_file_does_nothing(rt: HostRuntime) -> Result<(), TestFail> {
     let mut device = two_regions(alloc)?;
     let calls = device.disk.all_calls();
     assert_eq!(rt;
-        device.roll(alloc),
+        roll(alloc, &mut device),
         Err(RollRefusal::NothingToRoll { file: 1 })
     );
     assert_eq!(rt; device.disk.all_calls(), calls);
@@ -40,12 +40,12 @@ fn put_between_two_rolls(rt: HostRuntime) -> Result<(), TestFail> {
     let alloc = rt.alloc();
     let mut device = two_regions(alloc)?;
     assert_eq!(rt;
-        device.roll(alloc),
+        roll(alloc, &mut device),
         Err(RollRefusal::NothingToRoll { file: 1 })
     );
     assert_eq!(rt; put(alloc, &mut device, 1)?, 1);
     assert_eq!(rt;
-        device.roll(alloc),
+        roll(alloc, &mut device),
         Ok(Rolled {
             closed: 1,
             entries: 1
@@ -60,7 +60,7 @@ fn put_between_two_rolls(rt: HostRuntime) -> Result<(), TestFail> {
         [log(1), log(2)].as_slice()
     );
     assert_eq!(rt;
-        device.roll(alloc),
+        roll(alloc, &mut device),
         Err(RollRefusal::NothingToRoll { file: 2 })
     );
     Ok(())
@@ -73,26 +73,26 @@ fn log_goes_once_all_regions_are_flushed(rt: HostRuntime) -> Result<(), TestFail
     put(alloc, &mut device, 1)?;
     put(alloc, &mut device, 2)?;
     assert_eq!(rt;
-        device.roll(alloc),
+        roll(alloc, &mut device),
         Ok(Rolled {
             closed: 1,
             entries: 2
         })
     );
-    assert_eq!(rt; device.archive(), Ok(0));
+    assert_eq!(rt; archive(&mut device), Ok(0));
     assert_eq!(rt; flush(alloc, &mut device, 1)?, Ok(1));
-    assert_eq!(rt; device.archive(), Ok(0));
+    assert_eq!(rt; archive(&mut device), Ok(0));
     assert_eq!(rt;
         names(alloc, &mut device)?.as_slice(),
         [log(1), log(2), store(1, 1)].as_slice()
     );
     assert_eq!(rt; flush(alloc, &mut device, 2)?, Ok(1));
-    assert_eq!(rt; device.archive(), Ok(1));
+    assert_eq!(rt; archive(&mut device), Ok(1));
     assert_eq!(rt;
         names(alloc, &mut device)?.as_slice(),
         [log(2), old(1), store(1, 1), store(2, 1)].as_slice()
     );
-    assert_eq!(rt; device.archive(), Ok(0));
+    assert_eq!(rt; archive(&mut device), Ok(0));
     Ok(())
 }
 
@@ -106,11 +106,11 @@ fn oldest_log_goes_first(rt: HostRuntime) -> Result<(), TestFail> {
     let disk = Untold::new(alloc, &[second_fails])?;
     let mut device = start(alloc, disk, &TWO_REGIONS)?;
     put(alloc, &mut device, 1)?;
-    device.roll(alloc)?;
+    roll(alloc, &mut device)?;
     put(alloc, &mut device, 1)?;
-    device.roll(alloc)?;
+    roll(alloc, &mut device)?;
     assert_eq!(rt; flush(alloc, &mut device, 1)?, Ok(2));
-    assert_eq!(rt; device.archive(), Err(WriteFault));
+    assert_eq!(rt; archive(&mut device), Err(WriteFault));
     assert!(rt; device.broken());
     assert_eq!(rt;
         names(alloc, &mut device)?.as_slice(),
@@ -124,11 +124,11 @@ fn flush_lets_two_logs_go(rt: HostRuntime) -> Result<(), TestFail> {
     let alloc = rt.alloc();
     let mut device = two_regions(alloc)?;
     put(alloc, &mut device, 1)?;
-    device.roll(alloc)?;
+    roll(alloc, &mut device)?;
     put(alloc, &mut device, 1)?;
-    device.roll(alloc)?;
+    roll(alloc, &mut device)?;
     assert_eq!(rt; flush(alloc, &mut device, 1)?, Ok(2));
-    assert_eq!(rt; device.archive(), Ok(2));
+    assert_eq!(rt; archive(&mut device), Ok(2));
     assert_eq!(rt;
         names(alloc, &mut device)?.as_slice(),
         [log(3), old(1), old(2), store(1, 1)].as_slice()
@@ -143,14 +143,14 @@ fn ample_memory_is_enough(rt: HostRuntime) -> Result<(), TestFail> {
     for round in 1..21 {
         assert_eq!(rt; put(alloc, &mut device, 1)?, round);
         assert_eq!(rt;
-            device.roll(alloc),
+            roll(alloc, &mut device),
             Ok(Rolled {
                 closed: round,
                 entries: 1
             })
         );
         assert_eq!(rt; flush(alloc, &mut device, 1)?, Ok(round));
-        assert_eq!(rt; device.archive(), Ok(1));
+        assert_eq!(rt; archive(&mut device), Ok(1));
     }
     assert_eq!(rt; names(alloc, &mut device)?.as_slice().len(), 41);
     Ok(())

@@ -64,7 +64,7 @@ fn full_stage_hands_the_truck_back(rt: HostRuntime) -> Result<(), TestFail> {
     assert_eq!(rt; take(alloc, &mut device, Step::Put(1))?, Answer::Full);
     assert!(rt; !device.broken());
     assert_eq!(rt; device.synced(1), 0);
-    assert_eq!(rt; device.sync(), Ok(4));
+    assert_eq!(rt; sync(&mut device), Ok(4));
     assert_eq!(rt; device.synced(1), 4);
     assert_eq!(rt; put(alloc, &mut device, 1)?, 5);
     Ok(())
@@ -76,19 +76,19 @@ fn sync_makes_four_calls_however_much_is_staged(rt: HostRuntime) -> Result<(), T
     let mut device = two_regions(alloc)?;
     // names, and the log's create, write and sync
     assert_eq!(rt; device.disk.all_calls(), 4);
-    assert_eq!(rt; device.sync(), Ok(0));
+    assert_eq!(rt; sync(&mut device), Ok(0));
     assert_eq!(rt; device.disk.all_calls(), 4);
     for _ in 0..50 {
         put(alloc, &mut device, 1)?;
         put(alloc, &mut device, 2)?;
     }
     assert_eq!(rt; device.disk.all_calls(), 4);
-    assert_eq!(rt; device.sync(), Ok(100));
+    assert_eq!(rt; sync(&mut device), Ok(100));
     assert_eq!(rt; device.disk.all_calls(), 8);
     assert_eq!(rt; device.disk.calls(CallKind::WriteAt), 3);
     assert_eq!(rt; device.disk.calls(CallKind::Sync), 3);
     assert_eq!(rt; (device.synced(1), device.synced(2)), (50, 50));
-    assert_eq!(rt; device.sync(), Ok(0));
+    assert_eq!(rt; sync(&mut device), Ok(0));
     assert_eq!(rt; device.disk.all_calls(), 8);
     Ok(())
 }

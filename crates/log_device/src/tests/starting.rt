@@ -69,10 +69,10 @@ fn disk_that_is_given_back_reads_the_same(rt: HostRuntime) -> Result<(), TestFai
     let alloc = rt.alloc();
     let mut device = two_regions(alloc)?;
     put(alloc, &mut device, 1)?;
-    device.roll(alloc)?;
+    roll(alloc, &mut device)?;
     flush(alloc, &mut device, 1)??;
     put(alloc, &mut device, 2)?;
-    device.sync()?;
+    sync(&mut device)?;
     put(alloc, &mut device, 2)?;
     let calls = device.disk.all_calls();
     let files = [log(1), log(2), store(1, 1)];
@@ -104,7 +104,7 @@ fn new_log_is_above_each_old_one(rt: HostRuntime) -> Result<(), TestFail> {
     );
     put(alloc, &mut device, 1)?;
     assert_eq!(rt;
-        device.roll(alloc),
+        roll(alloc, &mut device),
         Ok(Rolled {
             closed: 8,
             entries: 1

@@ -8,7 +8,7 @@ ghost use Rattle.log_ledger.specs.Books.{IsServed};
 ghost use Rattle.log_device.specs.Whole.{books_of};
 
 use super::untold::Untold;
-use crate::{Device, DeviceFlush, RegionBase, Truck};
+use crate::{Device, DeviceFlush, RegionBase, RollRefusal, Rolled, Truck, WriteFault};
 use disk_images::{Disk, Name, NameKind, NameList};
 use entry_frame::encode_entry;
 use kv_cell::{Batch, Cell};
@@ -180,6 +180,21 @@ pub(super) fn put(
 ) -> Result<u64, TestFail> {
     let number = stage_put(alloc, device, region)?.ok_or("room")?;
     Ok(number)
+}
+
+/// Makes all that is staged durable.
+pub(super) fn sync(device: &mut Device<Untold>) -> Result<u64, WriteFault> {
+    device.sync()
+}
+
+/// Ends the current log, and begins the next one.
+pub(super) fn roll(alloc: Global, device: &mut Device<Untold>) -> Result<Rolled, RollRefusal> {
+    device.roll(alloc)
+}
+
+/// Renames the logs that are wholly flushed.
+pub(super) fn archive(device: &mut Device<Untold>) -> Result<u64, WriteFault> {
+    device.archive()
 }
 
 /// Flushes a region that the device has.
