@@ -40,6 +40,11 @@ Stands (Ended told) key at unread given taken = (more : List ℕ) → IsLogText 
 -- however the bytes go on, they are damaged here
 Stands (Damaged place) key at unread given taken = HasNoNext key given taken × ((more : List ℕ) → IsDamaged key (given ++ more) place)
 
+abbrev pub HasEnded : Phase → Type 0
+HasEnded Open = ⊥
+HasEnded (Ended told) = Unit {0}
+HasEnded (Damaged place) = ⊥
+
 -- the feed was given these bytes so far, and these entries were taken from it
 pub record IsFed (feed : Feeding) (given : List ℕ) (taken : List Entry) : Type 0 where
   pub count : feed.count ≡ length taken

@@ -1,5 +1,7 @@
 //! An entry of a log.
 
+ghost use Rattle.std.specs.Prelude.{◌≡◌, ◌↔◌, IsTrue};
+
 use kv_cell::Batch;
 use std::marker::Model;
 
@@ -21,4 +23,16 @@ impl Model for Entry {
     ghost view = { λ e. record { region = e.region; number = e.number; time = e.time; cells = e.batch } };
 
     ghost invariant = { λ e. IsEntry (record { region = e.region; number = e.number; time = e.time; cells = e.batch }) };
+}
+
+impl Entry {
+    /// Whether the other entry has the same fields and the same cells in the same order.
+    pub fn is_same(&self, other: &Entry) -> bool
+        ensures same { IsTrue result ↔ (self.now ≡ other.now) }
+    {
+        self.region == other.region
+            && self.number == other.number
+            && self.time == other.time
+            && self.batch.is_same(&other.batch)
+    }
 }

@@ -1,11 +1,11 @@
 //! Reading a log or edits file that comes in pieces.
 
-ghost use Rattle.std.specs.Prelude.{◌≡◌, ◌≢◌, ℕ, ◌+◌, ◌<◌, ◌≤◌, ◌^◌, List, [], ◌++◌, length, drop, OnOk, OnErr, OnSome, IfOk, IfSome, IfNone, IfErr};
+ghost use Rattle.std.specs.Prelude.{◌≡◌, ◌≢◌, ◌↔◌, ℕ, ◌+◌, ◌<◌, ◌≤◌, ◌^◌, List, [], ◌++◌, length, drop, IsTrue, OnOk, OnErr, OnSome, IfOk, IfSome, IfNone, IfErr};
 ghost use Rattle.log_model.specs.Entry.{Entry as TheEntry};
 ghost use Rattle.log_model.specs.LogText.{IsLogText};
 ghost use Rattle.entry_frame.specs.declared.phase.Phase.TheVariants as phases;
 ghost use Rattle.entry_frame.specs.declared.phase.FeedRefusal.TheVariants as refusals;
-ghost use Rattle.entry_frame.specs.Feed.{key_of, HasNext, IsFed, IsDrained, entry_given, IsOfPhase, IsDamage};
+ghost use Rattle.entry_frame.specs.Feed.{key_of, HasNext, HasEnded, IsFed, IsDrained, entry_given, IsOfPhase, IsDamage};
 
 use crate::entry::Entry;
 use crate::owning::own_entry;
@@ -117,6 +117,14 @@ impl Feed {
         self.at += used as u64;
         self.read += used;
         Ok(Some(entry))
+    }
+
+    /// Whether the text has ended, so that what may follow is no part of it.
+    pub fn has_ended(&self) -> bool
+        ensures ended { IsTrue result ↔ HasEnded self.now.phase }
+        ensures more { IsTrue result → (given more : List ℕ) (taken : List TheEntry) → IsFed self.now given taken → IsFed self.now (given ++ more) taken }
+    {
+        matches!(self.phase, Phase::Ended(_))
     }
 
     /// The count of the end frame, if one was read. It takes no memory.

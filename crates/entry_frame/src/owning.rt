@@ -27,12 +27,12 @@ pub(crate) fn own_entry(alloc: Global, entry: &EntryRef<'_>) -> Result<Entry, No
     })
 }
 
-/// As many cells as stand in the bytes.
+/// As many cells as stand in the bytes. Memory is taken for exactly so many.
 fn own_cells(alloc: Global, bytes: &[u8], count: u32) -> Result<Vec<Cell>, NoMemory>
     requires { StartsCells bytes.now count [] }
     ensures { (s : StartsCells bytes.now count []) → IfOk result (λ cells. cells.items ≡ s.cells) }
 {
-    let mut cells = Vec::new(alloc);
+    let mut cells = Vec::with_capacity(alloc, count as usize)?;
     let mut rest = bytes;
     for _ in 0..count {
         let Ok((cell, len)) = decode(rest) else {

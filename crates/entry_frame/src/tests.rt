@@ -15,19 +15,18 @@ const ONE_PUT: [u8; 53] = [
     0, 15, 0, 0, 0, 1, 0, 1, b'r', 1, b'f', b'q', 0, 0, 0, 0, 0, 0, 0, 1, 4, b'v',
 ];
 
-fn one_cell(rt: &HostRuntime) -> Result<Batch, Fail> {
-    let cell = Cell::new(rt.alloc(), b"r", b"f", b"q", 1, 4, b"v")
+fn one_cell(alloc: Global) -> Result<Batch, Fail> {
+    let cell = Cell::new(alloc, b"r", b"f", b"q", 1, 4, b"v")
         .ok()
         .ok_or("within the limits")?;
-    let mut cells = Vec::new(rt.alloc());
+    let mut cells = Vec::new(alloc);
     cells.push(cell)?;
     Ok(Batch::new(cells).ok().ok_or("a batch")?)
 }
 
 #[test]
 fn one_put_is_a_body_of_48_bytes(rt: HostRuntime) -> Result<(), Fail> {
-    let batch = one_cell(&rt)?;
-    let mut bytes = encode_entry(rt.alloc(), 1, 2, 1000, &batch)?;
+    let mut bytes = encode_entry(rt.alloc(), 1, 2, 1000, &one_cell(rt.alloc())?)?;
     bytes.set_number(1);
     assert_eq!(rt; bytes.as_slice(), ONE_PUT.as_slice());
     Ok(())
@@ -35,20 +34,10 @@ fn one_put_is_a_body_of_48_bytes(rt: HostRuntime) -> Result<(), Fail> {
 
 #[test]
 fn an_entry_is_read_back_from_its_bytes(rt: HostRuntime) -> Result<(), Fail> {
-    let bytes = encode_entry(rt.alloc(), 3, 7, 1000, &one_cell(&rt)?)?;
-    let entry = bytes.to_entry(rt.alloc())?;
-    assert_eq!(rt; entry.region, 3);
-    assert_eq!(rt; entry.number, 7);
-    assert_eq!(rt; entry.time, 1000);
-    let cells = entry.batch.as_slice();
-    assert_eq!(rt; cells.len(), 1);
-    let cell = &cells[0];
-    assert_eq!(rt; cell.row.as_slice(), b"r".as_slice());
-    assert_eq!(rt; cell.family.as_slice(), b"f".as_slice());
-    assert_eq!(rt; cell.qualifier.as_slice(), b"q".as_slice());
-    assert_eq!(rt; cell.ts, 1);
-    assert_eq!(rt; cell.kind.code(), 4);
-    assert_eq!(rt; cell.value.as_slice(), b"v".as_slice());
+    let batch = one_cell(rt.alloc())?;
+    let entry = encode_entry(rt.alloc(), 3, 7, 1000, &batch)?.to_entry(rt.alloc())?;
+    assert_eq!(rt; (entry.region, entry.number, entry.time), (3, 7, 1000));
+    assert!(rt; entry.batch.is_same(&batch));
     Ok(())
 }
 
@@ -177,43 +166,55 @@ fn header_and_gate_have_no_entry_however_they_are_cut(rt: HostRuntime) -> Result
     Ok(())
 }
 
-#[test]
-fn damage_is_told_at_its_gate(rt: HostRuntime) -> Result<(), Fail> {
-    let (entries, ended) = read_whole(rt.alloc(), LOG_1, &ENDED).ok().ok_or("a log")?;
-    assert_eq!(rt; entries.len(), 1);
-    assert_eq!(rt; ended, Some(1));
-    let cut = read_whole(rt.alloc(), LOG_1, &ENDED[..60]);
-    assert!(rt; matches!(cut, Err(FeedRefusal::Damaged { at: 16 })));
-    let (entries, ended) = read_whole(rt.alloc(), LOG_1, &ENDED[..17])
-        .ok()
-        .ok_or("a log")?;
-    assert!(rt; entries.is_empty() && ended.is_none());
+/// How many entries the front of the ended log has, with some bytes changed, and its end.
+fn read_changed(
+    alloc: Global,
+    changes: &[(usize, u8)],
+    len: usize,
+) -> Result<(usize, Option<u64>), FeedRefusal> {
     let mut bytes = ENDED;
-    bytes[84] = 0xA5;
-    assert!(rt;
-        matches!(
-            read_whole(rt.alloc(), LOG_1, &bytes),
-            Err(FeedRefusal::Damaged { at: 70 })
-        )
-    );
-    bytes = ENDED;
-    bytes[83] = 2;
-    assert!(rt;
-        matches!(
-            read_whole(rt.alloc(), LOG_1, &bytes),
-            Err(FeedRefusal::Damaged { at: 70 })
-        )
-    );
-    bytes[16] = 0;
-    let (entries, ended) = read_whole(rt.alloc(), LOG_1, &bytes).ok().ok_or("a log")?;
-    assert!(rt; entries.is_empty() && ended.is_none());
-    bytes[3] = b'2';
-    assert!(rt;
-        matches!(
-            read_whole(rt.alloc(), LOG_1, &bytes[..18]),
-            Err(FeedRefusal::Damaged { at: 0 })
-        )
-    );
-    assert!(rt; matches!(read_whole(rt.alloc(), LOG_1, &bytes[..17]), Ok(_)));
+    for (at, byte) in changes {
+        if *at < 85 {
+            bytes[*at] = *byte;
+        }
+    }
+    let (entries, ended) = read_whole(alloc, LOG_1, &bytes[..len.min(85)])?;
+    Ok((entries.len(), ended))
+}
+
+/// What is changed, how many bytes are read, and how many entries and which end they have.
+const TEXTS: [(&[(usize, u8)], usize, (usize, Option<u64>)); 5] = [
+    (&[], 85, (1, Some(1))),
+    (&[], 17, (0, None)),
+    (&[(16, 0)], 85, (0, None)),
+    // Before the header and a gate stand, nothing is wrong.
+    (&[(3, b'2')], 17, (0, None)),
+    (&[(3, b'2'), (16, 0)], 17, (0, None)),
+];
+
+#[test]
+fn fronts_are_texts(rt: HostRuntime) -> Result<(), Fail> {
+    for (changes, len, want) in TEXTS {
+        assert_eq!(rt; read_changed(rt.alloc(), changes, len)?, want);
+    }
     Ok(())
+}
+
+/// What is changed, how many bytes are read, and where they are damaged.
+const DAMAGED: [(&[(usize, u8)], usize, u64); 4] = [
+    // Cut inside the entry.
+    (&[], 60, 16),
+    // Another header.
+    (&[(3, b'2'), (16, 0)], 18, 0),
+    // An open gate behind the end frame, and another count in it.
+    (&[(84, 0xA5)], 85, 70),
+    (&[(83, 2)], 85, 70),
+];
+
+#[test]
+fn damage_is_told_at_its_gate(rt: HostRuntime) {
+    for (changes, len, at) in DAMAGED {
+        let refusal = read_changed(rt.alloc(), changes, len).err();
+        assert_eq!(rt; refusal, Some(FeedRefusal::Damaged { at }));
+    }
 }
