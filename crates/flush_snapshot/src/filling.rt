@@ -21,6 +21,7 @@ pub(crate) fn write_rows<D: Disk>(
     rows: &[Row],
 ) -> Result<(), DiskFault>
     requires filling { IsTrue D.told → IsFilling store (D.view disk.old) [] }
+    requires empty { store.filled ≡ 0 }
     requires whole { IsStore (store_of store rows.now) }
     requires count { store.count ≡ length rows.now }
 
@@ -41,6 +42,7 @@ fn fill_rows<D: Disk>(disk: &mut D, store: &mut StoreFile, rows: &[Row]) -> Resu
     ensures filled { IsTrue D.told → OnOk result (IsFilling store.new (D.view disk.new) rows.now) }
     ensures any_moment { IsTrue D.told → Throughout (OnlyAt store.old.name IsNotThere (D.view disk.old)) (length rows.now) (D.view disk.old) (D.view disk.new) }
     ensures shape { (store.new.name ≡ store.old.name) × (store.new.from ≡ store.old.from) × (store.new.to ≡ store.old.to) × (store.new.count ≡ store.old.count) }
+    ensures counted { OnOk result (store.new.filled ≡ store.old.filled + length rows.now) }
     ensures touches { IsTrue D.told → Touches store.old.name (D.view disk.old) (D.view disk.new) }
     ensures cause { HasCause (D.faults disk.old) (D.faults disk.new) (IsErr result) }
 {

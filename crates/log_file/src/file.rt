@@ -98,6 +98,7 @@ impl LogFile {
 
         ensures staged { (batch : List Entry) (e : Entry) → IsStaged self.old batch → bytes.now ≡ entry_frame e → IsEntryOf (key_of self.old.name) e → OnOk result (IsStaged self.new (batch ++ e ∷ [])) }
         ensures counted { OnOk result (self.new.staged ≡ self.old.staged + 1) }
+        ensures len { OnOk result (length self.new.bytes ≡ length self.old.bytes + length bytes.now + 1) }
         ensures full { IsErr result ↔ (4194304 < length self.old.bytes + length bytes.now + 1) }
         ensures same { OnErr result (self.new ≡ self.old) }
         ensures elsewhere { (self.new.name ≡ self.old.name) × (self.new.gate ≡ self.old.gate) × (self.new.entries ≡ self.old.entries) }

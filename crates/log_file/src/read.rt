@@ -21,8 +21,8 @@ const PIECE: u64 = 65_536;
 /// Files of so many bytes and more are refused for want of memory.
 const TOO_LONG: u64 = 0x8000_0000_0000_0000;
 
-/// Reads a file that is there, in pieces of 64 KiB, up to the size found first. Memory is taken for its entries, one entry
-/// and one piece more. The disk reads as before.
+/// Reads a file that is there, in pieces of 64 KiB, up to the size found first, or to the piece in which its text ends.
+/// Memory is taken for its entries, one entry and one piece more. The disk reads as before.
 pub fn read_log<D: Disk>(alloc: Global, disk: &mut D, name: Name) -> Result<LogText, ReadRefusal>
     requires { IsTrue D.told → ∥ ((c : List ℕ) × Reads (D.view disk.old).files name c) ∥₁ }
 
@@ -141,6 +141,10 @@ impl Reading {
                 break;
             }
             at += n as u64;
+            // What stands behind the text's end is no part of it, however much there is.
+            if self.feed.has_ended() {
+                break;
+            }
         }
         Ok(())
     }

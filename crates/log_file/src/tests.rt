@@ -10,10 +10,11 @@ use kv_cell::{Batch, Cell};
 use std::alloc::Global;
 use std::test::*;
 
-/// One file, how many calls there were, and how many go well before one fails.
+/// One file, how many reads and other calls there were, and how many of these go well before one fails.
 #[derive(Drop)]
 struct OneFile {
     bytes: Vec<u8>,
+    reads: u64,
     calls: u64,
     good: u64,
     faults: u64,
@@ -23,6 +24,7 @@ impl OneFile {
     fn new(alloc: Global, good: u64) -> OneFile {
         OneFile {
             bytes: Vec::new(alloc),
+            reads: 0,
             calls: 0,
             good,
             faults: 0,
@@ -87,6 +89,7 @@ impl Disk for OneFile {
     }
 
     fn read(&mut self, _name: Name, at: u64, into: &mut [u8]) -> Result<usize, Failed> {
+        self.reads = self.reads.saturating_add(1);
         let at = (at as usize).min(self.bytes.len());
         let n = into.len().min(self.bytes.len() - at);
         into[..n].copy_from_slice(&self.bytes[at..at + n]);
@@ -142,6 +145,12 @@ fn one_put(rt: &HostRuntime) -> Result<EntryBytes, Fail> {
     Ok(encode_entry(rt.alloc(), 1, 1, 1000, &batch)?)
 }
 
+/// How many entries the file has, and its end.
+fn read(alloc: Global, disk: &mut OneFile) -> Result<(usize, Option<u64>), Fail> {
+    let text = read_log(alloc, disk, LOG_1)?;
+    Ok((text.entries.as_slice().len(), text.ended))
+}
+
 #[test]
 fn one_put_is_71_bytes(rt: HostRuntime) -> Result<(), Fail> {
     let mut disk = OneFile::new(rt.alloc(), 100);
@@ -155,10 +164,18 @@ fn one_put_is_71_bytes(rt: HostRuntime) -> Result<(), Fail> {
     assert_eq!(rt; disk.bytes.as_slice(), ONE_PUT.as_slice());
     assert_eq!(rt; log.commit(&mut disk)?, 0);
     assert_eq!(rt; disk.calls, 7);
-    let text = read_log(rt.alloc(), &mut disk, LOG_1)?;
-    assert_eq!(rt; (text.entries.as_slice().len(), text.ended), (1, None));
+    assert_eq!(rt; read(rt.alloc(), &mut disk)?, (1, None));
     assert_eq!(rt; log.finish(&mut disk)?, 1);
-    let text = read_log(rt.alloc(), &mut disk, LOG_1)?;
-    assert_eq!(rt; (text.entries.as_slice().len(), text.ended), (1, Some(1)));
+    assert_eq!(rt; read(rt.alloc(), &mut disk)?, (1, Some(1)));
+    Ok(())
+}
+
+#[test]
+fn nothing_is_read_behind_the_end(rt: HostRuntime) -> Result<(), Fail> {
+    let mut disk = OneFile::new(rt.alloc(), 100);
+    disk.bytes.extend_from_slice(&ONE_PUT)?;
+    disk.bytes.resize(200_000, 0)?;
+    assert_eq!(rt; read(rt.alloc(), &mut disk)?, (1, None));
+    assert_eq!(rt; disk.reads, 1, "the first piece alone");
     Ok(())
 }

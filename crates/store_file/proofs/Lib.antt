@@ -1,9 +1,7 @@
-pub mod Fields
 pub mod Filling
+pub mod OneDamage
 pub mod Pairs
-pub mod Rises
 pub mod Standing
 pub mod Stores
 pub mod Texts
-pub mod Undamaged
 pub mod Writing

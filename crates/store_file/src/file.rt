@@ -1,6 +1,6 @@
 //! A store file that is written.
 
-ghost use Rattle.std.specs.Prelude.{◌≡◌, ◌≤◌, ◌<◌, ◌+◌, ◌^◌, ℕ, [], ◌∷◌, ◌++◌, List, length, IsTrue, IfOk, OnOk, IsErr, IsErrOf};
+ghost use Rattle.std.specs.Prelude.{◌≡◌, ◌≤◌, ◌<◌, ◌+◌, ◌^◌, ℕ, [], ◌∷◌, ◌++◌, List, length, IsTrue, IfOk, OnOk, IsErr, IsErrOf, ◌↔◌};
 ghost use Rattle.cell_model.specs.Order.{NumberedCell};
 ghost use Rattle.log_model.specs.declared.name.NameKind.TheVariants as kinds;
 ghost use Rattle.log_model.specs.Files.{IsAbsent};
@@ -117,6 +117,7 @@ impl StoreFile {
         // At each moment each image of the file isn't there.
         ensures any_moment { IsTrue D.told → (cells : List NumberedCell) → IsFilling self.old (D.view disk.old) cells → Throughout (OnlyAt self.old.name IsNotThere (D.view disk.old)) 1 (D.view disk.old) (D.view disk.new) }
         ensures shape { (self.new.name ≡ self.old.name) × (self.new.from ≡ self.old.from) × (self.new.to ≡ self.old.to) × (self.new.count ≡ self.old.count) }
+        ensures counted { OnOk result (self.new.filled ≡ self.old.filled + 1) }
         ensures touches { IsTrue D.told → Touches self.old.name (D.view disk.old) (D.view disk.new) }
         ensures cause { HasCause (D.faults disk.old) (D.faults disk.new) (IsErr result) }
     {
@@ -168,15 +169,23 @@ impl StoreFile {
         Ok(())
     }
 
-    /// Makes the store be there, whole, once as many cells were put in as it is to have, in order and in range. It
-    /// takes no memory, and makes at most four disk calls.
-    pub fn commit<D: Disk>(self, disk: &mut D) -> Result<(), DiskFault>
-        requires { IsTrue D.told → ∥ ((cells : List NumberedCell) × IsFilling self (D.view disk.old) cells) ∥₁ }
+    /// Whether as many cells were put in as the store is to have.
+    pub fn is_full(&self) -> bool
+        ensures { IsTrue result ↔ (self.now.filled ≡ self.now.count) }
+    {
+        self.filled == self.count
+    }
 
-        ensures stored { IsTrue D.told → (cells : List NumberedCell) → IsFilling self (D.view disk.old) cells → IsStore (store_of self cells) → length cells ≡ self.count → OnOk result (IsDurableFile (D.view disk.new) self.name (store_text (store_of self cells))) }
+    /// Makes the store be there, whole. As many cells were put in as it is to have, in order and in range. It takes no
+    /// memory, and makes at most four disk calls.
+    pub fn commit<D: Disk>(self, disk: &mut D) -> Result<(), DiskFault>
+        requires full { self.filled ≡ self.count }
+        requires store { IsTrue D.told → ∥ ((cells : List NumberedCell) × IsFilling self (D.view disk.old) cells × IsStore (store_of self cells)) ∥₁ }
+
+        ensures stored { IsTrue D.told → (cells : List NumberedCell) → IsFilling self (D.view disk.old) cells → OnOk result (IsDurableFile (D.view disk.new) self.name (store_text (store_of self cells))) }
 
         // At each moment each image of the file isn't there, or is the whole store.
-        ensures any_moment { IsTrue D.told → (cells : List NumberedCell) → IsFilling self (D.view disk.old) cells → IsStore (store_of self cells) → length cells ≡ self.count → Throughout (OnlyAt self.name (IsWholeOrNot (store_text (store_of self cells))) (D.view disk.old)) 4 (D.view disk.old) (D.view disk.new) }
+        ensures any_moment { IsTrue D.told → (cells : List NumberedCell) → IsFilling self (D.view disk.old) cells → Throughout (OnlyAt self.name (IsWholeOrNot (store_text (store_of self cells))) (D.view disk.old)) 4 (D.view disk.old) (D.view disk.new) }
         ensures touches { IsTrue D.told → Touches self.name (D.view disk.old) (D.view disk.new) }
         ensures cause { HasCause (D.faults disk.old) (D.faults disk.new) (IsErr result) }
     {

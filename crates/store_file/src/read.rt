@@ -1,7 +1,7 @@
 //! Reading a store file.
 
-ghost use Rattle.std.specs.Prelude.{◌≡◌, ◌≤◌, ◌<◌, ◌+◌, ◌^◌, ℕ, List, length, take, IsTrue, IfOk, MatchOption, IsErrOf, vec_len};
-ghost use Rattle.log_model.specs.StoreText.{IsThere, IsStoreText, IsStoreDamaged};
+ghost use Rattle.std.specs.Prelude.{◌≡◌, ◌≤◌, ◌<◌, ◌+◌, ◌^◌, ℕ, List, length, take, IsTrue, IfOk, IfSome, MatchOption, IsErrOf, vec_len};
+ghost use Rattle.log_model.specs.StoreText.{IsStore, IsThere, IsStoreText, IsStoreDamaged};
 ghost use Rattle.log_model.specs.Files.{Reads};
 ghost use Rattle.disk_images.specs.Calls.{HasCause};
 ghost use Rattle.log_file.specs.Looking.{OnlyLooks};
@@ -29,6 +29,9 @@ pub fn read_store<D: Disk>(
     name: Name,
 ) -> Result<Option<StoreText>, ReadRefusal>
     requires { IsTrue D.told → ∥ ((c : List ℕ) × Reads (D.view disk.old).files name c) ∥₁ }
+
+    // On any disk what is read is a store of the name's region.
+    ensures store { IfOk result (λ text. IfSome text (λ t. IsStore (record { region = name.region; from = t.from; to = t.to; cells = t.cells }))) }
 
     // What is read stands there, and what is refused as damaged is damaged there.
     ensures text { IsTrue D.told → (c : List ℕ) → Reads (D.view disk.old).files name c → IfOk result (λ text. MatchOption text (IsThere c → ⊥)

@@ -70,7 +70,7 @@ fn is_there(bytes: &[u8]) -> bool
 }
 
 /// The fields, or the offset of the first that is wrong or not whole.
-#[tactic(auto, using(std::proofs::lemmas::Bool::Decides::nat_tests, crate::proofs::Fields::field_fault_is))]
+#[tactic(auto, using(std::proofs::lemmas::Bool::Decides::nat_tests, log_model::proofs::StoreFields::field_fault_is))]
 fn read_fields(region: u32, bytes: &[u8]) -> Result<Fields, u64>
     ensures { MatchResult result
         (λ f. (field_fault region bytes.now ≡ None) × IsHead region bytes.now × AreFields bytes.now f.from f.to f.count)

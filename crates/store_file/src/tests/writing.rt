@@ -22,23 +22,31 @@ const TWO_CELLS: [u8; 97] = [
     1, b'f', b'q', 0, 0, 0, 0, 0, 0, 0, 1, 4, b'w',
 ];
 
-fn put(alloc: Global, row: &[u8], value: &[u8]) -> Result<Cell, Fail> {
-    let cell = Cell::new(alloc, row, b"f", b"q", 1, 4, value)
-        .ok()
-        .ok_or("within the limits")?;
-    Ok(cell)
+fn put(alloc: Global, row: u8, value: &[u8]) -> Result<Cell, Fail> {
+    Ok(
+        Cell::new(alloc, &[row], b"f", b"q", 1, 4, value)
+            .ok()
+            .ok_or("within the limits")?,
+    )
+}
+
+/// Writes a store of region 3 that covers the numbers 5 to 9, with these numbers, rows and values.
+fn write(alloc: Global, disk: &mut OneFile, cells: &[(u64, u8, &[u8])]) -> Result<(), Fail> {
+    let mut store = StoreFile::begin(alloc, disk, STORE_3, 5, 9, cells.len() as u64)?;
+    for (number, row, value) in cells {
+        store.fill(disk, *number, &put(alloc, *row, value)?)?;
+    }
+    if !store.is_full() {
+        return Err("a cell was not counted".into());
+    }
+    store.commit(disk)?;
+    Ok(())
 }
 
 #[test]
 fn two_cells_are_97_bytes(rt: HostRuntime) -> Result<(), Fail> {
-    let alloc = rt.alloc();
-    let mut disk = OneFile::of(Vec::new(alloc));
-    let mut store = StoreFile::begin(alloc, &mut disk, STORE_3, 5, 9, 2)?;
-    assert_eq!(rt; (disk.calls, disk.bytes.as_slice()), (3, [0u8].as_slice()));
-    store.fill(&mut disk, 7, &put(alloc, b"r", b"v")?)?;
-    store.fill(&mut disk, 6, &put(alloc, b"s", b"w")?)?;
-    assert_eq!(rt; disk.calls, 3);
-    store.commit(&mut disk)?;
+    let mut disk = OneFile::of(Vec::new(rt.alloc()));
+    write(rt.alloc(), &mut disk, &[(7, b'r', b"v"), (6, b's', b"w")])?;
     assert_eq!(rt; disk.bytes.as_slice(), TWO_CELLS.as_slice());
     assert_eq!(rt; (disk.calls, disk.writes, disk.syncs), (7, 3, 3));
     Ok(())
@@ -47,24 +55,16 @@ fn two_cells_are_97_bytes(rt: HostRuntime) -> Result<(), Fail> {
 /// Ten cells whose pairs have 65,567 bytes, of which three fit the buffer.
 #[test]
 fn three_big_cells_are_one_write(rt: HostRuntime) -> Result<(), Fail> {
-    let alloc = rt.alloc();
-    let value = vec![in alloc; 7u8; 65_536]?;
-    let mut disk = OneFile::of(Vec::new(alloc));
-    let mut store = StoreFile::begin(alloc, &mut disk, STORE_3, 1, 10, 10)?;
-    for number in 1u8..11 {
-        store.fill(
-            &mut disk,
-            u64::from(number),
-            &put(alloc, &[number], &value)?,
-        )?;
+    let value = vec![in rt.alloc(); 7u8; 65_536]?;
+    let mut cells = Vec::new(rt.alloc());
+    for row in 1u8..11 {
+        cells.push((5, row, value.as_slice()))?;
     }
-    assert_eq!(rt; (disk.writes, disk.bytes.len()), (4, 590_136));
-    store.commit(&mut disk)?;
+    let mut disk = OneFile::of(Vec::new(rt.alloc()));
+    write(rt.alloc(), &mut disk, &cells)?;
     assert_eq!(rt; (disk.calls, disk.writes, disk.syncs), (10, 6, 3));
-    assert_eq!(rt;
-        (disk.bytes.len(), disk.bytes.first().copied()),
-        (655_703, Some(0xA5))
-    );
+    assert_eq!(rt; disk.bytes.len(), 655_703);
+    assert_eq!(rt; disk.bytes.first(), Some(&0xA5));
     Ok(())
 }
 

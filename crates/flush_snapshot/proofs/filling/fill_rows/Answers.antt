@@ -5,7 +5,7 @@ use Rattle.flush_snapshot.proofs.Going.{none_filled, within_rows, one_row_more}
 use Rattle.flush_snapshot.proofs.filling.fill_rows.Goals as goal
 
 pub loop-row-init : goal.loop-row-init
-loop-row-init g c = (none_filled (IsTrue g.D.Disk.told) c.args.store.now (g.D.Disk.view c.args.disk.now) c.args.rows.now c.requires, omega arith)
+loop-row-init g c = (none_filled (IsTrue g.D.Disk.told) c.args.store.now (g.D.Disk.view c.args.disk.now) c.args.rows.now c.requires, omega arith, omega arith)
 
 pub returns-in_err-fill-clause-any_moment : goal.returns-in_err-fill-clause-any_moment
 returns-in_err-fill-clause-any_moment g c =
@@ -27,4 +27,5 @@ loop-row-preserved g c =
           (record { name = shape.0; from = shape.1; to = shape.2; count = shape.3 })
           (λ told. c.in_ok-fill.ensures.filled told (take i rows) (so_far.filling told)) c.fill.ensures.touches,
       omega (arith, c.loop-row.invariant.1, c.fill.ensures.cause.later),
+      omega (arith, c.loop-row.invariant.2, c.in_ok-fill.ensures.counted),
     )

@@ -1,4 +1,4 @@
-use Rattle.store_file.proofs.Rises.{behind_last}
+use Rattle.log_model.proofs.Rises.{behind_last}
 use Rattle.store_file.proofs.reading.is_behind.Goals as goal
 
 pub returns-in-Some : goal.returns-in-Some

@@ -1,5 +1,5 @@
 use Rattle.std.proofs.Math.Logic.{∥∥₁_map}
-use Rattle.std.proofs.Common.{◌≡◌, ◌++◌, ◌+◌, List, ℕ, length, take, sym, ◌∙◌, subst, arith}
+use Rattle.std.proofs.Common.{◌≡◌, ◌++◌, ◌+◌, List, ℕ, length, take, drop, sym, ap, ◌∙◌, subst, arith, take-append-drop}
 use Rattle.std.proofs.lemmas.List.{take_all, length-take}
 use Rattle.log_model.specs.Files.{Files, Reads}
 use Rattle.entry_frame.specs.Feed.{IsFed}
@@ -46,3 +46,21 @@ returns-then-n-eq0-clause-fed g c told bytes reads =
     let so_far = c.loop-at.invariant.0 in
     let now = subst (λ (f : Files). Reads f c.args.name bytes) (sym (so_far.looks told).files) reads in
     absurd (omega (arith, c.if-n-eq0.true, c.in_ok-n.ensures.count told bytes now, length-take c.min-want.result c.loop-at.buffer, c.min-want.ensures, c.loop-at-test.true, c.requires.size told bytes reads, c.loop-at.auto.buffer, c.requires.room))
+
+pub returns-then-has_ended-clause-fed : goal.returns-then-has_ended-clause-fed
+returns-then-has_ended-clause-fed g c told bytes reads =
+    let so_far = c.loop-at.invariant.0 in
+    let at = c.loop-at.at in
+    let n = c.in_ok-n.n in
+    let piece = take n c.read_piece.new.into in
+    let now = subst (λ (f : Files). Reads f c.args.name bytes) (sym (so_far.looks told).files) reads in
+    let front : so_far.given ++ piece ≡ take (at + n) bytes = read_behind so_far.given piece bytes at n (so_far.part told bytes reads) (c.in_ok-n.ensures.bytes told bytes now) in
+    subst (λ (b : List ℕ). IsFed c.read_piece.new.self.feed b c.read_piece.new.self.entries.items) (ap (λ (l : List ℕ). l ++ drop (at + n) bytes) front ∙ take-append-drop (at + n) bytes)
+    (c.has_ended.ensures.more c.if-has_ended.true (so_far.given ++ piece) (drop (at + n) bytes) c.read_piece.new.self.entries.items (c.in_ok-n.ensures.fed so_far.given so_far.fed))
+
+pub returns-then-has_ended-clause-looks : goal.returns-then-has_ended-clause-looks
+returns-then-has_ended-clause-looks g c told =
+    let so_far = c.loop-at.invariant.0 in
+    let at = c.loop-at.at in
+    looks_more (at + 1) c.args.size (g.D.Disk.view c.args.disk.now) (g.D.Disk.view c.read_piece.new.disk) (omega (arith, c.loop-at-test.true))
+    (looks_joined at 1 (g.D.Disk.view c.args.disk.now) (g.D.Disk.view c.loop-at.disk) (g.D.Disk.view c.read_piece.new.disk) (so_far.looks told) (c.read_piece.ensures.looks told))
