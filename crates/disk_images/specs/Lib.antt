@@ -2,3 +2,4 @@ pub mod Crash
 pub mod Calls
 pub mod OneFile
 pub mod Gate
+pub mod Settled

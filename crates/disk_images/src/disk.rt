@@ -3,6 +3,7 @@
 ghost use Rattle.std.specs.Prelude.{◌≡◌, ◌<◌, ◌≤◌, ◌+◌, ◌-◌, ◌++◌, ℕ, List, length, take, drop, min, Bool, IsTrue, ◌^◌, OnOk, IfOk, IsErr, IsErrOf};
 ghost use Rattle.std.specs.FinMap.{keys};
 ghost use Rattle.log_model.specs.Files.{content, IsAbsent, Reads, IsName, size_of};
+ghost use Rattle.disk_images.specs.declared.disk.NamesError.TheVariants as names_errors;
 ghost use Rattle.disk_images.specs.Crash.{DiskView};
 ghost use Rattle.disk_images.specs.Calls.{HasCause, Looks, Creates, Writes, Syncs, Renames, Removes, Settles, IsTrueDisk};
 
@@ -17,6 +18,14 @@ pub struct Failed;
 pub enum NamesError {
     Failed,
     Memory,
+}
+
+impl From<Failed> for NamesError {
+    ghost from_gives = { λ _ e. e ≡ names_errors.Failed };
+
+    fn from(_e: Failed) -> NamesError {
+        NamesError::Failed
+    }
 }
 
 /// A disk of files with names. Each call has its meaning on a disk that tells what it holds; that a real folder meets

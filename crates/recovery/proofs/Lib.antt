@@ -14,3 +14,5 @@ pub mod Longer
 pub mod Started
 pub mod OneStore
 pub mod Proved
+pub mod Turns
+pub mod OpeningProved
