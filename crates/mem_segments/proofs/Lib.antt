@@ -5,3 +5,5 @@ pub mod Sorting
 pub mod Layering
 pub mod WalkSteps
 pub mod Ranges
+pub mod Resuming
+pub mod Permuting

@@ -74,7 +74,7 @@ module _ (test : VersionKey → Bool) where
   rising_kept true x xs g h = both _ _ g h
   rising_kept false x xs g h = h
 
-  rising-filter : (xs : List NumberedCell) → IsRising xs → IsRising (filter passes xs)
+  pub rising-filter : (xs : List NumberedCell) → IsRising xs → IsRising (filter passes xs)
   rising-filter [] g = tt
   rising-filter (x ∷ xs) g = rising_kept (passes x) x (filter passes xs) (below-filter (version_of x) xs (first _ _ g)) (rising-filter xs (second _ _ g))
 
@@ -100,7 +100,7 @@ module _ (test : VersionKey → Bool) where
   joined_rest : (m : Content) (ms : List Content) → joined (m ∷ joined ms ∷ []) ≡ joined (m ∷ ms)
   joined_rest m ms = same_content _ _ (λ q. get-joined_two m (joined ms) q ∙ sym (get-joined m ms q))
 
-  walk-filter : (ms : List Content) → merged_all (map (λ (m : Content). filter passes (cells_of m)) ms) ≡ filter passes (cells_of (joined ms))
+  pub walk-filter : (ms : List Content) → merged_all (map (λ (m : Content). filter passes (cells_of m)) ms) ≡ filter passes (cells_of (joined ms))
   walk-filter [] = sym (ap (λ (es : List (VersionKey × Payload)). filter passes (map cell_of es)) entries-empty)
   walk-filter (m ∷ ms) =
       ap (merged (filter passes (cells_of m))) (walk-filter ms)
@@ -109,11 +109,11 @@ module _ (test : VersionKey → Bool) where
 
 -- ---- a range of rows
 
-abbrev in_range : List ℕ → List ℕ → VersionKey → Bool
+abbrev pub in_range : List ℕ → List ℕ → VersionKey → Bool
 in_range from to v = not (is_lt (slice_cmp nat_cmp v.key.row from)) && (length to == 0 || is_lt (slice_cmp nat_cmp v.key.row to))
 
 module _ {A : Type 0} (content : A → Content) where
-  map_map : (f : Content → List NumberedCell) (parts : List A) → map f (map content parts) ≡ map (λ (a : A). f (content a)) parts
+  pub map_map : (f : Content → List NumberedCell) (parts : List A) → map f (map content parts) ≡ map (λ (a : A). f (content a)) parts
   map_map f [] = refl
   map_map f (a ∷ parts) = λ i. f (content a) ∷ map_map f parts i
 
@@ -139,7 +139,7 @@ row_falls x y bound l b =
       | Greater ↦ λ e. absurd (not_less x y e l)
     ] refl
 
-below_at : (k : VersionKey) (xs : List NumberedCell) (j : ℕ) (d : NumberedCell) → T (below_all version_cmp k (map entry_of xs)) → j < length xs → version_cmp k (version_of (get_or xs j d)) ≡ Less
+pub below_at : (k : VersionKey) (xs : List NumberedCell) (j : ℕ) (d : NumberedCell) → T (below_all version_cmp k (map entry_of xs)) → j < length xs → version_cmp k (version_of (get_or xs j d)) ≡ Less
 below_at k [] j d h lt = absurd (omega arith)
 below_at k (x ∷ xs) zero d h lt = less _ (first _ _ h)
 below_at k (x ∷ xs) (suc j) d h lt = below_at k xs j d (second _ _ h) (omega arith)
@@ -177,7 +177,7 @@ module _ {A : Type 0} (p q : A → Bool) where
   filter_part true b x xs e = ap (λ (c : Bool). cond c (x ∷ filter q xs) (filter q xs)) (sym e)
   filter_part false b x xs e = refl
 
-  filter-filter : (xs : List A) → filter q (filter p xs) ≡ filter (λ x. p x && q x) xs
+  pub filter-filter : (xs : List A) → filter q (filter p xs) ≡ filter (λ x. p x && q x) xs
   filter-filter [] = refl
   filter-filter (x ∷ xs) = filter_part (p x) (q x) x (filter p xs) refl ∙ ap (λ (ys : List A). cond (p x && q x) (x ∷ ys) ys) (filter-filter xs)
 

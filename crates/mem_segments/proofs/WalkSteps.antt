@@ -1,9 +1,10 @@
 -- A step of a walk over several lists.
-use Rattle.std.specs.Prelude.{◌≡◌, cond, List, [], ◌∷◌, map, Option, Some, None}
+use Rattle.std.specs.Prelude.{◌≡◌, ◌↔◌, Bool, true, false, not, IsTrue, cond, List, [], ◌∷◌, map, Option, Some, None, option_map}
 use Rattle.std.proofs.Common.{refl, sym, ap, subst, ◌∙◌}
 use Rattle.std.specs.declared.cmp.Ordering.{Ordering}
 use Rattle.std.specs.declared.cmp.Ordering.TheVariants.{Less, Equal, Greater}
 use Rattle.std.specs.Ordering.{is_eq, ordering_reverse}
+use Rattle.std.specs.Option.{is_some}
 use Rattle.std.proofs.lemmas.Cmp.{alike_right, tied_itself}
 use Rattle.cell_model.specs.Order.{NumberedCell, version_of, numbered_cmp}
 use Rattle.cell_model.specs.Merge.{by_turn, merge_into, merged}
@@ -115,3 +116,10 @@ one_list (Some y) (a ∷ as') x xss l next e = turn (numbered_cmp a y) a as' y x
 pub one_more : (xss : List (List NumberedCell)) (x : NumberedCell) → least_of xss ≡ Some x → merged_all xss ≡ x ∷ merged_all (map (past x) xss)
 one_more [] x e = absurd cc
 one_more (xs ∷ xss) x e = one_list (least_of xss) xs x xss refl (one_more xss) e
+
+-- nothing is to come exactly where there is no least head
+pub done_is : {A : Type 0} (f : A → NumberedCell) (xss : List (List NumberedCell)) (xs : List NumberedCell) (o : Option A) (b : Bool) → xs ≡ merged_all xss → option_map f o ≡ least_of xss → is_some o ≡ not b → IsTrue b ↔ (xs ≡ [])
+done_is f xss xs None true v l e = ((λ t. v ∙ nothing_left xss (sym l)), (λ n. refl))
+done_is f xss xs None false v l e = absurd cc
+done_is f xss xs (Some a) true v l e = absurd cc
+done_is f xss xs (Some a) false v l e = ((λ t. absurd cc), (λ n. let more = sym n ∙ v ∙ one_more xss _ (sym l) in absurd cc))

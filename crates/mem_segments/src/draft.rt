@@ -45,7 +45,7 @@ impl Draft {
 fn draft_rows(alloc: Global, cells: &[Cell]) -> Result<Vec<Row>, NoMemory>
     ensures { IfOk result (λ rows. rows.items ≡ at_number 0 cells.now) }
 {
-    let mut rows = Vec::new(alloc);
+    let mut rows = Vec::with_capacity(alloc, cells.len())?;
     for cell in cells {
         rows.push(Row::new(alloc, 0, cell.copy(alloc)?)?)?;
     }

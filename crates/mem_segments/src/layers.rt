@@ -109,7 +109,7 @@ fn share_parts(
 ) -> Result<Vec<Arc<Segment, Global>>, NoMemory>
     ensures { IfOk result (λ all. map arc_value all.items ≡ map arc_value parts.now) }
 {
-    let mut all = Vec::new(alloc);
+    let mut all = Vec::with_capacity(alloc, parts.len() + 1)?;
     for part in parts {
         all.push(Arc::try_clone(part)?)?;
     }

@@ -3,19 +3,24 @@
 //! decided above.
 #![tactic(auto)]
 
+mod cursor;
 mod draft;
 mod layers;
 mod merge_iter;
 mod merging;
 mod ordering;
+mod page;
 mod rest;
 mod row;
 mod segment;
+mod sort_key;
 
+pub use cursor::Cursor;
 pub use draft::Draft;
 pub use layers::{SegmentList, few_segments};
 pub use merge_iter::MergeIter;
 pub use merging::merge;
+pub use page::Page;
 pub use row::Row;
 pub use segment::{Base, Segment};
 

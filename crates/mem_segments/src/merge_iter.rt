@@ -1,12 +1,13 @@
 //! A walk over several segments in one order, within a range of rows.
 
-ghost use Rattle.std.specs.Prelude.{◌≡◌, ◌≤◌, [], ◌∷◌, length, map, take, drop, filter, option_map, IfOk, MatchOption};
+ghost use Rattle.std.specs.Prelude.{◌≡◌, ◌↔◌, ◌≤◌, IsTrue, [], ◌∷◌, length, map, take, drop, filter, option_map, IfOk, MatchOption};
 ghost use Rattle.std.specs.Arc.{arc_value};
 ghost use Rattle.cell_model.specs.Join.{joined};
 ghost use Rattle.cell_model.specs.Order.{cells_of};
 ghost use Rattle.region_model.specs.Journal.{is_in_range};
-ghost use Rattle.mem_segments.specs.Walk.{least_of, lesser, past};
+ghost use Rattle.mem_segments.specs.Walk.{least_of, lesser, past, to_come};
 
+use crate::cursor::Cursor;
 use crate::rest::{Rest, first_of_two};
 use crate::row::Row;
 use crate::segment::Segment;
@@ -42,36 +43,68 @@ impl<'a> MergeIter<'a> {
     ) -> Result<MergeIter<'a>, NoMemory>
         ensures { IfOk result (λ walk. walk ≡ filter (is_in_range from.now to.now) (cells_of (joined (map arc_value parts.now)))) }
     {
-        let rests = rests_of(alloc, parts, from, to)?;
+        let walk = MergeIter::resume(alloc, parts, &Cursor::new(), from, to)?;
+        Ok(walk)
+    }
+
+    /// The same walk taken up again, behind the cell that was given last.
+    pub fn resume(
+        alloc: Global,
+        parts: &'a [Arc<Segment, Global>],
+        cursor: &Cursor,
+        from: &[u8],
+        to: &[u8],
+    ) -> Result<MergeIter<'a>, NoMemory>
+        ensures { IfOk result (λ walk. walk ≡ to_come cursor.now (filter (is_in_range from.now to.now) (cells_of (joined (map arc_value parts.now))))) }
+    {
+        let rests = rests_of(alloc, parts, cursor, from, to)?;
         Ok(MergeIter { rests })
+    }
+
+    /// Whether nothing is to come.
+    pub fn is_done(&self) -> bool
+        ensures { IsTrue result ↔ (self.now ≡ []) }
+    {
+        least_head(&self.rests).is_none()
     }
 
     /// The next number and cell: none exactly after the last. With k segments it takes a time linear in k.
     pub fn next(&mut self) -> Option<(u64, &'a Cell)>
         ensures { MatchOption result ((self.old ≡ []) × (self.new ≡ [])) (λ x. self.old ≡ (x.0, x.1.now) ∷ self.new) }
     {
+        match self.next_row() {
+            None => None,
+            Some(row) => Some((row.number(), row.cell())),
+        }
+    }
+
+    /// The next one as a row, which can be shared.
+    pub fn next_row(&mut self) -> Option<&'a Row>
+        ensures { MatchOption result ((self.old ≡ []) × (self.new ≡ [])) (λ row. self.old ≡ row.now ∷ self.new) }
+    {
         match least_head(&self.rests) {
             None => None,
             Some(least) => {
                 pass_all(&mut self.rests, least);
-                Some((least.number(), least.cell()))
+                Some(least)
             }
         }
     }
 }
 
-/// What each segment has within the range of rows.
+/// What each segment has within the range of rows, behind the cell that was given last.
 fn rests_of<'a>(
     alloc: Global,
     parts: &'a [Arc<Segment, Global>],
+    cursor: &Cursor,
     from: &[u8],
     to: &[u8],
 ) -> Result<Vec<Rest<'a>>, NoMemory>
-    ensures { IfOk result (λ rests. rests.items ≡ map (λ part. filter (is_in_range from.now to.now) (cells_of (arc_value part))) parts.now) }
+    ensures { IfOk result (λ rests. rests.items ≡ map (λ part. to_come cursor.now (filter (is_in_range from.now to.now) (cells_of (arc_value part)))) parts.now) }
 {
-    let mut rests = Vec::new(alloc);
+    let mut rests = Vec::with_capacity(alloc, parts.len())?;
     for part in parts {
-        rests.push(Rest::of(part, from, to))?;
+        rests.push(Rest::of(part, from, to).behind(cursor))?;
     }
     Ok(rests)
 }

@@ -23,7 +23,7 @@ pub fn merge(alloc: Global, a: &Segment, b: &Segment) -> Result<Segment, NoMemor
 pub(crate) fn merge_rows(alloc: Global, a: &[Row], b: &[Row]) -> Result<Vec<Row>, NoMemory>
     ensures { IfOk result (λ rows. rows.items ≡ merged a.now b.now) }
 {
-    let mut rows = Vec::new(alloc);
+    let mut rows = Vec::with_capacity(alloc, a.len() + b.len())?;
     let mut first = a;
     let mut second = b;
     while !first.is_empty() && !second.is_empty() {

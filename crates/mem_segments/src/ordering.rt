@@ -1,6 +1,6 @@
-//! Rows put in order, by halves.
+//! Rows put in order.
 
-ghost use Rattle.std.specs.Prelude.{◌≡◌, IfOk, OnOk};
+ghost use Rattle.std.specs.Prelude.{◌≡◌, IfOk, IsTrue, OnOk};
 ghost use Rattle.std.specs.List.{AllByRecursion};
 ghost use Rattle.std.specs.FinMap.{empty};
 ghost use Rattle.cell_model.specs.Cell.{IsCell};
@@ -8,6 +8,7 @@ ghost use Rattle.cell_model.specs.Merge.{IsRising, content_of, put_numbered};
 
 use crate::merging::{merge_rows, share_all};
 use crate::row::Row;
+use crate::sort_key::sorted_rows;
 use kv_cell::{NoMemory, NumberedCells};
 use std::alloc::Global;
 
@@ -16,15 +17,40 @@ pub(crate) fn numbered_rows(alloc: Global, cells: NumberedCells) -> Result<Vec<R
     ensures rows { IfOk result (λ rows. rows.items ≡ cells) }
     ensures within { OnOk result (AllByRecursion (λ x. IsCell x.1) cells) }
 {
-    let mut rows = Vec::new(alloc);
+    let mut rows = Vec::with_capacity(alloc, cells.len())?;
     for (number, cell) in cells.into_vec() {
         rows.push(Row::new(alloc, number, cell)?)?;
     }
     Ok(rows)
 }
 
-/// The rows in order; of two that tie the later one stays.
+/// The rows in order; of two that tie the later one stays. Where no two tie one sort does it.
 pub(crate) fn ordered_rows(alloc: Global, rows: &[Row]) -> Result<Vec<Row>, NoMemory>
+    ensures rising { IfOk result (λ ordered. IsRising ordered.items) }
+    ensures content { IfOk result (λ ordered. content_of ordered.items ≡ put_numbered empty rows.now) }
+{
+    let sorted = sorted_rows(alloc, rows)?;
+    if are_rising(&sorted) {
+        return Ok(sorted);
+    }
+    let ordered = halved_rows(alloc, rows)?;
+    Ok(ordered)
+}
+
+/// Whether each row comes before the next.
+fn are_rising(rows: &[Row]) -> bool
+    ensures { IsTrue result → IsRising rows.now }
+{
+    for place in 1..rows.len() {
+        if !rows[place - 1].compare(&rows[place]).is_lt() {
+            return false;
+        }
+    }
+    true
+}
+
+/// The rows in order, by halves that are merged; of two that tie the later one stays.
+fn halved_rows(alloc: Global, rows: &[Row]) -> Result<Vec<Row>, NoMemory>
     ensures rising { IfOk result (λ ordered. IsRising ordered.items) }
     ensures content { IfOk result (λ ordered. content_of ordered.items ≡ put_numbered empty rows.now) }
 {
@@ -34,8 +60,8 @@ pub(crate) fn ordered_rows(alloc: Global, rows: &[Row]) -> Result<Vec<Row>, NoMe
         return Ok(few);
     }
     let half = rows.len() / 2;
-    let first = ordered_rows(alloc, &rows[..half])?;
-    let second = ordered_rows(alloc, &rows[half..])?;
+    let first = halved_rows(alloc, &rows[..half])?;
+    let second = halved_rows(alloc, &rows[half..])?;
     let ordered = merge_rows(alloc, &first, &second)?;
     Ok(ordered)
 }

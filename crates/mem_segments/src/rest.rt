@@ -1,13 +1,14 @@
 //! What a walk has left of one segment.
 
-ghost use Rattle.std.specs.Prelude.{◌≡◌, ◌≤◌, length, take, drop, filter, not, option_map};
+ghost use Rattle.std.specs.Prelude.{◌≡◌, ◌≤◌, length, take, drop, filter, not, option_map, Some};
 ghost use Rattle.std.specs.Ordering.{nat_cmp, is_lt};
 ghost use Rattle.std.specs.Cmp.Lexicographic.{slice_cmp};
 ghost use Rattle.cell_model.specs.Order.{NumberedCell, cells_of};
 ghost use Rattle.cell_model.specs.Merge.{IsRising};
 ghost use Rattle.region_model.specs.Journal.{is_in_range};
-ghost use Rattle.mem_segments.specs.Walk.{head_of, lesser, past, is_before};
+ghost use Rattle.mem_segments.specs.Walk.{head_of, lesser, past, is_before, to_come};
 
+use crate::cursor::Cursor;
 use crate::row::Row;
 use crate::segment::Segment;
 use std::marker::Model;
@@ -44,6 +45,19 @@ impl<'a> Rest<'a> {
         }
     }
 
+    /// What lies behind the cell that was given last.
+    pub(crate) fn behind(self, cursor: &Cursor) -> Rest<'a>
+        requires { IsRising self }
+        ensures { result ≡ to_come cursor.now self.entry }
+    {
+        match cursor.last() {
+            None => self,
+            Some(last) => Rest {
+                rows: &self.rows[given(self.rows, last)..],
+            },
+        }
+    }
+
     /// The first row that is left.
     pub(crate) fn head(&self) -> Option<&'a Row>
         ensures { option_map (λ row. row.now) result ≡ head_of self.now }
@@ -71,6 +85,15 @@ fn before(rows: &[Row], bound: &[u8]) -> usize
     ensures others { drop result rows.now ≡ filter (λ x. not (is_before bound.now x)) rows.now }
 {
     rows.partition_point(|row| row.is_before(bound))
+}
+
+/// How many of these rows, which are in order, come before this one or tie with it.
+fn given(rows: &[Row], last: &Row) -> usize
+    requires { IsRising rows.now }
+    ensures within { result ≤ length rows.now }
+    ensures others { drop result rows.now ≡ to_come (Some last.now) rows.now }
+{
+    rows.partition_point(|row| row.is_at_most(last))
 }
 
 /// The one that comes first in the order; of two that tie the second.

@@ -1,6 +1,7 @@
 //! A numbered cell that several segments share.
 
 ghost use Rattle.std.specs.Prelude.{◌≡◌, IfOk};
+ghost use Rattle.std.specs.Ordering.{is_le};
 ghost use Rattle.cell_model.specs.Cell.{IsCell};
 ghost use Rattle.cell_model.specs.Order.{numbered_cmp};
 ghost use Rattle.mem_segments.specs.Walk.{is_before};
@@ -15,7 +16,7 @@ use std::sync::Arc;
 #[derive(Drop)]
 pub struct Row {
     number: u64,
-    cell: Arc<Cell, Global>,
+    pub(crate) cell: Arc<Cell, Global>,
 }
 
 impl Model for Row {
@@ -76,6 +77,13 @@ impl Row {
         ensures { result ≡ numbered_cmp self.now other.now }
     {
         compare_numbered(self.cell(), self.number(), other.cell(), other.number())
+    }
+
+    /// Whether it comes before the other one, or ties with it.
+    pub(crate) fn is_at_most(&self, other: &Row) -> bool
+        ensures { result ≡ is_le (numbered_cmp self.now other.now) }
+    {
+        self.compare(other).is_le()
     }
 
     /// Whether the cell's row lies below these bytes.

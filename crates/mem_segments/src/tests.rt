@@ -103,24 +103,47 @@ fn walks_give_a_range_of_rows(rt: HostRuntime) -> Result<(), Fail> {
     Ok(())
 }
 
-/// How many rows were moved from one list to the next by a newer segment of one cell.
-fn moved_between(before: &SegmentList, after: &SegmentList) -> u64 {
-    let parts = before.as_slice();
-    let kept = after.as_slice().len().saturating_sub(1);
-    let mut newest = 1u64;
-    let mut moved = 0u64;
-    for part in parts.iter().rev().take(parts.len().saturating_sub(kept)) {
-        newest = newest.saturating_add(part.len() as u64);
-        moved = moved.saturating_add(newest);
+/// How many rows of this list stand in segments of its own, while the list before it still holds its own too: what
+/// both have is counted twice.
+fn rows_made(list: &SegmentList) -> usize {
+    let mut made = 0usize;
+    for part in list.as_slice() {
+        if Arc::strong_count(part) == 1 {
+            made = made.saturating_add(part.len());
+        }
     }
-    moved
+    made
+}
+
+#[test]
+fn what_is_not_merged_is_shared(rt: HostRuntime) -> Result<(), Fail> {
+    let alloc = rt.alloc();
+    let four = segment(alloc, &[(3, b'c'), (1, b'a'), (2, b'b'), (4, b'd')])?;
+    let newer = segment(alloc, &[(5, b'e')])?;
+    let last = segment(alloc, &[(6, b'f')])?;
+    if four.is_empty() || newer.is_empty() || last.is_empty() {
+        return Err("cells in each")?;
+    }
+    let first = SegmentList::new(alloc).with_newer(alloc, four)?;
+    assert_eq!(rt; rows_made(&first), 4);
+    let second = first.with_newer(alloc, newer)?;
+    assert_eq!(rt; rows_made(&second), 1);
+    let third = second.with_newer(alloc, last)?;
+    assert_eq!(rt; rows_made(&third), 2);
+    assert_eq!(rt; rows_made(&third.share(alloc)?), 0);
+    for part in second.as_slice().iter().skip(1) {
+        for row in part.rows() {
+            assert_eq!(rt; Arc::strong_count(&row.cell), 2);
+        }
+    }
+    Ok(())
 }
 
 #[test]
 fn ten_thousand_edits_stand_in_few_segments(rt: HostRuntime) -> Result<(), Fail> {
     let alloc = rt.alloc();
     let mut list = SegmentList::new(alloc);
-    let mut moved = 0u64;
+    let mut made = 0usize;
     for number in 1..10_001u64 {
         let row = number.wrapping_mul(0x9E37_79B9_7F4A_7C15).to_be_bytes();
         let mut cells = NumberedCells::new(alloc);
@@ -130,12 +153,11 @@ fn ten_thousand_edits_stand_in_few_segments(rt: HostRuntime) -> Result<(), Fail>
             continue;
         }
         let next = list.with_newer(alloc, newer)?;
-        moved = moved.saturating_add(moved_between(&list, &next));
+        made = made.saturating_add(rows_made(&next));
         list = next;
     }
     assert!(rt; list.as_slice().len() <= 14);
-    assert_eq!(rt; list.share(alloc)?.as_slice().len(), list.as_slice().len());
-    assert!(rt; moved <= 200_000);
+    assert!(rt; made <= 200_000);
     let mut walk = MergeIter::new(alloc, list.as_slice(), b"", b"")?;
     let mut given = 0u64;
     for _ in 0..20_000 {
@@ -145,5 +167,45 @@ fn ten_thousand_edits_stand_in_few_segments(rt: HostRuntime) -> Result<(), Fail>
         given = given.saturating_add(1);
     }
     assert_eq!(rt; given, 10_000);
+    Ok(())
+}
+
+/// The numbers and rows of the pages of a walk over all rows, with a mark before each page, which says whether it is
+/// the last one.
+fn paged(alloc: Global, list: &SegmentList, count: u32) -> Result<Vec<u8>, Fail> {
+    let mut text = Vec::new(alloc);
+    let mut cursor = Cursor::new();
+    for _ in 0..10 {
+        let page = list.page(alloc, &mut cursor, b"", b"", count)?;
+        text.push(if page.done { b'!' } else { b'-' })?;
+        for (number, cell) in page.cells.as_slice() {
+            text.push((*number % 256) as u8)?;
+            text.extend_from_slice(cell.row.as_slice())?;
+        }
+        if page.done {
+            break;
+        }
+    }
+    Ok(text)
+}
+
+#[test]
+fn pages_joined_are_the_walk(rt: HostRuntime) -> Result<(), Fail> {
+    let alloc = rt.alloc();
+    let mut list = SegmentList::new(alloc);
+    assert_eq!(rt; paged(alloc, &list, 2)?.as_slice(), b"!".as_slice());
+    let older = segment(alloc, &[(3, b'c'), (1, b'a'), (2, b'b')])?;
+    let newer = segment(alloc, &[(4, b'b')])?;
+    if older.is_empty() || newer.is_empty() {
+        return Err("cells in each")?;
+    }
+    list = list.with_newer(alloc, older)?;
+    list = list.with_newer(alloc, newer)?;
+    let by_one = b"-\x01a-\x04b-\x02b!\x03c".as_slice();
+    assert_eq!(rt; paged(alloc, &list, 1)?.as_slice(), by_one);
+    let by_three = b"-\x01a\x04b\x02b!\x03c".as_slice();
+    assert_eq!(rt; paged(alloc, &list, 3)?.as_slice(), by_three);
+    let at_once = b"!\x01a\x04b\x02b\x03c".as_slice();
+    assert_eq!(rt; paged(alloc, &list, 4)?.as_slice(), at_once);
     Ok(())
 }

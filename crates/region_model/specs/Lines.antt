@@ -39,6 +39,10 @@ is_done_line x = is_done x.outcome
 abbrev pub completed_in : List Line → List ℕ
 completed_in xs = map (λ x. x.number) (filter is_completed_line xs)
 
+-- the lines of one handler, in order
+abbrev pub handled_lines : ℕ → List Line → List Line
+handled_lines h xs = filter (λ x. x.caller.handler == h) xs
+
 abbrev pub done_in : List Line → List Line
 done_in xs = filter is_done_line xs
 

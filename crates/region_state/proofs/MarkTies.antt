@@ -1,8 +1,8 @@
 -- The write queue's marks and the journal's lines.
 use Rattle.std.proofs.Common.{◌≡◌, ℕ, zero, suc, ◌+◌, ◌-◌, ◌<◌, ◌≤◌, Bool, true, false, cond, List, [], ◌∷◌, length, map, filter, take, get_or, slice_get, Some, refl, sym, ap, ◌∙◌, subst, arith}
 use Rattle.std.specs.List.{AllPass}
-use Rattle.region_model.specs.Journal.{Outcome, Pending, Follows, IsPoint, is_completed}
-use Rattle.region_model.specs.Lines.{Line, edits_in, is_completed_line, completed_in, IsPending}
+use Rattle.region_model.specs.Journal.{Base, Outcome, Pending, Follows, IsPoint, is_completed}
+use Rattle.region_model.specs.Lines.{Line, edits_in, is_completed_line, completed_in, last_in, IsPending}
 use Rattle.write_queue.specs.Numbers.{completed_behind}
 use Rattle.write_queue.proofs.MarkLaws.{is_completed as mark_completed, was_completed}
 use Rattle.region_state.specs.States.{marks}
@@ -133,3 +133,11 @@ pub behind_front : (last n t : ℕ) (xs : List Line) → IsAt last xs n → AllP
 behind_front last n t xs a all le =
     let no : n - last - 1 < t → ⊥ = λ lt. absurd (cc (sym (mark_out last n xs a) ∙ front_mark xs t (n - last - 1) lt le all)) in
     omega (arith, no)
+
+-- the line at a number's place has that number
+pub line_numbered : (r : ℕ) (base : Base) (xs : List Line) (n last : ℕ) (x : Line) → Follows base.last (edits_in r xs) → last ≡ base.last → base.last < n → n ≤ last_in base xs
+    → x ≡ get_or xs (n - last - 1) x → x.number ≡ n
+line_numbered r base xs n last x f same behind within is =
+    let at = number_at r base.last xs (n - last - 1) x f (omega arith) in
+    let number : x.number ≡ (get_or xs (n - last - 1) x).number = ap (λ (y : Line). y.number) is in
+    omega arith

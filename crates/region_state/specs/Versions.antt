@@ -2,9 +2,9 @@
 use Rattle.std.specs.Prelude.{◌≡◌, ℕ, ◌+◌, ◌-◌, List, length, take, refl}
 use Rattle.std.specs.List.{AllPass}
 use Rattle.std.specs.Coded.{Coded, code_by, coded×, coded_ℕ, coded_list}
-use Rattle.cell_model.specs.Order.{Content}
+use Rattle.cell_model.specs.Order.{Content, NumberedCell}
 use Rattle.cell_model.specs.Join.{joined}
-use Rattle.region_model.specs.Journal.{Base, Follows}
+use Rattle.region_model.specs.Journal.{Base, Follows, visible}
 use Rattle.region_model.specs.Lines.{Line, edits_in, is_completed_line, done_in, put_lines}
 use Rattle.mem_segments.specs.Codes.{coded_base}
 use Rattle.region_state.specs.Codes.{coded_line}
@@ -21,6 +21,10 @@ coded_shown = code_by (Base × (List Line × ℕ)) (coded× coded_base (coded× 
 -- its cells: those of its base and of the done lines of its cut
 abbrev pub content_of : Shown → Content
 content_of s = put_lines s.base.content (done_in s.cut)
+
+-- what a reader sees of it in a range of rows, whichever region it is
+abbrev pub seen_in : ℕ → Shown → List ℕ → List ℕ → List NumberedCell
+seen_in region s from to = visible s.base.content (edits_in region s.cut) s.point from to
 
 -- of a journal's lines those up to the point
 abbrev pub shown_at : Base → ℕ → List Line → Shown

@@ -87,7 +87,7 @@ impl Layers {
         }
         share_first(alloc, &mut self.next, &mut self.waiting)?;
         let Some(first) = &self.next else {
-            return Err(NoMemory);
+            unreachable!();
         };
         self.parts = layered(alloc, &self.parts, first)?;
         self.next = None;

@@ -104,7 +104,8 @@ impl Line {
         self.outcome
     }
 
-    pub(crate) fn is_done(&self) -> bool
+    /// Whether the edit is shown once the point reaches it.
+    pub fn is_done(&self) -> bool
         ensures { result ≡ is_done_line self.now }
     {
         matches!(self.outcome, LineOutcome::Done)

@@ -1,6 +1,6 @@
 //! The state of one region.
 
-ghost use Rattle.std.specs.Prelude.{◌≡◌, ◌+◌, ◌-◌, ◌<◌, ◌≤◌, ◌^◌, [], ◌∷◌, ◌++◌, length, MatchOption, IfOk, OnOk, OnErr};
+ghost use Rattle.std.specs.Prelude.{◌≡◌, ◌+◌, ◌-◌, ◌<◌, ◌≤◌, ◌^◌, [], ◌∷◌, ◌++◌, length, Contains, MatchOption, IfOk, OnOk, OnErr};
 ghost use Rattle.std.specs.Arc.{arc_value};
 ghost use Rattle.std.specs.List.{AllPass};
 ghost use Rattle.cell_model.specs.Order.{Content, cells_of};
@@ -103,9 +103,17 @@ impl RegionState {
         }
     }
 
+    /// What the region was opened with.
+    pub fn base(&self) -> &Base
+        ensures { result.now ≡ self.now.base }
+    {
+        &self.base
+    }
+
     /// The last number that was drawn, or the base's.
     pub fn write_point(&self) -> u64
-        ensures { result ≡ write_point self.now }
+        ensures point { result ≡ write_point self.now }
+        ensures limit { result < 2 ^ 48 }
     {
         self.queue.write_point()
     }
@@ -207,6 +215,17 @@ impl RegionState {
         ensures limit { write_point self.now < 2 ^ 48 }
     {
         self.lines.as_slice()
+    }
+
+    /// The line of the edit with this number.
+    pub fn line(&self, number: u64) -> &Line
+        requires behind { self.now.base.last < number }
+        requires within { number ≤ write_point self.now }
+        ensures number { result.now.number ≡ number }
+        ensures listed { Contains self.now.lines result.now }
+    {
+        let place = (number - last_of(&self.base) - 1) as usize;
+        &self.lines[place]
     }
 }
 

@@ -2,7 +2,7 @@ ghost use Rattle.std.specs.Prelude.{◌≡◌, [], ◌+◌, ◌<◌, ◌≤◌, 
 ghost use Rattle.region_state.specs.States.{write_point};
 ghost use Rattle.region_state.specs.Calls.{AreBelow};
 
-use super::{Caller, Ended, RegionState};
+use super::{Caller, Ended, RegionState, Version};
 use kv_cell::{Batch, Cell};
 use mem_segments::{Base, Draft, Segment};
 use std::alloc::Global;
@@ -85,49 +85,43 @@ fn failed_edit_is_not_shown(rt: HostRuntime) -> Result<(), Fail> {
 
 const EDITS: u32 = 20_000;
 
-/// Puts a row of its own under each call, and shows it; `seen` gets how many segments each version has.
-fn put_many(alloc: Global, state: &mut RegionState, seen: &mut Vec<usize>) -> Result<(), Fail>
+/// How many rows of a version stand in segments that the version before it, which is still held, doesn't share. The
+/// region and the version hold each segment once, and the version before a shared one too.
+fn rows_made(version: &Version) -> usize {
+    let mut made = 0_usize;
+    for part in version.segments() {
+        if Arc::strong_count(part) <= 2 {
+            made = made.saturating_add(part.len());
+        }
+    }
+    made
+}
+
+/// Puts a row of its own under each call, and shows it: how many rows all versions together made, and the greatest
+/// number of segments that one of them has.
+fn put_many(alloc: Global, state: &mut RegionState) -> Result<(usize, usize), Fail>
     requires { (state.old.lines ≡ []) × (state.old.base.last ≡ 0) }
 {
+    let mut shown = state.next_version(alloc)?;
+    let mut made = 0_usize;
+    let mut most = 0_usize;
     for call in 1..EDITS + 1 {
         put(alloc, state, call, &call.to_be_bytes(), Ended::Done)?;
         let version = state.next_version(alloc)?;
-        seen.push(version.segments().len())?;
+        made = made.saturating_add(rows_made(&version));
+        most = most.max(version.segments().len());
+        shown = version;
     }
-    Ok(())
-}
-
-/// One cell more in segments of these lengths, by the rule that neighbours are merged while the newer is over half as
-/// long; the answer is how many cells move.
-fn merge_lengths(lengths: &mut Vec<usize>) -> Result<usize, Fail> {
-    let mut newest = 1_usize;
-    let mut moved = 0_usize;
-    while let Some(last) = lengths.pop() {
-        if newest <= last / 2 {
-            lengths.push(last)?;
-            break;
-        }
-        newest = newest.saturating_add(last);
-        moved = moved.saturating_add(newest);
-    }
-    lengths.push(newest)?;
-    Ok(moved)
+    Ok((made, most))
 }
 
 #[test]
 fn many_edits_stay_in_few_segments(rt: HostRuntime) -> Result<(), Fail> {
     let alloc = rt.alloc();
     let mut state = empty_region(alloc)?;
-    let mut seen = Vec::new(alloc);
-    put_many(alloc, &mut state, &mut seen)?;
-    let mut lengths = Vec::new(alloc);
-    let mut moved = 0_usize;
-    for count in &seen {
-        moved = moved.saturating_add(merge_lengths(&mut lengths)?);
-        assert_eq!(rt; *count, lengths.len());
-        assert!(rt; *count <= 20);
-    }
-    assert_eq!(rt; seen.len(), 20_000);
-    assert!(rt; moved <= 20_000 * 15);
+    let (made, most) = put_many(alloc, &mut state)?;
+    assert!(rt; most <= 15);
+    assert!(rt; made <= 20_000 * 15);
+    assert!(rt; made >= 20_000);
     Ok(())
 }

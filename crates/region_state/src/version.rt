@@ -1,17 +1,18 @@
 //! What readers see.
 
-ghost use Rattle.std.specs.Prelude.{◌≡◌, ℕ, map, IfOk};
+ghost use Rattle.std.specs.Prelude.{◌≡◌, ℕ, map, IfOk, OnErr};
 ghost use Rattle.std.specs.Arc.{arc_value};
 ghost use Rattle.std.specs.List.{AllPass};
 ghost use Rattle.cell_model.specs.Halves.{IsHalving};
 ghost use Rattle.cell_model.specs.Join.{joined};
 ghost use Rattle.region_model.specs.Journal.{visible};
 ghost use Rattle.mem_segments.specs.Layers.{lengths_of};
+ghost use Rattle.mem_segments.specs.Walk.{to_come, IsPage};
 ghost use Rattle.region_model.specs.Lines.{edits_in, last_in, is_completed_line};
 
 use crate::line::Line;
 use kv_cell::NoMemory;
-use mem_segments::{Base, MergeIter, Segment, SegmentList};
+use mem_segments::{Base, Cursor, MergeIter, Page, Segment, SegmentList};
 use std::alloc::Global;
 use std::marker::Model;
 use std::snapshot::Snapshot;
@@ -42,7 +43,7 @@ impl Model for Version {
 }
 
 impl Version {
-    ghost use Rattle.region_state.specs.Versions.{shown_at, content_of, IsShown};
+    ghost use Rattle.region_state.specs.Versions.{shown_at, content_of, seen_in, IsShown};
 
     /// What the parts hold is what is shown of these lines at the point.
     pub(crate) fn new(point: u64, segments: SegmentList, base: &Base, lines: &Vec<Line>) -> Version
@@ -81,5 +82,23 @@ impl Version {
     {
         let walk = MergeIter::new(alloc, self.segments.as_slice(), from, to)?;
         Ok(walk)
+    }
+
+    /// The next `count` cells of that walk, or all that are left where there are fewer, from where the cursor stands. The
+    /// cursor moves behind them; where memory is wanting it stays. So pages joined are what a reader sees at the point.
+    pub fn scan_page(
+        &self,
+        alloc: Global,
+        cursor: &mut Cursor,
+        from: &[u8],
+        to: &[u8],
+        count: u32,
+    ) -> Result<Page, NoMemory>
+        ensures ok { IfOk result (λ page. (region : ℕ) → let seen = seen_in region self.now from.now to.now in
+            IsPage count page.cells page.done (to_come cursor.old seen) (to_come cursor.new seen)) }
+        ensures err { OnErr result (cursor.new ≡ cursor.old) }
+    {
+        let page = self.segments.page(alloc, cursor, from, to, count)?;
+        Ok(page)
     }
 }

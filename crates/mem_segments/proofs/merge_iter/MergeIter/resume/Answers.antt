@@ -1,0 +1,6 @@
+use Rattle.std.specs.Arc.{arc_value}
+use Rattle.mem_segments.proofs.Resuming.{walk_comes}
+use Rattle.mem_segments.proofs.merge_iter.MergeIter.resume.Goals as goal
+
+pub returns : goal.returns
+returns c = walk_comes arc_value c.args.cursor.now c.args.from.now c.args.to.now c.args.parts.now c.in_ok-rests.rests.items c.in_ok-rests.ensures
