@@ -20,7 +20,9 @@ use Rattle.log_file.specs.LogText.{ended_text, at_rest}
 use Rattle.log_file.specs.Open.{OpenLog}
 use Rattle.log_file.proofs.Committed.{ended_has}
 use Rattle.log_ledger.specs.History.{ClosedLog, History, archived_in}
+use Rattle.log_device.specs.Bears.{Bears}
 use Rattle.log_device.specs.Keeps.{Keeps, Shows, IsClosedLog, log_name, old_name}
+use Rattle.log_device.proofs.Bearing.{bears_same, bears_moved}
 use Rattle.log_device.proofs.Lists.{passes, passed}
 
 module _ {T E : Type 0} {result : Result T E} (log : OpenLog) (u v : DiskView) (h : History) (ns : List ℕ) (keeps : Keeps log u h ns) (c : ClosedLog) (is_closed : Contains h.logs c)
@@ -86,6 +88,17 @@ module _ {T E : Type 0} {result : Result T E} (log : OpenLog) (u v : DiskView) (
         | inr m ↦ let at = moved_from from.0 J m in moved from.0 J from.1 at.0 at.1
       ]
 
+  names_after : (J : Files) → IsImageNow v J → Bears h.kept.base ns log.name.number J
+  names_after J there =
+      let from = renames.crash J there in
+      elim from.2 as (λ _. Bears h.kept.base ns log.name.number J) [
+        | inl same ↦ bears_same h.kept.base ns log.name.number from.0 J same (keeps.names from.0 from.1)
+        | inr m ↦ let at = moved_from from.0 J m in bears_moved h.kept.base ns log.name.number c.number from.0 J low at.0 at.1 (keeps.names from.0 from.1)
+      ]
+
+  pub rename_names : Throughout (Bears h.kept.base ns log.name.number) 1 u v
+  rename_names = in_one_call (Bears h.kept.base ns log.name.number) u v keeps.names renames.time names_after
+
   pub rename_moments : Throughout (Shows h.kept log.name h.current) 1 u v
   rename_moments = in_one_call (Shows h.kept log.name h.current) u v keeps.images renames.time image_after
 
@@ -135,6 +148,9 @@ module _ {T E : Type 0} {result : Result T E} (log : OpenLog) (u v : DiskView) (
       staged = keeps.staged;
       orderly = keeps.orderly;
       images = image_after;
+      names = names_after;
+      served = keeps.served;
+      few = keeps.few;
       logs = λ d member.
           let was = left_is d member in
           let l = keeps.logs d was.0 in

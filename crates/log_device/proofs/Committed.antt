@@ -1,5 +1,5 @@
 -- What a commit leaves of what is kept.
-use Rattle.std.proofs.Common.{◌≡◌, ◌⊎◌, inl, inr, ℕ, ◌<◌, List, [], ◌++◌, Contains, Option, None, refl, sym, ap, ◌∙◌, subst, arith}
+use Rattle.std.proofs.Common.{◌≡◌, ◌⊎◌, inl, inr, ℕ, ◌<◌, List, [], ◌++◌, length-append, Contains, Option, None, refl, sym, ap, ◌∙◌, subst, arith}
 use Rattle.std.proofs.lemmas.List.{append-nil}
 use Rattle.log_model.specs.declared.name.Name.{Name}
 use Rattle.log_model.specs.Files.{Files, content, SameBut, HoldsEntries}
@@ -14,7 +14,9 @@ use Rattle.recovery.proofs.Likes.{staged_fresh, none_fresh, like_committed, like
 use Rattle.log_file.specs.Open.{OpenLog, IsOpen, IsStaged, HasEither}
 use Rattle.log_file.proofs.Committed.{rest_has}
 use Rattle.log_ledger.specs.History.{ClosedLog, History, committed_in}
+use Rattle.log_device.specs.Bears.{Bears}
 use Rattle.log_device.specs.Keeps.{Keeps, Shows, Between, IsUpTo, log_name}
+use Rattle.log_device.proofs.Bearing.{bears_log}
 use Rattle.log_device.proofs.Disk.{still_closed, present_before, up_to_but}
 
 module _ (log : OpenLog) (v : DiskView) (h : History) (ns : List ℕ) (keeps : Keeps log v h ns) where
@@ -47,6 +49,13 @@ module _ (log : OpenLog) (v : DiskView) (h : History) (ns : List ℕ) (keeps : K
     up_to = up_to_here I J there same;
   }
 
+  names_in : (J : Files) → (I : Files) → IsImageNow v I → SameBut log.name I J → Bears h.kept.base ns log.name.number J
+  names_in J I there same = bears_log h.kept.base ns log.name I J keeps.kind keeps.region same (keeps.names I there)
+
+  -- a write to the current file changes no name
+  pub names_moments : (Q : Option (List ℕ) → Type 0) (by : ℕ) (w : DiskView) → Throughout (OnlyAt log.name Q v) by v w → Throughout (Bears h.kept.base ns log.name.number) by v w
+  names_moments Q by w over = weaker (OnlyAt log.name Q v) (Bears h.kept.base ns log.name.number) by v w (λ J only. names_in J only.base only.was only.elsewhere) over
+
   abbrev pub Committing : Files → Type 0
   Committing J = Between h.kept log.name h.current (committed h.kept) log.name (h.current ++ h.kept.staged) J
 
@@ -71,6 +80,13 @@ module _ (log : OpenLog) (v : DiskView) (h : History) (ns : List ℕ) (keeps : K
         let only = at_end (OnlyAt log.name (HasEither log.name h.current (h.current ++ h.kept.staged)) v) 4 v w over J now in
         subst (λ (n : Name). Shows (committed h.kept) n (h.current ++ h.kept.staged) J) (sym same)
         (more_log J only.base only.was only.elsewhere (subst (λ (n : Name). HasText n (h.current ++ h.kept.staged) None (content J n)) same (rest_has after.name (h.current ++ h.kept.staged) (content J after.name) is_open.each (is_open.file.durable J now))));
+    names = λ J now.
+        let only = at_end (OnlyAt log.name (HasEither log.name h.current (h.current ++ h.kept.staged)) v) 4 v w over J now in
+        subst (λ (n : ℕ). Bears h.kept.base ns n J) (sym (ap (λ (m : Name). m.number) same)) (names_in J only.base only.was only.elsewhere);
+    served = keeps.served;
+    few = λ n found.
+        let at : after.name.number ≡ log.name.number = ap (λ (m : Name). m.number) same in
+        omega (arith, keeps.few n found, at, is_open.count, none.count, keeps.open_log.count, keeps.staged.count, length-append h.current h.kept.staged, length-append h.kept.durable h.kept.staged, length-append (h.kept.durable ++ h.kept.staged) []);
     logs = λ c member.
         let old = keeps.logs c member in
         (still_closed log.name (HasEither log.name h.current (h.current ++ h.kept.staged)) 4 v w c.number c.entries (λ is. let at : c.number ≡ log.name.number = ap (λ (n : Name). n.number) is in omega (arith, at, old.1)) over touches old.0, at_name c.number old.1);

@@ -10,6 +10,7 @@ use Rattle.log_ledger.specs.History.{ClosedLog, History, archived_in, is_other}
 use Rattle.log_ledger.specs.Books.{Books}
 use Rattle.log_ledger.specs.Counted.{AreCounted, MayGo}
 use Rattle.log_device.specs.declared.device.Device.{Device}
+use Rattle.log_device.specs.Bears.{Bears}
 use Rattle.log_device.specs.Keeps.{Shows}
 use Rattle.log_device.specs.Archived.{LogsLeft}
 use Rattle.log_device.specs.Whole.{IsWhole, IsBroken, log_of, books_of}
@@ -41,6 +42,7 @@ pub record SoFar {D : Type 0} (d : Device D) (u v : DiskView) (h : History) (fil
   pub gone : AreLeft h left
   pub total : length left + count ≡ length h.logs
   pub moments : Throughout (Shows h.kept file.name h.current) count u v
+  pub names : Throughout (Bears h.kept.base (books_of d).next_store file.name.number) count u v
 
 pub counted_length : (b : Books) (cs : List ClosedFile) (ls : List ClosedLog) → AreCounted b cs ls → length cs ≡ length ls
 counted_length b [] [] are = refl
@@ -55,6 +57,7 @@ nothing_gone d u h whole = record {
   gone = record { stays = λ c has. has; went = λ c has. inl has };
   total = omega arith;
   moments = at_once (Shows h.kept whole.file.name h.current) u whole.keeps.images;
+  names = at_once (Bears h.kept.base (books_of d).next_store whole.file.name.number) u whole.keeps.names;
 }
 
 other_test : (c : ClosedLog) (n : ℕ) → (c.number ≡ n → ⊥) → is_other n c ≡ true
@@ -63,8 +66,8 @@ other_test c n differs = ap not (ne_eqb c.number n differs)
 -- one more is gone
 pub one_gone : {D : Type 0} (d after : Device D) (u v w : DiskView) (h : History) (file : OpenLog) (count n : ℕ) (so_far : SoFar d u v h file count) → MayGo (with_logs h so_far.left) n
     → IsWhole after w (archived_in (with_logs h so_far.left) n) → length (books_of after).accounts.closed + 1 ≡ length (books_of d).accounts.closed
-    → Throughout (Shows h.kept file.name h.current) 1 v w → SoFar after u w h file (count + 1)
-one_gone d after u v w h file count n so_far go whole fewer over =
+    → (books_of after).next_store ≡ (books_of d).next_store → Throughout (Shows h.kept file.name h.current) 1 v w → Throughout (Bears h.kept.base (books_of d).next_store file.name.number) 1 v w → SoFar after u w h file (count + 1)
+one_gone d after u v w h file count n so_far go whole fewer stores over named =
     let left = (archived_in (with_logs h so_far.left) n).logs in
     let was = counted_length (books_of d) (books_of d).accounts.closed so_far.left so_far.now.counted.logs in
     let is = counted_length (books_of after) (books_of after).accounts.closed left whole.counted.logs in
@@ -83,6 +86,7 @@ one_gone d after u v w h file count n so_far go whole fewer over =
       };
       total = omega (arith, so_far.total, was, is, fewer);
       moments = joined (Shows h.kept file.name h.current) count 1 u v w so_far.moments over;
+      names = subst (λ (ns : List ℕ). Throughout (Bears h.kept.base ns file.name.number) (count + 1) u w) (sym stores) (joined (Bears h.kept.base (books_of d).next_store file.name.number) count 1 u v w so_far.names named);
     }
 
 -- where no log that is left may go, those that are left are those that aren't wholly flushed

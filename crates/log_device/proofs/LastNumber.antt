@@ -42,3 +42,9 @@ last_low files b small last = elim last.reached as (λ _. b ≤ 2 ^ 63) [
   | inl has ↦ omega (arith, small has.0 has.1, number_low has.0, has.2)
   | inr none ↦ omega (arith, none)
 ]
+
+pub names_low : (files : Files) (a limit : ℕ) → IsGreatest (HasLog (keys files)) a → ((m : Name) → IsPresent files m → log_number m ≤ limit) → a ≤ limit
+names_low files a limit names low = elim names.reached as (λ _. a ≤ limit) [
+  | inl has ↦ omega (arith, low has.0 (there_of files has.0 has.1), has.2)
+  | inr none ↦ omega (arith, none)
+]

@@ -1,3 +1,5 @@
+pub mod Bearing
+pub mod Few
 pub mod Disk
 pub mod Lists
 pub mod Committed

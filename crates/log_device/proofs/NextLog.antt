@@ -18,10 +18,12 @@ use Rattle.std.proofs.lemmas.List.Elements.{Contains-append_left, Contains-push}
 use Rattle.log_file.specs.Open.{OpenLog, AreEntriesOf, IsOpen, IsStaged, HasEnding}
 use Rattle.log_file.proofs.Committed.{rest_has, ended_has}
 use Rattle.log_ledger.specs.History.{ClosedLog, History, closed_in}
+use Rattle.log_device.specs.Bears.{Bears}
 use Rattle.log_device.specs.Keeps.{Keeps, Shows, Between, IsClosedLog, IsInOrder, log_name}
 use Rattle.log_device.proofs.Lists.{one_more}
 use Rattle.log_device.proofs.Disk.{still_durable, still_closed, present_before, up_to_but}
-use Rattle.log_device.proofs.Committed.{same_log}
+use Rattle.log_device.proofs.Bearing.{bears_on, bears_log}
+use Rattle.log_device.proofs.Committed.{same_log, names_moments}
 
 module _ (log : OpenLog) (u v w : DiskView) (h : History) (ns : List ℕ) (keeps : Keeps log u h ns) (sound_u : IsTrueDisk u) (sound_v : IsTrueDisk v) where
   abbrev pub next : Name
@@ -66,6 +68,16 @@ module _ (log : OpenLog) (u v w : DiskView) (h : History) (ns : List ℕ) (keeps
 
   pub end_moments : Throughout (OnlyAt log.name (HasEnding log.name h.current) u) 4 u v → Throughout Rolling 4 u v
   end_moments over = weaker (OnlyAt log.name (HasEnding log.name h.current) u) Rolling 4 u v (λ J only. inl (end_image J only)) over
+
+  abbrev pub Borne : Files → Type 0
+  Borne J = Bears h.kept.base ns (log.name.number + 1) J
+
+  borne_before : (I : Files) → IsImageNow u I → Borne I
+  borne_before I there = bears_on h.kept.base ns ns log.name.number (log.name.number + 1) I (omega arith) (λ r. omega arith) (keeps.names I there)
+
+  pub end_names : Throughout (OnlyAt log.name (HasEnding log.name h.current) u) 4 u v → Throughout Borne 4 u v
+  end_names over = weaker (Bears h.kept.base ns log.name.number) Borne 4 u v (λ J bears. bears_on h.kept.base ns ns log.name.number (log.name.number + 1) J (omega arith) (λ r. omega arith) bears)
+      (names_moments log u h ns keeps (HasEnding log.name h.current) 4 v over)
 
   no_bytes : (J : Files) → IsAbsent J next → IsInOrder log.name next h.current J
   no_bytes J none bytes there more = absurd (none_some (content J next) bytes none there)
@@ -112,6 +124,12 @@ module _ (log : OpenLog) (u v w : DiskView) (h : History) (ns : List ℕ) (keeps
       | inl text ↦ inr (next_shows J only.base only.was only.elsewhere text.0 text.1)
       | inr none ↦ inl (old_shows J only.base only.was only.elsewhere none.0)
     ]
+
+    begun_names : (J : Files) → OnlyAt next (HasEntries next []) v J → Borne J
+    begun_names J only = bears_log h.kept.base ns next only.base J refl refl only.elsewhere (at_end Borne 4 u v (end_names over) only.base only.was)
+
+    pub roll_names : Throughout (OnlyAt next (HasEntries next []) v) 3 v w → Throughout Borne 7 u w
+    roll_names more = joined Borne 4 3 u v w (end_names over) (weaker (OnlyAt next (HasEntries next []) v) Borne 3 v w begun_names more)
 
     pub roll_moments : Throughout (OnlyAt next (HasEntries next []) v) 3 v w → Throughout Rolling 7 u w
     roll_moments more = joined Rolling 4 3 u v w (end_moments over) (weaker (OnlyAt next (HasEntries next []) v) Rolling 3 v w begun_image more)
@@ -161,8 +179,8 @@ module _ (log : OpenLog) (u v w : DiskView) (h : History) (ns : List ℕ) (keeps
       other_kind : (m : Name) → (m.kind ≡ kinds.Log → ⊥) → IsPresent w.files m → IsPresent u.files m
       other_kind m differs there = was_present m (λ is. differs (ap (λ (n : Name). n.kind) is)) (λ is. differs (ap (λ (n : Name). n.kind) is ∙ keeps.kind)) there
 
-      pub roll_kept : (now : OpenLog) → h.kept.staged ≡ [] → now.name ≡ next → IsOpen now w [] → IsStaged now [] → Keeps now w (closed_in h log.name.number) ns
-      roll_kept now none name is_open is_staged = record {
+      pub roll_kept : (now : OpenLog) → h.kept.staged ≡ [] → 0 < log.entries → now.name ≡ next → IsOpen now w [] → IsStaged now [] → Keeps now w (closed_in h log.name.number) ns
+      roll_kept now none some name is_open is_staged = record {
         kind = ap (λ (n : Name). n.kind) name;
         region = ap (λ (n : Name). n.region) name;
         open_log = is_open;
@@ -172,6 +190,11 @@ module _ (log : OpenLog) (u v w : DiskView) (h : History) (ns : List ℕ) (keeps
             let only = at_end (OnlyAt next (HasEntries next []) v) 3 v w more J there in
             let text : HasText now.name [] None (content J now.name) = rest_has now.name [] (content J now.name) is_open.each (is_open.file.durable J there) in
             subst (λ (n : Name). Shows h.kept n [] J) (sym name) (next_shows J only.base only.was only.elsewhere None (subst (λ (n : Name). HasText n [] None (content J n)) name text));
+        names = λ J there.
+            let at : now.name.number ≡ next.number = ap (λ (n : Name). n.number) name in
+            subst (λ (n : ℕ). Bears h.kept.base ns n J) (sym at) (begun_names J (at_end (OnlyAt next (HasEntries next []) v) 3 v w more J there));
+        served = keeps.served;
+        few = λ n found. let at : now.name.number ≡ next.number = ap (λ (m : Name). m.number) name in omega (arith, keeps.few n found, some, at, is_open.count, is_staged.count);
         logs = λ c member. let l = closed_all c member in let at : now.name.number ≡ next.number = ap (λ (n : Name). n.number) name in (l.0, omega (arith, l.1, at));
         one = one_each;
         there = λ m kind there. elim (name_cases m next) as (λ _. (m ≡ now.name) ⊎ ((c : ClosedLog) × Contains (h.logs ++ just_closed ∷ []) c × (log_name c.number ≡ m))) [

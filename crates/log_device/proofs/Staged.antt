@@ -1,5 +1,5 @@
 -- What staging leaves of what is kept.
-use Rattle.std.proofs.Common.{◌≡◌, ◌⊎◌, ℕ, ◌<◌, Contains, List, [], ◌∷◌, ◌++◌, sym, ap, ◌∙◌, subst, arith}
+use Rattle.std.proofs.Common.{◌≡◌, ◌⊎◌, ℕ, ◌<◌, Contains, List, [], ◌∷◌, ◌++◌, length-append, sym, ap, ◌∙◌, subst, arith}
 use Rattle.log_model.specs.declared.name.Name.{Name}
 use Rattle.log_model.specs.Entry.{Entry, IsEntry}
 use Rattle.log_model.specs.LogText.{IsEntryOf}
@@ -10,6 +10,7 @@ use Rattle.recovery.proofs.Likes.{orderly_staged}
 use Rattle.log_file.specs.Open.{OpenLog, IsStaged}
 use Rattle.log_file.proofs.Committed.{open_still}
 use Rattle.log_ledger.specs.History.{ClosedLog, History, staged_in}
+use Rattle.log_device.specs.Bears.{Bears}
 use Rattle.log_device.specs.Keeps.{Keeps, Shows, log_name}
 
 -- files are like what is kept, whatever is staged
@@ -29,6 +30,9 @@ staged_kept file now v h ns e keeps above same staged =
       staged = staged;
       orderly = orderly_staged h.kept e keeps.orderly above;
       images = λ J there. subst (λ (n : Name). Shows (with_staged h.kept e) n h.current J) (sym same.0) (shows_still h.kept e file.name h.current J (keeps.images J there));
+      names = λ J there. subst (λ (n : ℕ). Bears h.kept.base ns n J) (sym number) (keeps.names J there);
+      served = keeps.served;
+      few = λ n found. omega (arith, keeps.few n found, number, same.2, staged.count, keeps.staged.count, length-append h.kept.staged (e ∷ []), length-append h.kept.durable h.kept.staged, length-append h.kept.durable (h.kept.staged ++ e ∷ []));
       logs = λ c member. let l = keeps.logs c member in (l.0, omega (arith, l.1, number));
       one = keeps.one;
       there = λ m kind there. subst (λ (n : Name). (m ≡ n) ⊎ ((c : ClosedLog) × Contains h.logs c × (log_name c.number ≡ m))) (sym same.0) (keeps.there m kind there);

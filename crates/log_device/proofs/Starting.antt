@@ -1,6 +1,7 @@
 -- What beginning the first log leaves of a store that was opened.
-use Rattle.std.proofs.Common.{◌≡◌, ◌≢◌, ◌⊎◌, inl, inr, ℕ, ◌+◌, ◌<◌, ◌≤◌, Bool, true, cond, List, [], ◌∷◌, ◌++◌, map, Contains, get_or, length, take, Some, None, refl, sym, ap, ◌∙◌, subst, arith}
+use Rattle.std.proofs.Common.{◌≡◌, ◌≢◌, ◌⊎◌, inl, inr, ℕ, ◌+◌, ◌<◌, ◌≤◌, Bool, true, cond, List, [], ◌∷◌, ◌++◌, map, Contains, get_or, length, take, Option, Some, None, refl, sym, ap, ◌∙◌, subst, arith}
 use Rattle.std.specs.FinMap.{keys, entries, get-entries, find}
+use Rattle.std.specs.Option.{is_some}
 use Rattle.std.specs.Ordering.{eq_by_cmp, is_eq}
 use Rattle.std.specs.declared.cmp.Ordering.{Ordering}
 use Rattle.std.specs.declared.cmp.Ordering.TheVariants.{Less, Equal, Greater}
@@ -26,10 +27,12 @@ use Rattle.recovery.proofs.Started.{started, started_orderly}
 use Rattle.log_file.specs.Open.{OpenLog, IsOpen, IsStaged}
 use Rattle.log_file.proofs.Committed.{rest_has}
 use Rattle.log_ledger.specs.declared.base.RegionBase.{RegionBase}
-use Rattle.log_ledger.specs.Bases.{AreNumbersOf}
+use Rattle.log_ledger.specs.Bases.{AreRegions, AreNumbersOf}
 use Rattle.log_ledger.specs.History.{ClosedLog, started_in}
+use Rattle.log_device.specs.Bears.{Bears}
 use Rattle.log_device.specs.Keeps.{Keeps, Shows, log_name}
 use Rattle.log_device.specs.Opened.{IsOpened, number_by, log_number}
+use Rattle.log_device.proofs.Bearing.{bears_log}
 use Rattle.log_device.proofs.Lists.{one_more}
 use Rattle.log_device.proofs.Disk.{present_before, up_to_but}
 
@@ -101,6 +104,27 @@ module _ (u : DiskView) (regions : List RegionBase) (flushed : ℕ → ℕ) (ope
   orderly : IsOrderly (start_of u.files flushed)
   orderly = started_orderly u.files flushed opened.no_logs opened.flushed_of
 
+  -- a name in an image is there
+  there_in : (I : Files) (m : Name) → IsImageNow u I → IsPresent I m → IsPresent u.files m
+  there_in I m there present none = present (sound.absent m none (opened.none_gone m) I there)
+
+  is_some_of : (image : Option (List ℕ)) → (image ≡ None → ⊥) → is_some image ≡ true
+  is_some_of None some = absurd (some refl)
+  is_some_of (Some bytes) some = refl
+
+  -- the names before the first log
+  pub names_found : (ns : List ℕ) (n : ℕ) → ((m : Name) → IsPresent u.files m → log_number m < n) → (I : Files) → IsImageNow u I → Bears u.files ns n I
+  names_found ns n above I there = record {
+    logs = λ m kind present. absurd (present (opened.no_logs_in I there m (inl kind)));
+    olds = λ m kind present.
+        let found = there_in I m there present in
+        let at : log_number m ≡ m.number = ap (λ k. number_by k m.number) kind in
+        (sound.named m (is_some_of (content u.files m) found) (inr kind), omega (arith, above m found, at));
+    apart = λ a b log old a_in b_in. absurd (a_in (opened.no_logs_in I there a (inl log)));
+    stores = λ m kind present. inl (there_in I m there present);
+    no_edits = λ m kind. opened.no_logs_in I there m (inr kind);
+  }
+
   abbrev pub Recovers : Files → Type 0
   Recovers J = RecoversSome u.files [] J
 
@@ -115,6 +139,9 @@ module _ (u : DiskView) (regions : List RegionBase) (flushed : ℕ → ℕ) (ope
     pub look_moments : Throughout Recovers 1 u v
     look_moments = in_one_call Recovers u v (λ J there. recovers J (like_of J there)) looks.time (λ J there. recovers J (like_of J (looks.crash J there)))
 
+    pub look_names : (ns : List ℕ) (n : ℕ) → ((m : Name) → IsPresent u.files m → log_number m < n) → Throughout (Bears u.files ns n) 1 u v
+    look_names ns n above = in_one_call (Bears u.files ns n) u v (names_found ns n above) looks.time (λ J there. names_found ns n above J (looks.crash J there))
+
     pub free : (n : ℕ) → IsAbsent v.files (log_name n) × (¬ v.gone (log_name n))
     free n = (ap (λ (f : Files). content f (log_name n)) looks.files ∙ opened.no_logs (log_name n) (inl refl), λ gone. opened.none_gone (log_name n) (looks.gone (log_name n) gone))
 
@@ -127,6 +154,10 @@ module _ (u : DiskView) (regions : List RegionBase) (flushed : ℕ → ℕ) (ope
       pub start_moments : Throughout Recovers 4 u w
       start_moments = joined Recovers 1 3 u v w look_moments
           (weaker (OnlyAt (log_name n) (HasEntries (log_name n) []) v) Recovers 3 v w (λ J only. recovers J (new_like J only.base (looks.crash only.base only.was) only.elsewhere only.here)) over)
+
+      pub start_names : (ns : List ℕ) → ((m : Name) → IsPresent u.files m → log_number m < n) → Throughout (Bears u.files ns n) 4 u w
+      start_names ns above = joined (Bears u.files ns n) 1 3 u v w (look_names ns n above)
+          (weaker (OnlyAt (log_name n) (HasEntries (log_name n) []) v) (Bears u.files ns n) 3 v w (λ J only. bears_log u.files ns (log_name n) only.base J refl refl only.elsewhere (names_found ns n above only.base (looks.crash only.base only.was))) over)
 
       module _ (touches : Touches (log_name n) v w) where
         shows : (J : Files) → IsImageNow w J → HasText (log_name n) [] None (content J (log_name n)) → Shows (start_of u.files flushed) (log_name n) [] J
@@ -158,9 +189,18 @@ module _ (u : DiskView) (regions : List RegionBase) (flushed : ℕ → ℕ) (ope
               absurd (omega (arith, served, none))
         ]
 
+        served_of : (next_store : List ℕ) → AreNumbersOf (λ m. m.next_store) regions next_store → AreRegions regions → (r : ℕ) → 0 < get_or next_store r 0 → (1 ≤ r) × (r ≤ 64)
+        served_of next_store are regions_are r some = elim (cases_lt 64 r) as (λ _. (1 ≤ r) × (r ≤ 64)) [
+          | inl high ↦ absurd (let none = are.others r (λ b member is. let base = regions_are.each b member in absurd (omega (arith, base.region, is, high))) in omega (arith, none, some))
+          | inr low ↦ elim (cases_lt 0 r) as (λ _. (1 ≤ r) × (r ≤ 64)) [
+            | inl given ↦ (omega (arith, given), omega (arith, low))
+            | inr zero ↦ absurd (let none = are.others r (λ b member is. let base = regions_are.each b member in absurd (omega (arith, base.given, is, zero))) in omega (arith, none, some))
+          ]
+        ]
+
         pub start_kept : (next_store : List ℕ) → AreNumbersOf (λ m. m.next_store) regions next_store → ((m : Name) → IsPresent u.files m → log_number m < n)
-            → (now : OpenLog) → now.name ≡ log_name n → IsOpen now w [] → IsStaged now [] → Keeps now w (started_in u.files flushed) next_store
-        start_kept next_store are above now name is_open is_staged =
+            → AreRegions regions → ((limit : ℕ) → ((m : Name) → IsPresent u.files m → log_number m ≤ limit) → n ≤ limit + 1) → (now : OpenLog) → now.name ≡ log_name n → IsOpen now w [] → IsStaged now [] → Keeps now w (started_in u.files flushed) next_store
+        start_kept next_store are above regions_are low now name is_open is_staged =
             let number : now.name.number ≡ n = ap (λ (x : Name). x.number) name in record {
               kind = ap (λ (x : Name). x.kind) name;
               region = ap (λ (x : Name). x.region) name;
@@ -170,6 +210,9 @@ module _ (u : DiskView) (regions : List RegionBase) (flushed : ℕ → ℕ) (ope
               images = λ J there.
                   let text : HasText now.name [] None (content J now.name) = rest_has now.name [] (content J now.name) is_open.each (is_open.file.durable J there) in
                   subst (λ (x : Name). Shows (start_of u.files flushed) x [] J) (sym name) (shows J there (subst (λ (x : Name). HasText x [] None (content J x)) name text));
+              names = λ J there. subst (λ (x : ℕ). Bears u.files next_store x J) (sym number) (at_end (Bears u.files next_store n) 4 u w (start_names next_store above) J there);
+              served = λ r some. served_of next_store are regions_are r some;
+              few = λ limit found. let least = low limit (λ m there. log_low limit m (found m) there) in omega (arith, least, number, is_open.count, is_staged.count);
               logs = λ c member. absurd (no_log c member);
               one = λ c d c_in d_in same. absurd (no_log c c_in);
               there = λ m kind there. elim (name_cases m (log_name n)) as (λ _. (m ≡ now.name) ⊎ ((c : ClosedLog) × Contains [] c × (log_name c.number ≡ m))) [
@@ -184,5 +227,14 @@ module _ (u : DiskView) (regions : List RegionBase) (flushed : ℕ → ℕ) (ope
               stores = λ m kind there served. below_next next_store are m kind (other_kind m (λ is. absurd (cc (sym kind ∙ is))) there) served;
             }
           where
+            log_low : (limit : ℕ) (m : Name) → ((m.kind ≡ kinds.Log) ⊎ (m.kind ≡ kinds.Old) → IsPresent u.files m → m.number ≤ limit) → IsPresent u.files m → log_number m ≤ limit
+            log_low limit m found there = by_kind m.kind (λ either. found either there)
+              where
+                by_kind : (k : NameKind) → ((k ≡ kinds.Log) ⊎ (k ≡ kinds.Old) → m.number ≤ limit) → number_by k m.number ≤ limit
+                by_kind kinds.Log up = up (inl refl)
+                by_kind kinds.Old up = up (inr refl)
+                by_kind kinds.Store up = omega arith
+                by_kind kinds.Edits up = omega arith
+
             no_log : (c : ClosedLog) → Contains [] c → ⊥
             no_log c member = omega (arith, member.1)

@@ -1,5 +1,5 @@
 -- What writing the cut of a region leaves of what is kept, in the ledger's words.
-use Rattle.std.proofs.Common.{inl, ◌≡◌, ◌+◌, ◌<◌, ◌≤◌, ℕ, List, [], get_or, set, length, sym, ap, subst, arith}
+use Rattle.std.proofs.Common.{inl, ◌≡◌, ◌+◌, ◌<◌, ◌≤◌, ℕ, List, [], get_or, set, length, Option, refl, sym, ap, subst, arith}
 use Rattle.log_model.specs.declared.name.Name.{Name}
 use Rattle.log_model.specs.StoreText.{IsStore, store_text}
 use Rattle.cell_model.specs.Order.{NumberedCell}
@@ -7,7 +7,7 @@ use Rattle.disk_images.specs.Crash.{DiskView, Throughout, OnlyAt}
 use Rattle.disk_images.specs.Calls.{IsTrueDisk}
 use Rattle.disk_images.specs.OneFile.{Touches, IsDurableFile}
 use Rattle.log_model.specs.Entry.{Entry}
-use Rattle.disk_images.proofs.Moments.{at_once}
+use Rattle.disk_images.proofs.Moments.{at_once, weaker}
 use Rattle.recovery.specs.Kept.{Kept, IsCut, flushed_to, lasts}
 use Rattle.flush_snapshot.specs.Cut.{cut_store, ordered_cells}
 use Rattle.store_file.specs.Whole.{IsWholeOrNot}
@@ -15,7 +15,9 @@ use Rattle.log_file.specs.Open.{OpenLog}
 use Rattle.log_ledger.specs.Books.{Books}
 use Rattle.log_ledger.specs.Counted.{IsCounted, PutsCut}
 use Rattle.log_ledger.specs.History.{History, flushed_in}
+use Rattle.log_device.specs.Bears.{Bears}
 use Rattle.log_device.specs.Keeps.{Keeps, Between, store_name}
+use Rattle.log_device.proofs.Bearing.{bears_store}
 use Rattle.log_device.proofs.Cut.{is_cut}
 use Rattle.log_device.proofs.Stored.{store_moments, store_kept}
 
@@ -55,3 +57,12 @@ module _ (file : OpenLog) (u w : DiskView) (h : History) (b : Books) (keeps : Ke
 -- where nothing is done
 pub still_moments : (file : OpenLog) (u : DiskView) (h : History) (ns : List ℕ) → Keeps file u h ns → (k : Kept) (log : Name) (current : List Entry) → (bound : ℕ) × Throughout (Between h.kept file.name h.current k log current) bound u u
 still_moments file u h ns keeps k log current = (0, at_once (Between h.kept file.name h.current k log current) u (λ J now. inl (keeps.images J now)))
+
+-- the names while a store is written
+pub store_names_of : (file : OpenLog) (u w : DiskView) (h : History) (ns : List ℕ) → Keeps file u h ns → (r number : ℕ) → 0 < get_or ns r 0 → number ≡ get_or ns r 0 → (Q : Option (List ℕ) → Type 0) → (by : ℕ)
+    → Throughout (OnlyAt (store_name r number) Q u) by u w → (bound : ℕ) × Throughout (Bears h.kept.base ns file.name.number) bound u w
+store_names_of file u w h ns keeps r number served is Q by over = (
+  by,
+  weaker (OnlyAt (store_name r number) Q u) (Bears h.kept.base ns file.name.number) by u w
+      (λ J only. bears_store h.kept.base ns file.name.number (store_name r number) only.base J refl (keeps.served r served) (omega (arith, is)) only.elsewhere (keeps.names only.base only.was)) over,
+)

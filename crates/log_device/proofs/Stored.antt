@@ -21,7 +21,9 @@ use Rattle.log_file.specs.LogText.{at_rest}
 use Rattle.log_file.specs.Open.{OpenLog}
 use Rattle.store_file.specs.Whole.{IsWholeOrNot}
 use Rattle.log_ledger.specs.History.{History, flushed_in}
+use Rattle.log_device.specs.Bears.{Bears}
 use Rattle.log_device.specs.Keeps.{Keeps, Shows, Between, IsUpTo, store_name}
+use Rattle.log_device.proofs.Bearing.{bears_on, bears_store}
 use Rattle.log_device.proofs.Disk.{still_durable, still_closed, present_before, up_to_but}
 
 gate_of : (s : Store) → IsThere (store_text s)
@@ -98,6 +100,9 @@ module _ (log : OpenLog) (u w : DiskView) (h : History) (ns : List ℕ) (keeps :
   pub store_moments : Throughout (OnlyAt name (IsWholeOrNot (store_text s)) u) by u w → Throughout Storing by u w
   store_moments over = weaker (OnlyAt name (IsWholeOrNot (store_text s)) u) Storing by u w one_image over
 
+  named : (I J : Files) → IsImageNow u I → SameBut name I J → Bears h.kept.base ns log.name.number J
+  named I J there same = bears_store h.kept.base ns log.name.number name I J refl (keeps.served r served) (omega arith) same (keeps.names I there)
+
   inside : r < length ns
   inside = get_or_inside ns r served
     where
@@ -109,6 +114,23 @@ module _ (log : OpenLog) (u w : DiskView) (h : History) (ns : List ℕ) (keeps :
 
   abbrev pub next_stores : List ℕ
   next_stores = set ns r (get_or ns r 0 + 1)
+
+  next_stores_grow : (q : ℕ) → get_or ns q 0 ≤ get_or next_stores q 0
+  next_stores_grow q = elim (cases_eq q r) as (λ _. get_or ns q 0 ≤ get_or next_stores q 0) [
+    | inl is ↦
+        let now : get_or next_stores q 0 ≡ get_or ns r 0 + 1 = ap (λ (p : ℕ). get_or next_stores p 0) is ∙ get_or-set_same ns r (get_or ns r 0 + 1) 0 inside in
+        let was : get_or ns q 0 ≡ get_or ns r 0 = ap (λ (p : ℕ). get_or ns p 0) is in
+        omega (arith, now, was)
+    | inr other ↦
+        let now : get_or next_stores q 0 ≡ get_or ns q 0 = get_or-set_other ns r q (get_or ns r 0 + 1) 0 other in
+        omega (arith, now)
+  ]
+
+  still_served : (q : ℕ) → 0 < get_or next_stores q 0 → (1 ≤ q) × (q ≤ 64)
+  still_served q some = elim (cases_eq q r) as (λ _. (1 ≤ q) × (q ≤ 64)) [
+    | inl is ↦ subst (λ (p : ℕ). (1 ≤ p) × (p ≤ 64)) (sym is) (keeps.served r served)
+    | inr other ↦ let now : get_or next_stores q 0 ≡ get_or ns q 0 = get_or-set_other ns r q (get_or ns r 0 + 1) 0 other in keeps.served q (omega (arith, now, some))
+  ]
 
   -- the store's name is counted
   counted_on : (m : Name) → m.kind ≡ kinds.Store → IsPresent w.files m → SameBut name u.files w.files → 0 < get_or next_stores m.region 0 → m.number < get_or next_stores m.region 0
@@ -144,6 +166,11 @@ module _ (log : OpenLog) (u w : DiskView) (h : History) (ns : List ℕ) (keeps :
     staged = keeps.staged;
     orderly = orderly_flushed h.kept r n keeps.orderly (omega (arith, cut.more)) logged;
     images = λ J now. let only = at_end (OnlyAt name (IsWholeOrNot (store_text s)) u) by u w over J now in stored_in only.base J only.was only.elsewhere (file.durable J now);
+    names = λ J now.
+        let only = at_end (OnlyAt name (IsWholeOrNot (store_text s)) u) by u w over J now in
+        bears_on h.kept.base ns next_stores log.name.number log.name.number J (omega arith) next_stores_grow (named only.base J only.was only.elsewhere);
+    served = still_served;
+    few = keeps.few;
     logs = λ c member. let l = keeps.logs c member in (still_closed name (IsWholeOrNot (store_text s)) by u w c.number c.entries (λ is. absurd (cc (ap (λ (x : Name). x.kind) is))) over touches l.0, l.1);
     one = keeps.one;
     there = λ m kind there. keeps.there m kind (present_before name m u.files w.files touches.others (λ is. absurd (cc (sym kind ∙ ap (λ (x : Name). x.kind) is))) there);

@@ -1,5 +1,5 @@
 -- A log with what was made of it, on its disk.
-use Rattle.std.specs.Prelude.{◌≡◌, ◌≢◌, ◌⊎◌, ◌<◌, ◌≤◌, ℕ, List, Contains, get_or, length, Option, Some}
+use Rattle.std.specs.Prelude.{◌≡◌, ◌≢◌, ◌⊎◌, ◌<◌, ◌≤◌, ◌+◌, ◌++◌, ℕ, List, Contains, get_or, length, min, Option, Some}
 use Rattle.log_model.specs.declared.name.Name.{Name}
 use Rattle.log_model.specs.declared.name.NameKind.TheVariants as kinds
 use Rattle.log_model.specs.Entry.{Entry}
@@ -11,6 +11,7 @@ use Rattle.recovery.specs.Kept.{Kept, IsLike, IsOrderly}
 use Rattle.log_file.specs.LogText.{ended_text}
 use Rattle.log_file.specs.Open.{OpenLog, AreEntriesOf, IsOpen, IsStaged}
 use Rattle.log_ledger.specs.History.{ClosedLog, History}
+use Rattle.log_device.specs.Bears.{Bears, IsLogsUpTo}
 
 abbrev pub log_name : ℕ → Name
 log_name number = record { kind = kinds.Log; region = 0; number = number }
@@ -50,6 +51,11 @@ pub record Keeps (log : OpenLog) (disk : DiskView) (h : History) (next_store : L
   pub orderly : IsOrderly h.kept
   -- each image now holds what is kept
   pub images : (J : Files) → IsImageNow disk J → Shows h.kept log.name h.current J
+  -- and its files bear names that the device gives
+  pub names : (J : Files) → IsImageNow disk J → Bears h.kept.base next_store log.name.number J
+  pub served : (r : ℕ) → 0 < get_or next_store r 0 → (1 ≤ r) × (r ≤ 64)
+  -- Each file before the current one has an entry, so its number is bounded by those found and by the entries.
+  pub few : (n : ℕ) → IsLogsUpTo n h.kept.base → log.name.number + min 1 (log.entries + log.staged) ≤ n + 1 + length (h.kept.durable ++ h.kept.staged)
   -- every other log is one of the closed ones, and has a lower number
   pub logs : (c : ClosedLog) → Contains h.logs c → IsClosedLog disk c.number c.entries × (c.number < log.name.number)
   pub one : (c d : ClosedLog) → Contains h.logs c → Contains h.logs d → c.number ≡ d.number → c ≡ d

@@ -1,3 +1,4 @@
+pub mod Bears
 pub mod Keeps
 pub mod Leaves
 pub mod Flushed
@@ -6,3 +7,4 @@ pub mod Whole
 pub mod Archived
 pub mod Opened
 pub mod Refusal
+pub mod Laws

@@ -2,15 +2,13 @@
 
 ghost use Rattle.std.specs.Prelude.{◌≡◌, ◌≤◌, ◌+◌, ◌<◌, ◌^◌, ◌↔◌, ℕ, List, [], length, Contains, true, false, Some, Ok, Err, IsTrue, IfOk, OnOk, OnErr, IsErr};
 ghost use Rattle.log_model.specs.Recovered.{IsWhollyFlushed};
-ghost use Rattle.disk_images.specs.Crash.{Throughout};
-ghost use Rattle.disk_images.specs.Calls.{HasCause};
 ghost use Rattle.log_file.specs.Open.{OpenLog};
 ghost use Rattle.log_ledger.specs.History.{ClosedLog, History, archived_in};
 ghost use Rattle.log_ledger.specs.Counted.{MayGo, NoneMayGo};
+ghost use Rattle.log_device.specs.Bears.{Bears};
 ghost use Rattle.log_device.specs.Keeps.{Shows};
-ghost use Rattle.log_device.specs.Leaves.{Leaves};
 ghost use Rattle.log_device.specs.Archived.{LogsLeft};
-ghost use Rattle.log_device.specs.Whole.{IsWhole, IsBroken, disk_of, log_of, books_of};
+ghost use Rattle.log_device.specs.Whole.{IsBroken, log_of, books_of, HasHistory, EachImage, LeavesAt, CausesFault};
 
 use crate::device::Device;
 use crate::error::WriteFault;
@@ -21,18 +19,27 @@ impl<D: Disk> Device<D> {
     /// Renames each closed log that is wholly flushed from Log to Old, the oldest first, and gives their number. It asks for
     /// one log at a time, and takes no memory. After a fault some of the logs that may go were renamed.
     pub fn archive(&mut self) -> Result<u64, WriteFault>
-        requires { IsTrue D.told → (IsBroken self.old → ⊥) → ∥ ((h : History) × IsWhole self.old (D.view (disk_of self.old)) h) ∥₁ }
+        requires { IsTrue D.told → (IsBroken self.old → ⊥) → ∥ ((h : History) × HasHistory D.Disk self.old h) ∥₁ }
 
-        ensures any_moment { IsTrue D.told → (h : History) → IsWhole self.old (D.view (disk_of self.old)) h → Throughout (Leaves (books_of self.old).stored (books_of self.old).closed (D.view (disk_of self.old)).files []) (length h.logs) (D.view (disk_of self.old)) (D.view (disk_of self.new)) }
+        ensures any_moment { IsTrue D.told → (h : History) → HasHistory D.Disk self.old h
+            → EachImage D.Disk (LeavesAt D.Disk self.old []) (length h.logs) self.old self.new }
+        ensures names { IsTrue D.told → (h : History) (file : OpenLog) → HasHistory D.Disk self.old h
+            → log_of self.old ≡ Some file
+            → EachImage D.Disk (Bears h.kept.base (books_of self.old).next_store file.name.number) (length h.logs) self.old self.new }
 
         // The logs that are left are those that are not wholly flushed, and no other was renamed.
-        ensures archived { IsTrue D.told → (h : History) → IsWhole self.old (D.view (disk_of self.old)) h → IfOk result (λ n. (left : List ClosedLog) × LogsLeft h left × (length left + n ≡ length h.logs) × IsWhole self.new (D.view (disk_of self.new)) (record { kept = h.kept; logs = left; current = h.current })) }
-        ensures numbers { ((books_of self.new).synced ≡ (books_of self.old).synced) × ((books_of self.new).stored ≡ (books_of self.old).stored) × ((books_of self.new).closed ≡ (books_of self.old).closed) }
+        ensures archived { IsTrue D.told → (h : History) → HasHistory D.Disk self.old h → IfOk result
+            (λ n. (left : List ClosedLog) × LogsLeft h left × (length left + n ≡ length h.logs)
+            × HasHistory D.Disk self.new (record { kept = h.kept; logs = left; current = h.current })) }
+        ensures file { OnOk result (log_of self.new ≡ log_of self.old) }
+        ensures numbers { ((books_of self.new).synced ≡ (books_of self.old).synced)
+            × ((books_of self.new).stored ≡ (books_of self.old).stored)
+            × ((books_of self.new).closed ≡ (books_of self.old).closed) }
         ensures drawn { (books_of self.new).drawn ≡ (books_of self.old).drawn }
         ensures served { (books_of self.new).next_store ≡ (books_of self.old).next_store }
         ensures broken { IsErr result ↔ IsBroken self.new }
         ensures stays { IsBroken self.old → self.new ≡ self.old }
-        ensures cause { HasCause (D.faults (disk_of self.old)) (D.faults (disk_of self.new)) ((IsBroken self.old → ⊥) × IsErr result) }
+        ensures cause { CausesFault D.Disk self.old self.new ((IsBroken self.old → ⊥) × IsErr result) }
     {
         if self.log.is_none() {
             return Err(WriteFault);
@@ -46,22 +53,30 @@ impl<D: Disk> Device<D> {
 
     /// Renames the oldest closed log that is wholly flushed, if there is one.
     fn archive_one(&mut self) -> Result<bool, WriteFault>
-        requires whole { IsTrue D.told → ∥ ((h : History) × IsWhole self.old (D.view (disk_of self.old)) h) ∥₁ }
+        requires whole { IsTrue D.told → ∥ ((h : History) × HasHistory D.Disk self.old h) ∥₁ }
         requires unbroken { IsBroken self.old → ⊥ }
 
-        ensures any_moment { IsTrue D.told → (h : History) (file : OpenLog) → IsWhole self.old (D.view (disk_of self.old)) h → log_of self.old ≡ Some file → Throughout (Shows h.kept file.name h.current) 1 (D.view (disk_of self.old)) (D.view (disk_of self.new)) }
-        ensures gone { IsTrue D.told → (h : History) → IsWhole self.old (D.view (disk_of self.old)) h → result ≡ Ok true → (n : ℕ) × MayGo h n × IsWhole self.new (D.view (disk_of self.new)) (archived_in h n) }
-        ensures none { IsTrue D.told → (h : History) → IsWhole self.old (D.view (disk_of self.old)) h → result ≡ Ok false → NoneMayGo h }
+        ensures any_moment { IsTrue D.told → (h : History) (file : OpenLog) → HasHistory D.Disk self.old h
+            → log_of self.old ≡ Some file → EachImage D.Disk (Shows h.kept file.name h.current) 1 self.old self.new }
+        ensures names { IsTrue D.told → (h : History) (file : OpenLog) → HasHistory D.Disk self.old h
+            → log_of self.old ≡ Some file
+            → EachImage D.Disk (Bears h.kept.base (books_of self.old).next_store file.name.number) 1 self.old self.new }
+        ensures gone { IsTrue D.told → (h : History) → HasHistory D.Disk self.old h → result ≡ Ok true → (n : ℕ)
+            × MayGo h n × HasHistory D.Disk self.new (archived_in h n) }
+        ensures none { IsTrue D.told → (h : History) → HasHistory D.Disk self.old h → result ≡ Ok false → NoneMayGo h }
         ensures same { result ≡ Ok false → self.new ≡ self.old }
-        ensures fewer { result ≡ Ok true → length (books_of self.new).accounts.closed + 1 ≡ length (books_of self.old).accounts.closed }
+        ensures fewer { result ≡ Ok true
+            → length (books_of self.new).accounts.closed + 1 ≡ length (books_of self.old).accounts.closed }
         ensures some { IsErr result → 1 ≤ length (books_of self.old).accounts.closed }
         ensures few { length (books_of self.old).accounts.closed < 2 ^ 64 }
         ensures file { OnOk result (log_of self.new ≡ log_of self.old) }
-        ensures numbers { ((books_of self.new).synced ≡ (books_of self.old).synced) × ((books_of self.new).stored ≡ (books_of self.old).stored) × ((books_of self.new).closed ≡ (books_of self.old).closed) }
+        ensures numbers { ((books_of self.new).synced ≡ (books_of self.old).synced)
+            × ((books_of self.new).stored ≡ (books_of self.old).stored)
+            × ((books_of self.new).closed ≡ (books_of self.old).closed) }
         ensures drawn { (books_of self.new).drawn ≡ (books_of self.old).drawn }
         ensures served { (books_of self.new).next_store ≡ (books_of self.old).next_store }
         ensures broken { IsErr result ↔ IsBroken self.new }
-        ensures cause { HasCause (D.faults (disk_of self.old)) (D.faults (disk_of self.new)) (IsErr result) }
+        ensures cause { CausesFault D.Disk self.old self.new (IsErr result) }
     {
         let Some(file) = self.ledger.first_to_go() else {
             return Ok(false);

@@ -59,6 +59,20 @@ impl<D> Device<D> {
         self.log.is_none()
     }
 
+    /// The disk, to look at.
+    pub fn disk(&self) -> &D
+        ensures { result.now ≡ disk_of self.now }
+    {
+        &self.disk
+    }
+
+    /// All its numbers.
+    pub fn ledger(&self) -> &Ledger
+        ensures { result.now ≡ books_of self.now }
+    {
+        &self.ledger
+    }
+
     /// The disk as it is. What is staged is let go.
     pub fn into_disk(self) -> D
         ensures { result ≡ disk_of self }

@@ -1,19 +1,17 @@
 //! A region's entries go into a store file.
 
-ghost use Rattle.std.specs.Prelude.{◌≡◌, ◌≤◌, ◌<◌, ◌+◌, ◌↔◌, ◌++◌, ℕ, [], Contains, get_or, Some, Ok, Err, IsTrue, IfOk, OnOk, OnErr, IsErrOf};
+ghost use Rattle.std.specs.Prelude.{◌≡◌, ◌≤◌, ◌<◌, ◌+◌, ◌↔◌, ◌⊎◌, ◌++◌, ℕ, [], Contains, get_or, slice_set, Some, Ok, Err, IsTrue, IfOk, OnOk, OnErr, IsErrOf};
 ghost use Rattle.log_model.specs.Entry.{Entry};
 ghost use Rattle.recovery.specs.Kept.{flushed_to};
-ghost use Rattle.disk_images.specs.Crash.{Throughout};
-ghost use Rattle.disk_images.specs.Calls.{HasCause};
 ghost use Rattle.log_file.specs.Open.{OpenLog};
 ghost use Rattle.flush_snapshot.specs.Cut.{IsWithin};
 ghost use Rattle.log_ledger.specs.History.{History, committed_in, flushed_in};
 ghost use Rattle.log_ledger.specs.Books.{IsServed, AreInOrder};
 ghost use Rattle.log_ledger.specs.Counted.{IsHighestKept, PutsCut};
+ghost use Rattle.log_device.specs.Bears.{Bears, AreStoresFew};
 ghost use Rattle.log_device.specs.Keeps.{Between};
-ghost use Rattle.log_device.specs.Leaves.{Leaves};
-ghost use Rattle.log_device.specs.Flushed.{NoneKept};
-ghost use Rattle.log_device.specs.Whole.{IsWhole, IsBroken, disk_of, log_of, books_of};
+ghost use Rattle.log_device.specs.Flushed.{NoneKept, HasStore};
+ghost use Rattle.log_device.specs.Whole.{IsBroken, IsCommitted, IsIdle, NoneFell, log_of, books_of, HasHistory, EachImage, LeavesAt, CausesFault, view_of};
 
 use crate::device::Device;
 use crate::error::DeviceFlush;
@@ -30,21 +28,49 @@ impl<D: Disk> Device<D> {
     /// call.
     pub fn flush(&mut self, alloc: Global, region: u32) -> Result<u64, DeviceFlush>
         requires served { IsServed (books_of self.old) region }
-        requires whole { IsTrue D.told → (IsBroken self.old → ⊥) → ∥ ((h : History) × IsWhole self.old (D.view (disk_of self.old)) h) ∥₁ }
+        requires whole { IsTrue D.told → (IsBroken self.old → ⊥) → ∥ ((h : History) × HasHistory D.Disk self.old h) ∥₁ }
 
-        ensures any_moment { IsTrue D.told → (h : History) → IsWhole self.old (D.view (disk_of self.old)) h → (bound : ℕ) × Throughout (Leaves (books_of self.old).stored (books_of self.old).closed (D.view (disk_of self.old)).files h.kept.staged) bound (D.view (disk_of self.old)) (D.view (disk_of self.new)) }
-        ensures flushed { IsTrue D.told → (h : History) → IsWhole self.old (D.view (disk_of self.old)) h → IfOk result (λ n. IsHighestKept (committed_in h).kept region n × IsWhole self.new (D.view (disk_of self.new)) (flushed_in (committed_in h) region n)) }
-        ensures nothing { IsTrue D.told → (h : History) (n : ℕ) → IsWhole self.old (D.view (disk_of self.old)) h → result ≡ Err (DeviceFlush.Nothing n) → (n ≡ h.kept.flushed region) × NoneKept (committed_in h).kept region }
-        ensures refused { IsTrue D.told → (h : History) → IsWhole self.old (D.view (disk_of self.old)) h → OnErr result ((IsBroken self.new → ⊥) → IsWhole self.new (D.view (disk_of self.new)) (committed_in h)) }
+        ensures any_moment { IsTrue D.told → (h : History) → HasHistory D.Disk self.old h → (bound : ℕ)
+            × EachImage D.Disk (LeavesAt D.Disk self.old h.kept.staged) bound self.old self.new }
+        ensures names { IsTrue D.told → (h : History) (file : OpenLog) → HasHistory D.Disk self.old h
+            → log_of self.old ≡ Some file → (bound : ℕ)
+            × EachImage D.Disk (Bears h.kept.base (books_of self.old).next_store file.name.number) bound self.old self.new }
+        ensures flushed { IsTrue D.told → (h : History) → HasHistory D.Disk self.old h → IfOk result
+            (λ n. IsHighestKept (committed_in h).kept region n
+            × HasHistory D.Disk self.new (flushed_in (committed_in h) region n)) }
+        ensures nothing { IsTrue D.told → (h : History) (n : ℕ) → HasHistory D.Disk self.old h
+            → result ≡ Err (DeviceFlush.Nothing n) → (n ≡ h.kept.flushed region) × NoneKept (committed_in h).kept region }
+        ensures refused { IsTrue D.told → (h : History) → HasHistory D.Disk self.old h
+            → OnErr result ((IsBroken self.new → ⊥) → HasHistory D.Disk self.new (committed_in h)) }
+        ensures store { IsTrue D.told → (h : History) → HasHistory D.Disk self.old h → IfOk result
+            (λ n. HasStore (view_of D.Disk self.new) region (get_or (books_of self.old).next_store region 0) (h.kept.flushed region + 1) n) }
+        ensures number { IfOk result (λ n. n ≡ get_or (books_of self.old).drawn region 0) }
+        ensures nothing_number { (n : ℕ) → result ≡ Err (DeviceFlush.Nothing n)
+            → get_or (books_of self.old).drawn region 0 ≤ n }
         ensures stored { IfOk result (λ n. get_or (books_of self.new).stored region 0 ≡ n) }
-        ensures stored_nothing { (n : ℕ) → result ≡ Err (DeviceFlush.Nothing n) → get_or (books_of self.new).stored region 0 ≡ n }
-        ensures others { (r : ℕ) → (r ≡ region → ⊥) → get_or (books_of self.new).stored r 0 ≡ get_or (books_of self.old).stored r 0 }
+        ensures stored_nothing { (n : ℕ) → result ≡ Err (DeviceFlush.Nothing n)
+            → get_or (books_of self.new).stored region 0 ≡ n }
+        ensures others { (r : ℕ) → (r ≡ region → ⊥)
+            → get_or (books_of self.new).stored r 0 ≡ get_or (books_of self.old).stored r 0 }
         ensures closed { (books_of self.new).closed ≡ (books_of self.old).closed }
+        ensures stored_still { (IsErrOf result DeviceFlush.Memory ⊎ IsErrOf result DeviceFlush.WriteFault)
+            → (books_of self.new).stored ≡ (books_of self.old).stored }
+        ensures synced { (IsBroken self.new → ⊥) → (books_of self.new).synced ≡ (books_of self.old).drawn }
+        ensures synced_either { ((books_of self.new).synced ≡ (books_of self.old).synced) ⊎ ((books_of self.new).synced ≡ (books_of self.old).drawn) }
+        ensures later { NoneFell (books_of self.old) (books_of self.new) }
+        ensures emptied { IsIdle (log_of self.new) }
+        ensures file { (file : OpenLog) → log_of self.old ≡ Some file → (IsBroken self.new → ⊥)
+            → IsCommitted file (log_of self.new) }
+        ensures next_store { OnOk result ((books_of self.new).next_store
+            ≡ slice_set (books_of self.old).next_store region (get_or (books_of self.old).next_store region 0 + 1)) }
+        ensures few { (limit : ℕ) → AreStoresFew limit (books_of self.old) → AreStoresFew limit (books_of self.new) }
+        ensures next_store_still { OnErr result ((books_of self.new).next_store ≡ (books_of self.old).next_store) }
         ensures drawn { (books_of self.new).drawn ≡ (books_of self.old).drawn }
         ensures served { (r : ℕ) → IsServed (books_of self.old) r → IsServed (books_of self.new) r }
         ensures broken { IsErrOf result DeviceFlush.WriteFault ↔ IsBroken self.new }
         ensures stays { IsBroken self.old → self.new ≡ self.old }
-        ensures cause { HasCause (D.faults (disk_of self.old)) (D.faults (disk_of self.new)) ((IsBroken self.old → ⊥) × IsErrOf result DeviceFlush.WriteFault) }
+        ensures cause { CausesFault D.Disk self.old self.new ((IsBroken self.old → ⊥)
+            × IsErrOf result DeviceFlush.WriteFault) }
     {
         self.commit_staged()?;
         self.flush_committed(alloc, region)
@@ -54,22 +80,47 @@ impl<D: Disk> Device<D> {
     fn flush_committed(&mut self, alloc: Global, region: u32) -> Result<u64, DeviceFlush>
         requires served { IsServed (books_of self.old) region }
         requires committed { get_or (books_of self.old).drawn region 0 ≤ get_or (books_of self.old).synced region 0 }
-        requires whole { IsTrue D.told → ∥ ((h : History) × IsWhole self.old (D.view (disk_of self.old)) h × (h.kept.staged ≡ [])) ∥₁ }
+        requires whole { IsTrue D.told → ∥ ((h : History) × HasHistory D.Disk self.old h × (h.kept.staged ≡ [])) ∥₁ }
         requires unbroken { IsBroken self.old → ⊥ }
 
-        ensures any_moment { IsTrue D.told → (h : History) (file : OpenLog) → IsWhole self.old (D.view (disk_of self.old)) h → log_of self.old ≡ Some file → h.kept.staged ≡ [] → (bound : ℕ) × Throughout (Between h.kept file.name h.current (flushed_to h.kept region (get_or (books_of self.old).drawn region 0)) file.name h.current) bound (D.view (disk_of self.old)) (D.view (disk_of self.new)) }
-        ensures flushed { IsTrue D.told → (h : History) → IsWhole self.old (D.view (disk_of self.old)) h → h.kept.staged ≡ [] → IfOk result (λ n. IsWhole self.new (D.view (disk_of self.new)) (flushed_in h region n)) }
-        ensures number { IfOk result (λ n. (n ≡ get_or (books_of self.old).drawn region 0) × (get_or (books_of self.old).accounts.flushed region 0 < n)) }
-        ensures nothing { (n : ℕ) → result ≡ Err (DeviceFlush.Nothing n) → (n ≡ get_or (books_of self.old).accounts.flushed region 0) × (get_or (books_of self.old).drawn region 0 ≤ n) }
-        ensures refused { IsTrue D.told → (h : History) → IsWhole self.old (D.view (disk_of self.old)) h → OnErr result ((IsBroken self.new → ⊥) → IsWhole self.new (D.view (disk_of self.new)) h) }
+        ensures any_moment { IsTrue D.told → (h : History) (file : OpenLog) → HasHistory D.Disk self.old h
+            → log_of self.old ≡ Some file → h.kept.staged ≡ [] → (bound : ℕ)
+            × EachImage D.Disk (Between h.kept file.name h.current (flushed_to h.kept region (get_or (books_of self.old).drawn region 0))
+            file.name h.current) bound self.old self.new }
+        ensures names { IsTrue D.told → (h : History) (file : OpenLog) → HasHistory D.Disk self.old h
+            → log_of self.old ≡ Some file → h.kept.staged ≡ [] → (bound : ℕ)
+            × EachImage D.Disk (Bears h.kept.base (books_of self.old).next_store file.name.number) bound self.old self.new }
+        ensures flushed { IsTrue D.told → (h : History) → HasHistory D.Disk self.old h → h.kept.staged ≡ []
+            → IfOk result (λ n. HasHistory D.Disk self.new (flushed_in h region n)) }
+        ensures store { IsTrue D.told → IfOk result (λ n. HasStore (view_of D.Disk self.new) region
+            (get_or (books_of self.old).next_store region 0) (get_or (books_of self.old).accounts.flushed region 0 + 1) n) }
+        ensures number { IfOk result (λ n. (n ≡ get_or (books_of self.old).drawn region 0)
+            × (get_or (books_of self.old).accounts.flushed region 0 < n)) }
+        ensures nothing { (n : ℕ) → result ≡ Err (DeviceFlush.Nothing n)
+            → (n ≡ get_or (books_of self.old).accounts.flushed region 0)
+            × (get_or (books_of self.old).drawn region 0 ≤ n) }
+        ensures refused { IsTrue D.told → (h : History) → HasHistory D.Disk self.old h
+            → OnErr result ((IsBroken self.new → ⊥) → HasHistory D.Disk self.new h) }
         ensures stored { IfOk result (λ n. get_or (books_of self.new).stored region 0 ≡ n) }
-        ensures stored_nothing { (n : ℕ) → result ≡ Err (DeviceFlush.Nothing n) → get_or (books_of self.new).stored region 0 ≡ n }
-        ensures others { (r : ℕ) → (r ≡ region → ⊥) → get_or (books_of self.new).stored r 0 ≡ get_or (books_of self.old).stored r 0 }
+        ensures stored_nothing { (n : ℕ) → result ≡ Err (DeviceFlush.Nothing n)
+            → get_or (books_of self.new).stored region 0 ≡ n }
+        ensures others { (r : ℕ) → (r ≡ region → ⊥)
+            → get_or (books_of self.new).stored r 0 ≡ get_or (books_of self.old).stored r 0 }
         ensures closed { (books_of self.new).closed ≡ (books_of self.old).closed }
+        ensures file { (IsBroken self.new → ⊥) → log_of self.new ≡ log_of self.old }
+        ensures next_store { OnOk result ((books_of self.new).next_store
+            ≡ slice_set (books_of self.old).next_store region (get_or (books_of self.old).next_store region 0 + 1)) }
+        ensures few { (limit : ℕ) → AreStoresFew limit (books_of self.old) → AreStoresFew limit (books_of self.new) }
+        ensures next_store_still { OnErr result ((books_of self.new).next_store ≡ (books_of self.old).next_store) }
+        ensures synced { (books_of self.new).synced ≡ (books_of self.old).synced }
+        ensures stored_never_falls { (r : ℕ)
+            → get_or (books_of self.old).stored r 0 ≤ get_or (books_of self.new).stored r 0 }
+        ensures stored_still { (IsErrOf result DeviceFlush.Memory ⊎ IsErrOf result DeviceFlush.WriteFault)
+            → (books_of self.new).stored ≡ (books_of self.old).stored }
         ensures drawn { (books_of self.new).drawn ≡ (books_of self.old).drawn }
         ensures served { (r : ℕ) → IsServed (books_of self.old) r → IsServed (books_of self.new) r }
         ensures broken { IsErrOf result DeviceFlush.WriteFault ↔ IsBroken self.new }
-        ensures cause { HasCause (D.faults (disk_of self.old)) (D.faults (disk_of self.new)) (IsErrOf result DeviceFlush.WriteFault) }
+        ensures cause { CausesFault D.Disk self.old self.new (IsErrOf result DeviceFlush.WriteFault) }
     {
         if !self.ledger.has_unflushed(region) {
             self.ledger.keep(region);
@@ -93,21 +144,43 @@ impl<D: Disk> Device<D> {
         requires above { get_or (books_of self.old).accounts.flushed region 0 < get_or (books_of self.old).drawn region 0 }
         requires committed { get_or (books_of self.old).drawn region 0 ≤ get_or (books_of self.old).synced region 0 }
         requires within { IsWithin (get_or (books_of self.old).accounts.flushed region 0 + 1) (get_or (books_of self.old).drawn region 0) cells }
-        requires whole { IsTrue D.told → ∥ ((h : History) × IsWhole self.old (D.view (disk_of self.old)) h × (h.kept.staged ≡ [])) ∥₁ }
+        requires whole { IsTrue D.told → ∥ ((h : History) × HasHistory D.Disk self.old h × (h.kept.staged ≡ [])) ∥₁ }
         requires unbroken { IsBroken self.old → ⊥ }
 
-        ensures any_moment { IsTrue D.told → (h : History) (file : OpenLog) → IsWhole self.old (D.view (disk_of self.old)) h → log_of self.old ≡ Some file → h.kept.staged ≡ [] → PutsCut h.kept region (get_or (books_of self.old).drawn region 0) cells → (bound : ℕ) × Throughout (Between h.kept file.name h.current (flushed_to h.kept region (get_or (books_of self.old).drawn region 0)) file.name h.current) bound (D.view (disk_of self.old)) (D.view (disk_of self.new)) }
-        ensures flushed { IsTrue D.told → (h : History) → IsWhole self.old (D.view (disk_of self.old)) h → h.kept.staged ≡ [] → PutsCut h.kept region (get_or (books_of self.old).drawn region 0) cells → IfOk result (λ n. IsWhole self.new (D.view (disk_of self.new)) (flushed_in h region n)) }
+        ensures any_moment { IsTrue D.told → (h : History) (file : OpenLog) → HasHistory D.Disk self.old h
+            → log_of self.old ≡ Some file → h.kept.staged ≡ []
+            → PutsCut h.kept region (get_or (books_of self.old).drawn region 0) cells → (bound : ℕ)
+            × EachImage D.Disk (Between h.kept file.name h.current (flushed_to h.kept region (get_or (books_of self.old).drawn region 0))
+            file.name h.current) bound self.old self.new }
+        ensures names { IsTrue D.told → (h : History) (file : OpenLog) → HasHistory D.Disk self.old h
+            → log_of self.old ≡ Some file → h.kept.staged ≡ [] → (bound : ℕ)
+            × EachImage D.Disk (Bears h.kept.base (books_of self.old).next_store file.name.number) bound self.old self.new }
+        ensures flushed { IsTrue D.told → (h : History) → HasHistory D.Disk self.old h → h.kept.staged ≡ []
+            → PutsCut h.kept region (get_or (books_of self.old).drawn region 0) cells → IfOk result
+            (λ n. HasHistory D.Disk self.new (flushed_in h region n)) }
+        ensures store { IsTrue D.told → IfOk result (λ n. HasStore (view_of D.Disk self.new) region
+            (get_or (books_of self.old).next_store region 0) (get_or (books_of self.old).accounts.flushed region 0 + 1) n) }
         ensures number { IfOk result (λ n. n ≡ get_or (books_of self.old).drawn region 0) }
         ensures never_nothing { (n : ℕ) → result ≡ Err (DeviceFlush.Nothing n) → ⊥ }
         ensures refused { OnErr result ((IsBroken self.new → ⊥) → self.new ≡ self.old) }
         ensures stored { IfOk result (λ n. get_or (books_of self.new).stored region 0 ≡ n) }
-        ensures others { (r : ℕ) → (r ≡ region → ⊥) → get_or (books_of self.new).stored r 0 ≡ get_or (books_of self.old).stored r 0 }
+        ensures others { (r : ℕ) → (r ≡ region → ⊥)
+            → get_or (books_of self.new).stored r 0 ≡ get_or (books_of self.old).stored r 0 }
         ensures closed { (books_of self.new).closed ≡ (books_of self.old).closed }
+        ensures file { (IsBroken self.new → ⊥) → log_of self.new ≡ log_of self.old }
+        ensures next_store { OnOk result ((books_of self.new).next_store
+            ≡ slice_set (books_of self.old).next_store region (get_or (books_of self.old).next_store region 0 + 1)) }
+        ensures few { (limit : ℕ) → AreStoresFew limit (books_of self.old) → AreStoresFew limit (books_of self.new) }
+        ensures next_store_still { OnErr result ((books_of self.new).next_store ≡ (books_of self.old).next_store) }
+        ensures synced { (books_of self.new).synced ≡ (books_of self.old).synced }
+        ensures stored_never_falls { (r : ℕ)
+            → get_or (books_of self.old).stored r 0 ≤ get_or (books_of self.new).stored r 0 }
+        ensures stored_still { (IsErrOf result DeviceFlush.Memory ⊎ IsErrOf result DeviceFlush.WriteFault)
+            → (books_of self.new).stored ≡ (books_of self.old).stored }
         ensures drawn { (books_of self.new).drawn ≡ (books_of self.old).drawn }
         ensures served { (r : ℕ) → IsServed (books_of self.old) r → IsServed (books_of self.new) r }
         ensures broken { IsErrOf result DeviceFlush.WriteFault ↔ IsBroken self.new }
-        ensures cause { HasCause (D.faults (disk_of self.old)) (D.faults (disk_of self.new)) (IsErrOf result DeviceFlush.WriteFault) }
+        ensures cause { CausesFault D.Disk self.old self.new (IsErrOf result DeviceFlush.WriteFault) }
     {
         let from = self.ledger.flushed(region) + 1;
         let to = self.ledger.drawn(region);

@@ -13,6 +13,7 @@ mod archiving;
 mod device;
 mod error;
 mod flushing;
+mod laws;
 mod next;
 mod opening;
 mod renaming;
@@ -23,8 +24,6 @@ pub use device::Device;
 pub use error::{
     DeviceFlush, DeviceRefusal, DeviceWhy, RollRefusal, Rolled, StageFull, WriteFault,
 };
+pub use laws::borne_names_are_sound;
 pub use log_ledger::RegionBase;
 pub use log_trucks::Truck;
-
-#[cfg(test)]
-mod tests;

@@ -10,9 +10,10 @@ ghost use Rattle.log_file.specs.Open.{OpenLog};
 ghost use Rattle.log_ledger.specs.Bases.{AreRegions, IsAmong, AreNumbersOf};
 ghost use Rattle.log_ledger.specs.Books.{IsServed};
 ghost use Rattle.log_ledger.specs.History.{started_in};
+ghost use Rattle.log_device.specs.Bears.{Bears};
 ghost use Rattle.log_device.specs.Keeps.{Keeps, log_name};
 ghost use Rattle.log_device.specs.Opened.{IsOpened, IsLastNumber, log_number, started_disk};
-ghost use Rattle.log_device.specs.Whole.{IsWhole, IsBroken, disk_of, log_of, books_of};
+ghost use Rattle.log_device.specs.Whole.{IsBroken, IsIdle, log_of, books_of, HasHistory};
 
 use crate::device::Device;
 use crate::error::{DeviceRefusal, DeviceWhy};
@@ -37,16 +38,29 @@ impl<D: Disk> Device<D> {
         requires opened { IsTrue D.told → ∥ ((flushed : ℕ → ℕ) × IsOpened (D.view disk) regions.now flushed) ∥₁ }
 
         // At each moment each image is fit, and recovers to the files as they read.
-        ensures any_moment { IsTrue D.told → (flushed : ℕ → ℕ) → IsOpened (D.view disk) regions.now flushed → Throughout (RecoversSome (D.view disk).files []) 4 (D.view disk) (D.view (started_disk result)) }
-        ensures started { IsTrue D.told → (flushed : ℕ → ℕ) → IsOpened (D.view disk) regions.now flushed → IfOk result (λ d. IsWhole d (D.view (disk_of d)) (started_in (D.view disk).files flushed)) }
+        ensures any_moment { IsTrue D.told → (flushed : ℕ → ℕ) → IsOpened (D.view disk) regions.now flushed
+            → Throughout (RecoversSome (D.view disk).files []) 4 (D.view disk) (D.view (started_disk result)) }
+        ensures names { IsTrue D.told → (flushed : ℕ → ℕ) (last : ℕ) → IsOpened (D.view disk) regions.now flushed
+            → IsLastNumber (D.view disk).files last
+            → Throughout (Bears (D.view disk).files [] (last + 1)) 4 (D.view disk) (D.view (started_disk result)) }
+        ensures started { IsTrue D.told → (flushed : ℕ → ℕ) → IsOpened (D.view disk) regions.now flushed → IfOk result
+            (λ d. HasHistory D.Disk d (started_in (D.view disk).files flushed)) }
         ensures served { IfOk result (λ d. (r : ℕ) → IsServed (books_of d) r ↔ IsAmong regions.now r) }
         ensures drawn { IfOk result (λ d. AreNumbersOf (λ m. m.flushed) regions.now (books_of d).drawn) }
-        ensures numbers { IfOk result (λ d. ((books_of d).synced ≡ (books_of d).drawn) × ((books_of d).stored ≡ (books_of d).drawn) × ((books_of d).closed ≡ (books_of d).drawn)) }
+        ensures next_store { IfOk result (λ d. AreNumbersOf (λ m. m.next_store) regions.now (books_of d).next_store) }
+        ensures numbers { IfOk result (λ d. ((books_of d).synced ≡ (books_of d).drawn)
+            × ((books_of d).stored ≡ (books_of d).drawn) × ((books_of d).closed ≡ (books_of d).drawn)) }
         ensures unbroken { IfOk result (λ d. IsBroken d → ⊥) }
-        ensures number { IsTrue D.told → (flushed : ℕ → ℕ) (last : ℕ) → IsOpened (D.view disk) regions.now flushed → IsLastNumber (D.view disk).files last → IfOk result (λ d. (file : OpenLog) → log_of d ≡ Some file → file.name.number ≡ last + 1) }
-        ensures empty { IfOk result (λ d. (file : OpenLog) → log_of d ≡ Some file → (file.entries ≡ 0) × (file.staged ≡ 0)) }
-        ensures refused { IsTrue D.told → IfErr result (λ e. e.why ≡ DeviceWhy.Memory → Looks (D.view disk) (D.view e.disk)) }
-        ensures cause { HasCause (D.faults disk) (D.faults (started_disk result)) (IsErrAnd result (λ e. e.why ≡ DeviceWhy.DiskFault)) }
+        ensures number { IsTrue D.told → (flushed : ℕ → ℕ) (last : ℕ) → IsOpened (D.view disk) regions.now flushed
+            → IsLastNumber (D.view disk).files last → IfOk result
+            (λ d. (file : OpenLog) → log_of d ≡ Some file → file.name.number ≡ last + 1) }
+        ensures empty { IfOk result
+            (λ d. (file : OpenLog) → log_of d ≡ Some file → (file.entries ≡ 0) × (file.staged ≡ 0)) }
+        ensures idle { IfOk result (λ d. IsIdle (log_of d)) }
+        ensures refused { IsTrue D.told → IfErr result
+            (λ e. e.why ≡ DeviceWhy.Memory → Looks (D.view disk) (D.view e.disk)) }
+        ensures cause { HasCause (D.faults disk) (D.faults (started_disk result)) (IsErrAnd result
+            (λ e. e.why ≡ DeviceWhy.DiskFault)) }
     {
         let mut disk = disk;
         let Ok(ledger) = Ledger::new(alloc, regions) else {
@@ -68,13 +82,25 @@ impl<D: Disk> Device<D> {
 
 /// Begins the first log of a device. The first of its four disk calls only looks, and memory is taken before the second.
 fn first_log<D: Disk>(alloc: Global, disk: &mut D) -> Result<LogFile, DeviceWhy>
-    requires { IsTrue D.told → ∥ ((regions : List RegionBase) × (flushed : ℕ → ℕ) × IsOpened (D.view disk.old) regions flushed) ∥₁ }
+    requires { IsTrue D.told
+        → ∥ ((regions : List RegionBase) × (flushed : ℕ → ℕ) × IsOpened (D.view disk.old) regions flushed) ∥₁ }
 
-    ensures any_moment { IsTrue D.told → (regions : List RegionBase) (flushed : ℕ → ℕ) → IsOpened (D.view disk.old) regions flushed → Throughout (RecoversSome (D.view disk.old).files []) 4 (D.view disk.old) (D.view disk.new) }
-    ensures kept { IsTrue D.told → (regions : List RegionBase) (flushed : ℕ → ℕ) (next_store : List ℕ) → IsOpened (D.view disk.old) regions flushed → AreNumbersOf (λ m. m.next_store) regions next_store → IfOk result (λ log. Keeps log (D.view disk.new) (started_in (D.view disk.old).files flushed) next_store) }
-    ensures name { IfOk result (λ log. (log.name ≡ log_name log.name.number) × (1 ≤ log.name.number) × (log.name.number ≤ 2 ^ 63 + 1)) }
-    ensures number { IsTrue D.told → (regions : List RegionBase) (flushed : ℕ → ℕ) (last : ℕ) → IsOpened (D.view disk.old) regions flushed → IsLastNumber (D.view disk.old).files last → IfOk result (λ log. log.name.number ≡ last + 1) }
-    ensures empty { IfOk result (λ log. (log.entries ≡ 0) × (log.staged ≡ 0)) }
+    ensures any_moment { IsTrue D.told → (regions : List RegionBase) (flushed : ℕ → ℕ)
+        → IsOpened (D.view disk.old) regions flushed
+        → Throughout (RecoversSome (D.view disk.old).files []) 4 (D.view disk.old) (D.view disk.new) }
+    ensures names { IsTrue D.told → (regions : List RegionBase) (flushed : ℕ → ℕ) (last : ℕ)
+        → IsOpened (D.view disk.old) regions flushed → IsLastNumber (D.view disk.old).files last
+        → Throughout (Bears (D.view disk.old).files [] (last + 1)) 4 (D.view disk.old) (D.view disk.new) }
+    ensures kept { IsTrue D.told → (regions : List RegionBase) (flushed : ℕ → ℕ) (next_store : List ℕ)
+        → AreRegions regions → IsOpened (D.view disk.old) regions flushed → AreNumbersOf
+        (λ m. m.next_store) regions next_store → IfOk result
+        (λ log. Keeps log (D.view disk.new) (started_in (D.view disk.old).files flushed) next_store) }
+    ensures name { IfOk result
+        (λ log. (log.name ≡ log_name log.name.number) × (1 ≤ log.name.number) × (log.name.number ≤ 2 ^ 63 + 1)) }
+    ensures number { IsTrue D.told → (regions : List RegionBase) (flushed : ℕ → ℕ) (last : ℕ)
+        → IsOpened (D.view disk.old) regions flushed → IsLastNumber (D.view disk.old).files last → IfOk result
+        (λ log. log.name.number ≡ last + 1) }
+    ensures empty { IfOk result (λ log. (log.entries ≡ 0) × (log.staged ≡ 0) × (log.bytes ≡ [])) }
     ensures refused { IsTrue D.told → IsErrOf result DeviceWhy.Memory → Looks (D.view disk.old) (D.view disk.new) }
     ensures cause { HasCause (D.faults disk.old) (D.faults disk.new) (IsErrOf result DeviceWhy.DiskFault) }
 {
@@ -90,8 +116,12 @@ fn first_log<D: Disk>(alloc: Global, disk: &mut D) -> Result<LogFile, DeviceWhy>
 
 /// One above the greatest number of a log or of an old log, where none passes 2^63, as in a store that was opened.
 fn next_number<D: Disk>(alloc: Global, disk: &mut D) -> Result<u64, DeviceWhy>
-    ensures above { IsTrue D.told → ((m : Name) → IsPresent (D.view disk.old).files m → m.number ≤ 2 ^ 63) → (m : Name) → IsPresent (D.view disk.old).files m → IfOk result (λ n. log_number m < n) }
-    ensures next { IsTrue D.told → ((m : Name) → IsPresent (D.view disk.old).files m → m.number ≤ 2 ^ 63) → (last : ℕ) → IsLastNumber (D.view disk.old).files last → IfOk result (λ n. n ≡ last + 1) }
+    ensures above { IsTrue D.told → ((m : Name) → IsPresent (D.view disk.old).files m → m.number ≤ 2 ^ 63) → (m : Name)
+        → IsPresent (D.view disk.old).files m → IfOk result (λ n. log_number m < n) }
+    ensures next { IsTrue D.told → ((m : Name) → IsPresent (D.view disk.old).files m → m.number ≤ 2 ^ 63) → (last : ℕ)
+        → IsLastNumber (D.view disk.old).files last → IfOk result (λ n. n ≡ last + 1) }
+    ensures reached { IsTrue D.told → (limit : ℕ)
+        → ((m : Name) → IsPresent (D.view disk.old).files m → log_number m ≤ limit) → IfOk result (λ n. n ≤ limit + 1) }
     ensures low { IfOk result (λ n. (1 ≤ n) × (n ≤ 2 ^ 63 + 1)) }
     ensures looks { IsTrue D.told → Looks (D.view disk.old) (D.view disk.new) }
     ensures cause { HasCause (D.faults disk.old) (D.faults disk.new) (IsErrOf result DeviceWhy.DiskFault) }

@@ -1,13 +1,11 @@
 //! From one log file to the next.
 
-ghost use Rattle.std.specs.Prelude.{◌≡◌, ◌≤◌, ◌<◌, ◌+◌, ◌^◌, ◌↔◌, ◌++◌, ℕ, List, [], length, sum, Some, None, Ok, Err, IsTrue, IfOk, OnOk, OnErr, IsErr, IsErrOf};
-ghost use Rattle.disk_images.specs.Crash.{Throughout};
-ghost use Rattle.disk_images.specs.Calls.{HasCause};
+ghost use Rattle.std.specs.Prelude.{◌≡◌, ◌⊎◌, ◌≤◌, ◌<◌, ◌+◌, ◌^◌, ◌↔◌, ◌++◌, ℕ, List, [], length, sum, Some, None, Ok, Err, IsTrue, IfOk, OnOk, OnErr, IsErr, IsErrOf};
 ghost use Rattle.log_file.specs.Open.{OpenLog};
 ghost use Rattle.log_ledger.specs.History.{History, committed_in, closed_in};
+ghost use Rattle.log_device.specs.Bears.{Bears};
 ghost use Rattle.log_device.specs.Keeps.{Between, IsInOrder, log_name};
-ghost use Rattle.log_device.specs.Leaves.{Leaves};
-ghost use Rattle.log_device.specs.Whole.{IsWhole, IsBroken, disk_of, log_of, books_of};
+ghost use Rattle.log_device.specs.Whole.{IsBroken, IsIdle, IsBegunAfter, NoneFell, log_of, books_of, HasHistory, EachImage, LeavesAt, CausesFault};
 
 use crate::device::Device;
 use crate::error::{RollRefusal, Rolled, WriteFault};
@@ -22,26 +20,49 @@ impl<D: Disk> Device<D> {
     /// written. `NothingToRoll` comes exactly where the file has no entry after the commit, `Memory` after the commit and
     /// before any other disk call.
     pub fn roll(&mut self, alloc: Global) -> Result<Rolled, RollRefusal>
-        requires { IsTrue D.told → (IsBroken self.old → ⊥) → ∥ ((h : History) × IsWhole self.old (D.view (disk_of self.old)) h) ∥₁ }
+        requires { IsTrue D.told → (IsBroken self.old → ⊥) → ∥ ((h : History) × HasHistory D.Disk self.old h) ∥₁ }
 
-        ensures any_moment { IsTrue D.told → (h : History) → IsWhole self.old (D.view (disk_of self.old)) h → Throughout (Leaves (books_of self.old).stored (books_of self.old).closed (D.view (disk_of self.old)).files h.kept.staged) 11 (D.view (disk_of self.old)) (D.view (disk_of self.new)) }
+        ensures any_moment { IsTrue D.told → (h : History) → HasHistory D.Disk self.old h
+            → EachImage D.Disk (LeavesAt D.Disk self.old h.kept.staged) 11 self.old self.new }
+        ensures names { IsTrue D.told → (h : History) (file : OpenLog) → HasHistory D.Disk self.old h
+            → log_of self.old ≡ Some file
+            → EachImage D.Disk (Bears h.kept.base (books_of self.old).next_store (file.name.number + 1)) 11 self.old self.new }
 
         // In each image in which the file that the call begins has a byte, the old file has every entry staged into it.
-        ensures in_order { IsTrue D.told → (h : History) (file : OpenLog) → IsWhole self.old (D.view (disk_of self.old)) h → log_of self.old ≡ Some file → Throughout (IsInOrder file.name (log_name (file.name.number + 1)) (h.current ++ h.kept.staged)) 11 (D.view (disk_of self.old)) (D.view (disk_of self.new)) }
-        ensures rolled { IsTrue D.told → (h : History) → IsWhole self.old (D.view (disk_of self.old)) h → IfOk result (λ rolled. IsWhole self.new (D.view (disk_of self.new)) (closed_in (committed_in h) rolled.closed) × (rolled.entries ≡ length (h.current ++ h.kept.staged))) }
-        ensures file { (file : OpenLog) → log_of self.old ≡ Some file → IfOk result (λ rolled. (rolled.closed ≡ file.name.number) × (rolled.entries ≡ file.entries + file.staged) × (0 < rolled.entries)) }
-        ensures refused { IsTrue D.told → (h : History) → IsWhole self.old (D.view (disk_of self.old)) h → OnErr result ((IsBroken self.new → ⊥) → IsWhole self.new (D.view (disk_of self.new)) (committed_in h)) }
-        ensures nothing { (file : OpenLog) (n : ℕ) → log_of self.old ≡ Some file → result ≡ Err (RollRefusal.NothingToRoll n) → (n ≡ file.name.number) × (file.entries + file.staged ≡ 0) }
-        ensures empty { (file : OpenLog) → log_of self.old ≡ Some file → file.entries + file.staged ≡ 0 → (IsBroken self.new → ⊥) → result ≡ Err (RollRefusal.NothingToRoll file.name.number) }
+        ensures in_order { IsTrue D.told → (h : History) (file : OpenLog) → HasHistory D.Disk self.old h
+            → log_of self.old ≡ Some file
+            → EachImage D.Disk (IsInOrder file.name (log_name (file.name.number + 1)) (h.current ++ h.kept.staged)) 11 self.old self.new }
+        ensures rolled { IsTrue D.told → (h : History) → HasHistory D.Disk self.old h → IfOk result
+            (λ rolled. HasHistory D.Disk self.new (closed_in (committed_in h) rolled.closed)
+            × (rolled.entries ≡ length (h.current ++ h.kept.staged))) }
+        ensures file { (file : OpenLog) → log_of self.old ≡ Some file → IfOk result
+            (λ rolled. (rolled.closed ≡ file.name.number) × (rolled.entries ≡ file.entries + file.staged)
+            × (0 < rolled.entries)) }
+        ensures refused { IsTrue D.told → (h : History) → HasHistory D.Disk self.old h
+            → OnErr result ((IsBroken self.new → ⊥) → HasHistory D.Disk self.new (committed_in h)) }
+        ensures nothing { (file : OpenLog) (n : ℕ) → log_of self.old ≡ Some file
+            → result ≡ Err (RollRefusal.NothingToRoll n) → (n ≡ file.name.number) × (file.entries + file.staged ≡ 0) }
+        ensures empty { (file : OpenLog) → log_of self.old ≡ Some file → file.entries + file.staged ≡ 0
+            → (IsBroken self.new → ⊥) → result ≡ Err (RollRefusal.NothingToRoll file.name.number) }
         ensures closed { OnOk result ((books_of self.new).closed ≡ (books_of self.new).synced) }
-        ensures closed_empty { (n : ℕ) → result ≡ Err (RollRefusal.NothingToRoll n) → (books_of self.new).closed ≡ (books_of self.new).synced }
-        ensures closed_still { IsErrOf result RollRefusal.Memory → (books_of self.new).closed ≡ (books_of self.old).closed }
+        ensures closed_empty { (n : ℕ) → result ≡ Err (RollRefusal.NothingToRoll n)
+            → (books_of self.new).closed ≡ (books_of self.new).synced }
+        ensures closed_still { IsErrOf result RollRefusal.Memory
+            → (books_of self.new).closed ≡ (books_of self.old).closed }
+        ensures closed_broken { IsBroken self.new → (books_of self.new).closed ≡ (books_of self.old).closed }
+        ensures synced { (IsBroken self.new → ⊥) → (books_of self.new).synced ≡ (books_of self.old).drawn }
+        ensures synced_either { ((books_of self.new).synced ≡ (books_of self.old).synced) ⊎ ((books_of self.new).synced ≡ (books_of self.old).drawn) }
+        ensures later { NoneFell (books_of self.old) (books_of self.new) }
+        ensures emptied { IsIdle (log_of self.new) }
+        ensures next { (file : OpenLog) → log_of self.old ≡ Some file
+            → OnOk result (IsBegunAfter file (log_of self.new)) }
         ensures stored { (books_of self.new).stored ≡ (books_of self.old).stored }
         ensures drawn { (books_of self.new).drawn ≡ (books_of self.old).drawn }
         ensures served { (books_of self.new).next_store ≡ (books_of self.old).next_store }
         ensures broken { IsErrOf result RollRefusal.WriteFault ↔ IsBroken self.new }
         ensures stays { IsBroken self.old → self.new ≡ self.old }
-        ensures cause { HasCause (D.faults (disk_of self.old)) (D.faults (disk_of self.new)) ((IsBroken self.old → ⊥) × IsErrOf result RollRefusal.WriteFault) }
+        ensures cause { CausesFault D.Disk self.old self.new ((IsBroken self.old → ⊥)
+            × IsErrOf result RollRefusal.WriteFault) }
     {
         self.commit_staged()?;
         self.roll_committed(alloc)
@@ -49,25 +70,45 @@ impl<D: Disk> Device<D> {
 
     /// Rolls a log in which nothing is staged.
     fn roll_committed(&mut self, alloc: Global) -> Result<Rolled, RollRefusal>
-        requires whole { IsTrue D.told → ∥ ((h : History) × IsWhole self.old (D.view (disk_of self.old)) h) ∥₁ }
+        requires whole { IsTrue D.told → ∥ ((h : History) × HasHistory D.Disk self.old h) ∥₁ }
         requires unbroken { IsBroken self.old → ⊥ }
-        requires idle { (file : OpenLog) → log_of self.old ≡ Some file → file.staged ≡ 0 }
+        requires idle { IsIdle (log_of self.old) }
 
-        ensures any_moment { IsTrue D.told → (h : History) (file : OpenLog) → IsWhole self.old (D.view (disk_of self.old)) h → log_of self.old ≡ Some file → Throughout (Between h.kept file.name h.current h.kept (log_name (file.name.number + 1)) []) 7 (D.view (disk_of self.old)) (D.view (disk_of self.new)) }
-        ensures in_order { IsTrue D.told → (h : History) (file : OpenLog) → IsWhole self.old (D.view (disk_of self.old)) h → log_of self.old ≡ Some file → Throughout (IsInOrder file.name (log_name (file.name.number + 1)) h.current) 7 (D.view (disk_of self.old)) (D.view (disk_of self.new)) }
-        ensures rolled { IsTrue D.told → (h : History) → IsWhole self.old (D.view (disk_of self.old)) h → h.kept.staged ≡ [] → IfOk result (λ rolled. IsWhole self.new (D.view (disk_of self.new)) (closed_in h rolled.closed)) }
-        ensures file { (file : OpenLog) → log_of self.old ≡ Some file → IfOk result (λ rolled. (rolled.closed ≡ file.name.number) × (rolled.entries ≡ file.entries) × (0 < rolled.entries)) }
-        ensures refused { IsTrue D.told → (h : History) → IsWhole self.old (D.view (disk_of self.old)) h → h.kept.staged ≡ [] → OnErr result ((IsBroken self.new → ⊥) → IsWhole self.new (D.view (disk_of self.new)) h) }
-        ensures nothing { (file : OpenLog) (n : ℕ) → log_of self.old ≡ Some file → result ≡ Err (RollRefusal.NothingToRoll n) → (n ≡ file.name.number) × (file.entries ≡ 0) }
-        ensures empty { (file : OpenLog) → log_of self.old ≡ Some file → file.entries ≡ 0 → result ≡ Err (RollRefusal.NothingToRoll file.name.number) }
+        ensures any_moment { IsTrue D.told → (h : History) (file : OpenLog) → HasHistory D.Disk self.old h
+            → log_of self.old ≡ Some file
+            → EachImage D.Disk (Between h.kept file.name h.current h.kept (log_name (file.name.number + 1)) []) 7 self.old self.new }
+        ensures names { IsTrue D.told → (h : History) (file : OpenLog) → HasHistory D.Disk self.old h
+            → log_of self.old ≡ Some file
+            → EachImage D.Disk (Bears h.kept.base (books_of self.old).next_store (file.name.number + 1)) 7 self.old self.new }
+        ensures in_order { IsTrue D.told → (h : History) (file : OpenLog) → HasHistory D.Disk self.old h
+            → log_of self.old ≡ Some file
+            → EachImage D.Disk (IsInOrder file.name (log_name (file.name.number + 1)) h.current) 7 self.old self.new }
+        ensures rolled { IsTrue D.told → (h : History) → HasHistory D.Disk self.old h → h.kept.staged ≡ [] → IfOk result
+            (λ rolled. HasHistory D.Disk self.new (closed_in h rolled.closed)) }
+        ensures file { (file : OpenLog) → log_of self.old ≡ Some file → IfOk result
+            (λ rolled. (rolled.closed ≡ file.name.number) × (rolled.entries ≡ file.entries) × (0 < rolled.entries)) }
+        ensures refused { IsTrue D.told → (h : History) → HasHistory D.Disk self.old h → h.kept.staged ≡ []
+            → OnErr result ((IsBroken self.new → ⊥) → HasHistory D.Disk self.new h) }
+        ensures nothing { (file : OpenLog) (n : ℕ) → log_of self.old ≡ Some file
+            → result ≡ Err (RollRefusal.NothingToRoll n) → (n ≡ file.name.number) × (file.entries ≡ 0) }
+        ensures empty { (file : OpenLog) → log_of self.old ≡ Some file → file.entries ≡ 0
+            → result ≡ Err (RollRefusal.NothingToRoll file.name.number) }
         ensures closed { OnOk result ((books_of self.new).closed ≡ (books_of self.new).synced) }
-        ensures closed_empty { (n : ℕ) → result ≡ Err (RollRefusal.NothingToRoll n) → (books_of self.new).closed ≡ (books_of self.new).synced }
-        ensures closed_still { IsErrOf result RollRefusal.Memory → (books_of self.new).closed ≡ (books_of self.old).closed }
+        ensures closed_empty { (n : ℕ) → result ≡ Err (RollRefusal.NothingToRoll n)
+            → (books_of self.new).closed ≡ (books_of self.new).synced }
+        ensures closed_still { IsErrOf result RollRefusal.Memory
+            → (books_of self.new).closed ≡ (books_of self.old).closed }
+        ensures closed_either { ((books_of self.new).closed ≡ (books_of self.old).closed) ⊎ ((books_of self.new).closed ≡ (books_of self.old).synced) }
+        ensures closed_broken { IsBroken self.new → (books_of self.new).closed ≡ (books_of self.old).closed }
+        ensures synced { (books_of self.new).synced ≡ (books_of self.old).synced }
+        ensures emptied { IsIdle (log_of self.new) }
+        ensures next { (file : OpenLog) → log_of self.old ≡ Some file
+            → OnOk result (IsBegunAfter file (log_of self.new)) }
         ensures stored { (books_of self.new).stored ≡ (books_of self.old).stored }
         ensures drawn { (books_of self.new).drawn ≡ (books_of self.old).drawn }
         ensures served { (books_of self.new).next_store ≡ (books_of self.old).next_store }
         ensures broken { IsErrOf result RollRefusal.WriteFault ↔ IsBroken self.new }
-        ensures cause { HasCause (D.faults (disk_of self.old)) (D.faults (disk_of self.new)) (IsErrOf result RollRefusal.WriteFault) }
+        ensures cause { CausesFault D.Disk self.old self.new (IsErrOf result RollRefusal.WriteFault) }
     {
         let (file, entries) = self.current();
         if entries == 0 {
@@ -95,21 +136,35 @@ impl<D: Disk> Device<D> {
 
     /// Ends the current file, which has an entry, and begins the next one with this stage.
     fn begin_next(&mut self, stage: Stage) -> Result<(), WriteFault>
-        requires whole { IsTrue D.told → ∥ ((h : History) × IsWhole self.old (D.view (disk_of self.old)) h) ∥₁ }
+        requires whole { IsTrue D.told → ∥ ((h : History) × HasHistory D.Disk self.old h) ∥₁ }
         requires unbroken { IsBroken self.old → ⊥ }
         requires idle { (file : OpenLog) → log_of self.old ≡ Some file → (file.staged ≡ 0) × (0 < file.entries) }
         requires room { 1 ≤ (books_of self.old).accounts.room }
         requires small { sum (books_of self.old).drawn < 2 ^ 55 }
 
-        ensures any_moment { IsTrue D.told → (h : History) (file : OpenLog) → IsWhole self.old (D.view (disk_of self.old)) h → log_of self.old ≡ Some file → Throughout (Between h.kept file.name h.current h.kept (log_name (file.name.number + 1)) []) 7 (D.view (disk_of self.old)) (D.view (disk_of self.new)) }
-        ensures in_order { IsTrue D.told → (h : History) (file : OpenLog) → IsWhole self.old (D.view (disk_of self.old)) h → log_of self.old ≡ Some file → Throughout (IsInOrder file.name (log_name (file.name.number + 1)) h.current) 7 (D.view (disk_of self.old)) (D.view (disk_of self.new)) }
-        ensures rolled { IsTrue D.told → (h : History) (file : OpenLog) → IsWhole self.old (D.view (disk_of self.old)) h → log_of self.old ≡ Some file → h.kept.staged ≡ [] → OnOk result (IsWhole self.new (D.view (disk_of self.new)) (closed_in h file.name.number)) }
+        ensures any_moment { IsTrue D.told → (h : History) (file : OpenLog) → HasHistory D.Disk self.old h
+            → log_of self.old ≡ Some file
+            → EachImage D.Disk (Between h.kept file.name h.current h.kept (log_name (file.name.number + 1)) []) 7 self.old self.new }
+        ensures names { IsTrue D.told → (h : History) (file : OpenLog) → HasHistory D.Disk self.old h
+            → log_of self.old ≡ Some file
+            → EachImage D.Disk (Bears h.kept.base (books_of self.old).next_store (file.name.number + 1)) 7 self.old self.new }
+        ensures in_order { IsTrue D.told → (h : History) (file : OpenLog) → HasHistory D.Disk self.old h
+            → log_of self.old ≡ Some file
+            → EachImage D.Disk (IsInOrder file.name (log_name (file.name.number + 1)) h.current) 7 self.old self.new }
+        ensures rolled { IsTrue D.told → (h : History) (file : OpenLog) → HasHistory D.Disk self.old h
+            → log_of self.old ≡ Some file → h.kept.staged ≡ []
+            → OnOk result (HasHistory D.Disk self.new (closed_in h file.name.number)) }
         ensures closed { OnOk result ((books_of self.new).closed ≡ (books_of self.new).synced) }
+        ensures closed_faulty { OnErr result ((books_of self.new).closed ≡ (books_of self.old).closed) }
+        ensures synced { (books_of self.new).synced ≡ (books_of self.old).synced }
+        ensures emptied { IsIdle (log_of self.new) }
+        ensures next { (file : OpenLog) → log_of self.old ≡ Some file
+            → OnOk result (IsBegunAfter file (log_of self.new)) }
         ensures stored { (books_of self.new).stored ≡ (books_of self.old).stored }
         ensures drawn { (books_of self.new).drawn ≡ (books_of self.old).drawn }
         ensures served { (books_of self.new).next_store ≡ (books_of self.old).next_store }
         ensures broken { IsErr result ↔ IsBroken self.new }
-        ensures cause { HasCause (D.faults (disk_of self.old)) (D.faults (disk_of self.new)) (IsErr result) }
+        ensures cause { CausesFault D.Disk self.old self.new (IsErr result) }
     {
         let Some(log) = self.log.take() else {
             return Err(WriteFault);

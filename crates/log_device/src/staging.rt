@@ -1,16 +1,14 @@
 //! Entries are staged, and made durable.
 
-ghost use Rattle.std.specs.Prelude.{◌≡◌, ◌≤◌, ◌<◌, ◌+◌, ◌↔◌, ◌++◌, ℕ, List, [], length, get_or, slice_set, Some, None, Ok, IsTrue, IfOk, IfErr, OnOk, OnErr, IsErr};
+ghost use Rattle.std.specs.Prelude.{◌≡◌, ◌≤◌, ◌<◌, ◌+◌, ◌==◌, if◌then◌else◌, ◌↔◌, ◌++◌, ℕ, List, [], length, get_or, slice_set, Some, None, Ok, IsTrue, IfOk, IfErr, OnOk, OnErr, IsErr};
 ghost use Rattle.log_model.specs.Entry.{Entry, IsEntry, entry_frame};
-ghost use Rattle.disk_images.specs.Crash.{Throughout};
-ghost use Rattle.disk_images.specs.Calls.{HasCause};
 ghost use Rattle.log_file.specs.Open.{OpenLog};
 ghost use Rattle.log_ledger.specs.History.{History, staged_in, committed_in};
-ghost use Rattle.log_ledger.specs.Books.{IsServed};
+ghost use Rattle.log_ledger.specs.Books.{IsServed, AreInOrder};
 ghost use Rattle.recovery.specs.Kept.{committed};
+ghost use Rattle.log_device.specs.Bears.{Bears};
 ghost use Rattle.log_device.specs.Keeps.{Between};
-ghost use Rattle.log_device.specs.Leaves.{Leaves};
-ghost use Rattle.log_device.specs.Whole.{IsWhole, IsBroken, IsCommitted, disk_of, log_of, books_of};
+ghost use Rattle.log_device.specs.Whole.{IsBroken, IsCommitted, IsIdle, HasStaged, disk_of, log_of, books_of, HasHistory, EachImage, LeavesAt, CausesFault};
 
 use crate::device::Device;
 use crate::error::{StageFull, WriteFault};
@@ -24,16 +22,26 @@ impl<D: Disk> Device<D> {
     pub fn stage(&mut self, truck: Box<Truck>) -> Result<(), StageFull>
         requires served { IsServed (books_of self.old) truck.value.region }
         requires alone { truck.value.behind ≡ [] }
-        requires entry { ∥ ((e : Entry) × IsEntry e × (truck.value.bytes ≡ entry_frame e) × (e.region ≡ truck.value.region) × (e.number ≡ truck.value.number)) ∥₁ }
+        requires entry { ∥ ((e : Entry) × IsEntry e × (truck.value.bytes ≡ entry_frame e)
+            × (e.region ≡ truck.value.region) × (e.number ≡ truck.value.number)) ∥₁ }
         requires above { get_or (books_of self.old).drawn truck.value.region 0 < truck.value.number }
 
-        ensures staged { IsTrue D.told → (h : History) (e : Entry) → IsWhole self.old (D.view (disk_of self.old)) h → IsEntry e → truck.value.bytes ≡ entry_frame e → e.region ≡ truck.value.region → e.number ≡ truck.value.number → OnOk result (IsWhole self.new (D.view (disk_of self.new)) (staged_in h e)) }
-        ensures full { (file : OpenLog) → log_of self.old ≡ Some file → IsErr result ↔ (4194304 < length file.bytes + length truck.value.bytes + 1) }
+        ensures staged { IsTrue D.told → (h : History) (e : Entry) → HasHistory D.Disk self.old h → IsEntry e
+            → truck.value.bytes ≡ entry_frame e → e.region ≡ truck.value.region → e.number ≡ truck.value.number
+            → OnOk result (HasHistory D.Disk self.new (staged_in h e)) }
+        ensures full { (file : OpenLog) → log_of self.old ≡ Some file
+            → IsErr result ↔ (4194304 < length file.bytes + length truck.value.bytes + 1) }
+        ensures file { (file : OpenLog) → log_of self.old ≡ Some file
+            → OnOk result (HasStaged file (length truck.value.bytes) (log_of self.new)) }
         ensures broken { IsBroken self.old → IsErr result }
+        ensures unbroken { OnOk result (IsBroken self.new → ⊥) }
         ensures same { OnErr result (self.new ≡ self.old) }
         ensures truck { IfErr result (λ full. full.truck ≡ truck) }
         ensures disk { disk_of self.new ≡ disk_of self.old }
         ensures drawn { OnOk result ((books_of self.new).drawn ≡ slice_set (books_of self.old).drawn truck.value.region truck.value.number) }
+        ensures drawn_at { (r : ℕ)
+            → OnOk result (get_or (books_of self.new).drawn r 0
+            ≡ (if truck.value.region == r then truck.value.number else get_or (books_of self.old).drawn r 0)) }
         ensures synced { (books_of self.new).synced ≡ (books_of self.old).synced }
         ensures stored { (books_of self.new).stored ≡ (books_of self.old).stored }
         ensures closed { (books_of self.new).closed ≡ (books_of self.old).closed }
@@ -54,40 +62,57 @@ impl<D: Disk> Device<D> {
     /// Makes all that is staged durable, in four disk calls however many entries there are, and in none where there are
     /// none; it gives their number, and takes no memory.
     pub fn sync(&mut self) -> Result<u64, WriteFault>
-        requires { IsTrue D.told → (IsBroken self.old → ⊥) → ∥ ((h : History) × IsWhole self.old (D.view (disk_of self.old)) h) ∥₁ }
+        requires { IsTrue D.told → (IsBroken self.old → ⊥) → ∥ ((h : History) × HasHistory D.Disk self.old h) ∥₁ }
 
         // At each moment each image is fit, and recovers to the files as they read with none of the staged entries or with all.
-        ensures any_moment { IsTrue D.told → (h : History) → IsWhole self.old (D.view (disk_of self.old)) h → Throughout (Leaves (books_of self.old).stored (books_of self.old).closed (D.view (disk_of self.old)).files h.kept.staged) 4 (D.view (disk_of self.old)) (D.view (disk_of self.new)) }
-        ensures committed { IsTrue D.told → (h : History) → IsWhole self.old (D.view (disk_of self.old)) h → OnOk result (IsWhole self.new (D.view (disk_of self.new)) (committed_in h)) }
+        ensures any_moment { IsTrue D.told → (h : History) → HasHistory D.Disk self.old h
+            → EachImage D.Disk (LeavesAt D.Disk self.old h.kept.staged) 4 self.old self.new }
+        ensures names { IsTrue D.told → (h : History) (file : OpenLog) → HasHistory D.Disk self.old h
+            → log_of self.old ≡ Some file
+            → EachImage D.Disk (Bears h.kept.base (books_of self.old).next_store file.name.number) 4 self.old self.new }
+        ensures committed { IsTrue D.told → (h : History) → HasHistory D.Disk self.old h
+            → OnOk result (HasHistory D.Disk self.new (committed_in h)) }
         ensures count { (file : OpenLog) → log_of self.old ≡ Some file → IfOk result (λ n. n ≡ file.staged) }
 
         // Where nothing is staged it makes no disk call, and does not fail.
-        ensures idle { (file : OpenLog) → log_of self.old ≡ Some file → file.staged ≡ 0 → (disk_of self.new ≡ disk_of self.old) × (result ≡ Ok 0) }
+        ensures idle { (file : OpenLog) → log_of self.old ≡ Some file → file.staged ≡ 0
+            → (disk_of self.new ≡ disk_of self.old) × (result ≡ Ok 0) }
         ensures file { (file : OpenLog) → log_of self.old ≡ Some file → OnOk result (IsCommitted file (log_of self.new)) }
+        ensures emptied { IsIdle (log_of self.new) }
         ensures synced { OnOk result ((books_of self.new) ≡ record (books_of self.old) { synced = (books_of self.old).drawn }) }
         ensures faulty { OnErr result (books_of self.new ≡ books_of self.old) }
+        ensures never_falls { (r : ℕ) → get_or (books_of self.old).synced r 0 ≤ get_or (books_of self.new).synced r 0 }
         ensures broken { IsErr result ↔ IsBroken self.new }
         ensures stays { IsBroken self.old → self.new ≡ self.old }
-        ensures cause { HasCause (D.faults (disk_of self.old)) (D.faults (disk_of self.new)) ((IsBroken self.old → ⊥) × IsErr result) }
+        ensures cause { CausesFault D.Disk self.old self.new ((IsBroken self.old → ⊥) × IsErr result) }
     {
         self.commit_staged()
     }
 
     /// The same, with the files that each image is like.
     pub(crate) fn commit_staged(&mut self) -> Result<u64, WriteFault>
-        requires { IsTrue D.told → (IsBroken self.old → ⊥) → ∥ ((h : History) × IsWhole self.old (D.view (disk_of self.old)) h) ∥₁ }
+        requires { IsTrue D.told → (IsBroken self.old → ⊥) → ∥ ((h : History) × HasHistory D.Disk self.old h) ∥₁ }
 
-        ensures any_moment { IsTrue D.told → (h : History) (file : OpenLog) → IsWhole self.old (D.view (disk_of self.old)) h → log_of self.old ≡ Some file → Throughout (Between h.kept file.name h.current (committed h.kept) file.name (h.current ++ h.kept.staged)) 4 (D.view (disk_of self.old)) (D.view (disk_of self.new)) }
-        ensures committed { IsTrue D.told → (h : History) → IsWhole self.old (D.view (disk_of self.old)) h → OnOk result (IsWhole self.new (D.view (disk_of self.new)) (committed_in h)) }
+        ensures any_moment { IsTrue D.told → (h : History) (file : OpenLog) → HasHistory D.Disk self.old h
+            → log_of self.old ≡ Some file
+            → EachImage D.Disk (Between h.kept file.name h.current (committed h.kept) file.name (h.current ++ h.kept.staged)) 4 self.old self.new }
+        ensures names { IsTrue D.told → (h : History) (file : OpenLog) → HasHistory D.Disk self.old h
+            → log_of self.old ≡ Some file
+            → EachImage D.Disk (Bears h.kept.base (books_of self.old).next_store file.name.number) 4 self.old self.new }
+        ensures committed { IsTrue D.told → (h : History) → HasHistory D.Disk self.old h
+            → OnOk result (HasHistory D.Disk self.new (committed_in h)) }
         ensures count { (file : OpenLog) → log_of self.old ≡ Some file → IfOk result (λ n. n ≡ file.staged) }
-        ensures idle { (file : OpenLog) → log_of self.old ≡ Some file → file.staged ≡ 0 → (disk_of self.new ≡ disk_of self.old) × (result ≡ Ok 0) }
+        ensures idle { (file : OpenLog) → log_of self.old ≡ Some file → file.staged ≡ 0
+            → (disk_of self.new ≡ disk_of self.old) × (result ≡ Ok 0) }
         ensures file { (file : OpenLog) → log_of self.old ≡ Some file → OnOk result (IsCommitted file (log_of self.new)) }
-        ensures emptied { OnOk result ((file : OpenLog) → log_of self.new ≡ Some file → file.staged ≡ 0) }
+        ensures emptied { IsIdle (log_of self.new) }
         ensures synced { OnOk result ((books_of self.new) ≡ record (books_of self.old) { synced = (books_of self.old).drawn }) }
         ensures faulty { OnErr result (books_of self.new ≡ books_of self.old) }
+        ensures order { OnOk result (AreInOrder (books_of self.old)) }
+        ensures never_falls { (r : ℕ) → get_or (books_of self.old).synced r 0 ≤ get_or (books_of self.new).synced r 0 }
         ensures broken { IsErr result ↔ IsBroken self.new }
         ensures stays { IsBroken self.old → self.new ≡ self.old }
-        ensures cause { HasCause (D.faults (disk_of self.old)) (D.faults (disk_of self.new)) ((IsBroken self.old → ⊥) × IsErr result) }
+        ensures cause { CausesFault D.Disk self.old self.new ((IsBroken self.old → ⊥) × IsErr result) }
     {
         let Some(log) = &mut self.log else {
             return Err(WriteFault);

@@ -56,7 +56,7 @@ region_same old new r s is = record {
 chain_more : (flushed drawn : ℕ) (chain : List Held) (t : Haul) → IsChain flushed drawn chain → flushed ≤ drawn → drawn < t.number
     → ∥ ((e : Entry) × IsEntry e × (t.bytes ≡ entry_frame e) × (e.region ≡ t.region) × (e.number ≡ t.number)) ∥₁ → IsChain flushed t.number (held_of t ∷ chain)
 chain_more flushed drawn chain t is low above entry = record {
-  entries = ∥∥₁_map₂ entry is.entries (λ e es. (e.0 ∷ es.0, (record { number = sym e.4; bytes = e.2; entry = e.1 }, es.1)));
+  entries = ∥∥₁_map₂ entry is.entries (λ e es. (e.0 ∷ es.0, (record { region = sym e.3; number = sym e.4; bytes = e.2; entry = e.1 }, es.1)));
   numbers = λ h has. elim (at_either (held_of t) chain h has) as (λ _. (flushed < h.number) × (h.number ≤ t.number)) [
     | inl same ↦ (let number = ap (λ (x : Held). x.number) same in (omega (arith, low, above, number), omega (arith, number)))
     | inr later ↦ (let was = is.numbers h later in (was.0, omega (arith, was.1, above)))

@@ -101,7 +101,7 @@ counted_staged old new t h e order s ours above counted is bytes region number =
   chains = λ r served. elim (cases_eq r t.region) as (λ _. CarriesUnflushed (with_staged h.kept e) r (get_or new.chains r [])) [
     | inl here ↦ subst (CarriesUnflushed (with_staged h.kept e) r) (sym (set_here old.chains new.chains t.region (held_of t ∷ get_or old.chains t.region []) r [] s.chains chain_place here))
         (carries_more h.kept e r (held_of t) (get_or old.chains t.region []) (subst (λ (q : ℕ). CarriesUnflushed h.kept r (get_or old.chains q [])) here (counted.chains r (was r served))) (region ∙ sym here)
-        (record { number = sym number; bytes = bytes; entry = is })
+        (record { region = sym region; number = sym number; bytes = bytes; entry = is })
         (λ y has. omega (arith, ((order.regions t.region).chain.numbers y has).1, above, number))
         (omega (arith, counted.flushed r (was r served), (order.regions r).flushed, ap (λ q. get_or old.drawn q 0) here, above, number)))
     | inr other ↦ subst (CarriesUnflushed (with_staged h.kept e) r) (sym (set_there old.chains new.chains t.region (held_of t ∷ get_or old.chains t.region []) r [] s.chains other))

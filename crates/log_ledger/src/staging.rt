@@ -4,7 +4,7 @@ ghost use Rattle.std.specs.Prelude.{◌≡◌, ◌+◌, ◌<◌, ◌≤◌, [], 
 ghost use Rattle.log_model.specs.Entry.{Entry, IsEntry, entry_frame};
 ghost use Rattle.seq_accounting.specs.Accounts.{SameFiles};
 ghost use Rattle.log_ledger.specs.History.{History, staged_in, committed_in};
-ghost use Rattle.log_ledger.specs.Books.{IsServed};
+ghost use Rattle.log_ledger.specs.Books.{IsServed, AreInOrder};
 ghost use Rattle.log_ledger.specs.Counted.{IsCounted};
 
 use crate::ledger::Ledger;
@@ -38,6 +38,7 @@ impl Ledger {
     pub fn commit(&mut self)
         ensures counted { (h : History) → IsCounted self.old h → IsCounted self.new (committed_in h) }
         ensures synced { self.new ≡ record self.old { synced = self.old.drawn } }
+        ensures order { AreInOrder self.old }
     {
         self.synced = self.drawn;
     }

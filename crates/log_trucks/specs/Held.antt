@@ -2,8 +2,9 @@
 use Rattle.std.specs.Prelude.{◌≡◌, ℕ, List, [], ◌∷◌}
 use Rattle.log_model.specs.Entry.{Entry, IsEntry, entry_frame}
 
--- an entry that is kept: its number and its bytes
+-- an entry that is kept: its region, its number and its bytes
 pub record Held : Type 0 where
+  pub region : ℕ
   pub number : ℕ
   pub bytes : List ℕ
 
@@ -15,10 +16,11 @@ pub record Haul : Type 0 where
   pub behind : List Held
 
 abbrev pub held_of : Haul → Held
-held_of t = record { number = t.number; bytes = t.bytes }
+held_of t = record { region = t.region; number = t.number; bytes = t.bytes }
 
 -- what is kept is this entry
 pub record IsHeld (held : Held) (e : Entry) : Type 0 where
+  pub region : held.region ≡ e.region
   pub number : held.number ≡ e.number
   pub bytes : held.bytes ≡ entry_frame e
   pub entry : IsEntry e

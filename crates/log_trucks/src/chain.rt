@@ -1,6 +1,6 @@
 //! A chain of trucks.
 
-ghost use Rattle.std.specs.Prelude.{◌≡◌, ◌++◌, [], ◌∷◌, ◌↔◌, List, IsTrue, IfOk, OnOk};
+ghost use Rattle.std.specs.Prelude.{◌≡◌, ◌++◌, [], ◌∷◌, ◌↔◌, List, reverse, IsTrue, IfOk, IfSome, MatchOption, OnOk};
 ghost use Rattle.std.specs.List.{flat_map};
 ghost use Rattle.cell_model.specs.Merge.{at_number};
 ghost use Rattle.log_model.specs.Entry.{Entry};
@@ -11,9 +11,10 @@ use kv_cell::{Cell, NoMemory, NumberedCells};
 use std::alloc::Global;
 use std::marker::Model;
 
-/// Trucks, the newest first. Contracts see the list of numbers and bytes.
+/// Trucks, the one put in last first. Contracts see the list of regions, numbers and bytes. They are let go by a loop,
+/// however many they are.
 #[derive(Drop)]
-pub(crate) struct Chain {
+pub struct Chain {
     first: Option<Box<Truck>>,
 }
 
@@ -30,21 +31,21 @@ impl Model for Chain {
 
 impl Chain {
     /// No truck.
-    pub(crate) fn new() -> Chain
+    pub fn new() -> Chain
         ensures { result ≡ [] }
     {
         Chain { first: None }
     }
 
     /// Whether there is no truck.
-    pub(crate) fn is_empty(&self) -> bool
+    pub fn is_empty(&self) -> bool
         ensures { IsTrue result ↔ (self.now ≡ []) }
     {
         self.first.is_none()
     }
 
     /// Puts a lone truck in front. It takes no memory.
-    pub(crate) fn push(&mut self, truck: Box<Truck>)
+    pub fn push(&mut self, truck: Box<Truck>)
         requires { truck.value.behind ≡ [] }
         ensures { self.new ≡ held_of truck.value ∷ self.old }
     {
@@ -53,15 +54,37 @@ impl Chain {
         self.first = Some(truck);
     }
 
+    /// Takes the first truck, alone.
+    pub fn pop(&mut self) -> Option<Box<Truck>>
+        ensures first { MatchOption result ((self.old ≡ []) × (self.new ≡ [])) (λ truck. self.old ≡ held_of truck.value ∷ self.new) }
+        ensures alone { IfSome result (λ truck. truck.value.behind ≡ []) }
+    {
+        let mut truck = self.first.take()?;
+        self.first = truck.next.take();
+        Some(truck)
+    }
+
+    /// The trucks in the other order. It takes no memory.
+    pub fn reversed(self) -> Chain
+        ensures { result ≡ reverse self }
+    {
+        let mut rest = self;
+        let mut turned = Chain::new();
+        while let Some(truck) = rest.pop() {
+            turned.push(truck);
+        }
+        turned
+    }
+
     /// Lets all trucks go, one after the other.
-    pub(crate) fn clear(&mut self)
+    pub fn clear(&mut self)
         ensures { self.new ≡ [] }
     {
         self.first = None;
     }
 
     /// The cells of the trucks, each with its truck's number, in the order of the chain.
-    pub(crate) fn cells(&self, alloc: Global) -> Result<NumberedCells, NoMemory>
+    pub fn cells(&self, alloc: Global) -> Result<NumberedCells, NoMemory>
         ensures { (es : List Entry) → AreHeld self.now es → IfOk result (λ cells. cells ≡ flat_map (λ e. at_number e.number e.cells) es) }
     {
         let mut cells = NumberedCells::new(alloc);

@@ -6,6 +6,7 @@ mod chain;
 mod chains;
 mod truck;
 
+pub use chain::Chain;
 pub use chains::Chains;
 pub use truck::Truck;
 

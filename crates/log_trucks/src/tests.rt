@@ -114,6 +114,23 @@ fn chain_of_100000_trucks_is_let_go(rt: HostRuntime) -> Result<(), Fail> {
     Ok(())
 }
 
+#[test]
+fn chain_is_turned_round(rt: HostRuntime) -> Result<(), Fail> {
+    let alloc = rt.alloc();
+    let batch = batch(alloc, b"r")?;
+    let mut chain = Chain::new();
+    for number in 1..4 {
+        chain.push(truck(alloc, 3, number, &batch)?);
+    }
+    let mut turned = chain.reversed();
+    for number in 1..4 {
+        let truck = turned.pop().ok_or("a truck")?;
+        assert_eq!(rt; truck.number, number);
+    }
+    assert!(rt; turned.is_empty());
+    Ok(())
+}
+
 /// A truck that is handed back.
 #[derive(Debug, Drop)]
 struct Refused {

@@ -8,9 +8,10 @@ use Rattle.disk_images.proofs.Moments.{more_time}
 use Rattle.recovery.specs.Change.{HasEntries}
 use Rattle.log_file.specs.Open.{OpenLog, IsOpen, IsStaged}
 use Rattle.log_ledger.specs.History.{History}
+use Rattle.log_device.specs.Bears.{Bears}
 use Rattle.log_device.specs.Keeps.{Keeps, Between, IsInOrder, log_name}
 use Rattle.log_device.proofs.Disk.{absent_by}
-use Rattle.log_device.proofs.NextLog.{still_free, end_moments, end_in_order, roll_moments, roll_in_order, roll_kept}
+use Rattle.log_device.proofs.NextLog.{still_free, end_names, roll_names, end_moments, end_in_order, roll_moments, roll_in_order, roll_kept}
 use Rattle.log_device.proofs.next.next_log.Goals as goal
 
 pub finish-requires-clause-open : goal.finish-requires-clause-open
@@ -73,5 +74,21 @@ returns-clause-kept g c told h ns keeps none =
     (c.finish.ensures.any_moment told h.current keeps.open_log) (c.finish.ensures.touches told) (c.in_ok-finish.ensures.finished told h.current keeps.open_log)
     (subst (λ (n : Name). Throughout (OnlyAt n (HasEntries n []) v) 3 v w) c.requires.next (c.begin_with.ensures.any_moment told))
     (subst (λ (n : Name). Touches n v w) c.requires.next (c.begin_with.ensures.touches told))
-    now none (name ∙ c.requires.next) is_open empty.1)
+    now none c.requires.some (name ∙ c.requires.next) is_open empty.1)
     (c.begin_with.ensures.begun told) c.begin_with.ensures.name c.begin_with.ensures.empty
+
+pub returns-in_err-finish-clause-names : goal.returns-in_err-finish-clause-names
+returns-in_err-finish-clause-names g c told h ns keeps =
+    let u = g.D.Disk.view c.args.disk.now in
+    let v = g.D.Disk.view c.finish.new.disk in
+    more_time (Bears h.kept.base ns (c.args.log.name.number + 1)) 4 7 u v (omega arith)
+    (end_names c.args.log u v v h ns keeps (g.met.D.Disk.is_true c.args.disk.now told) (g.met.D.Disk.is_true c.finish.new.disk told) (c.finish.ensures.any_moment told h.current keeps.open_log))
+
+pub returns-clause-names : goal.returns-clause-names
+returns-clause-names g c told h ns keeps =
+    let u = g.D.Disk.view c.args.disk.now in
+    let v = g.D.Disk.view c.finish.new.disk in
+    let w = g.D.Disk.view c.begin_with.new.disk in
+    roll_names c.args.log u v w h ns keeps (g.met.D.Disk.is_true c.args.disk.now told) (g.met.D.Disk.is_true c.finish.new.disk told)
+    (c.finish.ensures.any_moment told h.current keeps.open_log) (c.finish.ensures.touches told) (c.in_ok-finish.ensures.finished told h.current keeps.open_log)
+    (subst (λ (n : Name). Throughout (OnlyAt n (HasEntries n []) v) 3 v w) c.requires.next (c.begin_with.ensures.any_moment told))

@@ -7,7 +7,7 @@ use Rattle.log_file.specs.LogText.{ended_text}
 use Rattle.log_ledger.specs.History.{archived_in}
 use Rattle.log_device.specs.Keeps.{Keeps, log_name, old_name}
 use Rattle.log_device.proofs.Disk.{absent_by}
-use Rattle.log_device.proofs.Archived.{rename_moments, archived_kept, old_free}
+use Rattle.log_device.proofs.Archived.{rename_names, rename_moments, archived_kept, old_free}
 use Rattle.log_device.proofs.renaming.rename_log.Goals as goal
 
 pub rename-requires-clause-from : goal.rename-requires-clause-from
@@ -34,3 +34,9 @@ returns-clause-kept g c told log h ns closed keeps member number flushed =
     let renames = subst (λ (n : ℕ). Renames (log_name n) (old_name n) c.rename.result u v) (sym number) (c.rename.ensures.renames told) in
     subst (λ (n : ℕ). OnOk c.rename.result (Keeps log v (archived_in h n) ns)) number
     (on_ok_weaker c.rename.result (archived_kept log u v h ns keeps closed member flushed renames) renames.renamed)
+
+pub returns-clause-names : goal.returns-clause-names
+returns-clause-names g c told log h ns closed keeps member number flushed =
+    let u = g.D.Disk.view c.args.disk.now in
+    let v = g.D.Disk.view c.rename.new.self in
+    rename_names log u v h ns keeps closed member flushed (subst (λ (n : ℕ). Renames (log_name n) (old_name n) c.rename.result u v) (sym number) (c.rename.ensures.renames told))

@@ -1,12 +1,15 @@
-use Rattle.std.proofs.Common.{◌+◌, ◌<◌, ◌^◌, inl, inr, Bool, length, Ok, refl, sym, ap, ◌∙◌, subst, arith}
+use Rattle.std.proofs.Common.{◌+◌, ◌<◌, ◌^◌, ℕ, List, inl, inr, Bool, length, Ok, refl, sym, ap, ◌∙◌, subst, arith}
 use Rattle.std.specs.Option.{is_some}
 use Rattle.std.proofs.Math.Logic.{∥∥₁_map}
 use Rattle.disk_images.specs.Crash.{Throughout}
 use Rattle.disk_images.proofs.Moments.{joined, more_time}
+use Rattle.log_file.specs.Open.{OpenLog}
+use Rattle.log_device.specs.Bears.{Bears}
 use Rattle.log_device.specs.declared.device.Device.{Device}
 use Rattle.log_device.specs.Keeps.{Shows}
 use Rattle.log_device.specs.Whole.{IsWhole}
 use Rattle.log_device.proofs.Calls.{archive_leaves}
+use Rattle.log_device.proofs.Numbering.{same_file}
 use Rattle.log_device.proofs.Going.{counted_length, nothing_gone, one_gone, all_gone, with_logs}
 use Rattle.log_device.proofs.device.Device.archive.Goals as goal
 
@@ -97,8 +100,9 @@ loop-count-preserved g c =
       λ told h whole.
           let so_far = c.loop-count.invariant.1 told h whole in
           let went = c.archive_one.ensures.gone told (with_logs h so_far.left) so_far.now is_true in
-          one_gone c.loop-count.self c.archive_one.new.self (g.D.Disk.view c.args.self.now.disk) (g.D.Disk.view c.loop-count.self.disk) (g.D.Disk.view c.archive_one.new.self.disk) h whole.file c.loop-count.count went.0 so_far went.1 went.2 fewer
-          (c.archive_one.ensures.any_moment told (with_logs h so_far.left) whole.file so_far.now (going.log ∙ whole.is)),
+          one_gone c.loop-count.self c.archive_one.new.self (g.D.Disk.view c.args.self.now.disk) (g.D.Disk.view c.loop-count.self.disk) (g.D.Disk.view c.archive_one.new.self.disk) h whole.file c.loop-count.count went.0 so_far went.1 went.2 fewer c.archive_one.ensures.served
+          (c.archive_one.ensures.any_moment told (with_logs h so_far.left) whole.file so_far.now (going.log ∙ whole.is))
+          (c.archive_one.ensures.names told (with_logs h so_far.left) whole.file so_far.now (going.log ∙ whole.is)),
       omega (arith, c.archive_one.ensures.cause.later, c.loop-count.invariant.2),
     )
 
@@ -133,3 +137,29 @@ returns-clause-served g c = c.archive_one.ensures.served ∙ c.loop-count.invari
 
 pub returns-clause-cause : goal.returns-clause-cause
 returns-clause-cause g c = record { later = omega (arith, c.archive_one.ensures.cause.later, c.loop-count.invariant.2); risen = λ failed. absurd (cc (failed.1)) }
+
+pub returns-in_err-archive_one-clause-names : goal.returns-in_err-archive_one-clause-names
+returns-in_err-archive_one-clause-names g c told h file whole is =
+    let u = g.D.Disk.view c.args.self.now.disk in
+    let v = g.D.Disk.view c.loop-count.self.disk in
+    let w = g.D.Disk.view c.archive_one.new.self.disk in
+    let so_far = c.loop-count.invariant.1 told h whole in
+    let going = c.loop-count.invariant.0 in
+    let count = c.loop-count.count in
+    let wide = counted_length c.loop-count.self.ledger c.loop-count.self.ledger.accounts.closed so_far.left so_far.now.counted.logs in
+    let ns = c.loop-count.self.ledger.next_store in
+    subst (λ (p : List ℕ × OpenLog). Throughout (Bears h.kept.base p.0 p.1.name.number) (length h.logs) u w) (λ i. (going.served i, same_file whole.file file (sym whole.is ∙ is) i))
+    (more_time (Bears h.kept.base ns whole.file.name.number) (count + 1) (length h.logs) u w (omega (arith, so_far.total, wide, c.in_err-archive_one.ensures.some refl))
+    (joined (Bears h.kept.base ns whole.file.name.number) count 1 u v w so_far.names
+    (c.archive_one.ensures.names told (with_logs h so_far.left) whole.file so_far.now (going.log ∙ whole.is))))
+
+pub returns-clause-names : goal.returns-clause-names
+returns-clause-names g c told h file whole is =
+    let u = g.D.Disk.view c.args.self.now.disk in
+    let so_far = c.loop-count.invariant.1 told h whole in
+    let going = c.loop-count.invariant.0 in
+    let same = c.archive_one.ensures.same (c.in_ok-archive_one.was ∙ ap (λ (b : Bool). Ok b) c.if-branch.false) in
+    let ns = c.loop-count.self.ledger.next_store in
+    subst (λ (p : List ℕ × OpenLog). Throughout (Bears h.kept.base p.0 p.1.name.number) (length h.logs) u (g.D.Disk.view c.archive_one.new.self.disk)) (λ i. (going.served i, same_file whole.file file (sym whole.is ∙ is) i))
+    (subst (λ (d : Device g.row.D.Denot). Throughout (Bears h.kept.base ns whole.file.name.number) (length h.logs) u (g.D.Disk.view d.disk)) (sym same)
+    (more_time (Bears h.kept.base ns whole.file.name.number) c.loop-count.count (length h.logs) u (g.D.Disk.view c.loop-count.self.disk) (omega (arith, so_far.total)) so_far.names))

@@ -5,6 +5,7 @@ use Rattle.std.proofs.Math.Logic.{∥∥₁_map, ∥∥₁_elim}
 use Rattle.disk_images.proofs.Moments.{at_once, more_time}
 use Rattle.log_ledger.specs.History.{archived_in}
 use Rattle.log_device.specs.Keeps.{Keeps, Shows}
+use Rattle.log_device.proofs.Bearing.{still_names}
 use Rattle.log_device.proofs.Numbering.{numbered_still}
 use Rattle.log_device.proofs.Whole.{kept_file, some_file}
 use Rattle.log_device.proofs.device.Device.archive_one.Goals as goal
@@ -73,3 +74,18 @@ returns-in-Err-clause-few g c =
     let file = some_file c.args.self.now c.requires.unbroken in
     let numbered = c.args.self.now.numbered file.0 file.1 in
     omega (arith, c.first_to_go.ensures.few, c.first_to_go.ensures.small, numbered.bound, numbered.later)
+
+pub returns-in_default-clause-names : goal.returns-in_default-clause-names
+returns-in_default-clause-names g c told h file whole is =
+    let u = g.D.Disk.view c.args.self.now.disk in
+    still_names file u h c.args.self.now.ledger.next_store (kept_file c.args.self.now u h file is whole) file.name.number 1 (omega arith)
+
+pub returns-in-Ok-clause-names : goal.returns-in-Ok-clause-names
+returns-in-Ok-clause-names g c told h file whole is =
+    let go = c.in-Some.ensures.exact h whole.counted in
+    c.rename_log.ensures.names told file h c.args.self.now.ledger.next_store go.0 (kept_file c.args.self.now (g.D.Disk.view c.args.self.now.disk) h file is whole) go.1 go.2 go.3
+
+pub returns-in-Err-clause-names : goal.returns-in-Err-clause-names
+returns-in-Err-clause-names g c told h file whole is =
+    let go = c.in-Some.ensures.exact h whole.counted in
+    c.rename_log.ensures.names told file h c.args.self.now.ledger.next_store go.0 (kept_file c.args.self.now (g.D.Disk.view c.args.self.now.disk) h file is whole) go.1 go.2 go.3

@@ -6,6 +6,7 @@ use Rattle.disk_images.specs.Crash.{Throughout}
 use Rattle.log_file.specs.Open.{OpenLog}
 use Rattle.log_ledger.specs.Counted.{IsCounted}
 use Rattle.log_ledger.specs.History.{closed_in}
+use Rattle.log_device.specs.Bears.{Bears}
 use Rattle.log_device.specs.Keeps.{Keeps, Between, IsInOrder, log_name}
 use Rattle.log_device.specs.Numbered.{IsNumbered}
 use Rattle.log_device.proofs.Numbering.{same_file, numbered_next}
@@ -92,3 +93,19 @@ returns-in-Err-clause-in_order g c told h file whole is =
     let its = sym c.take.ensures.value ∙ c.in-Some.is in
     subst (λ (f : OpenLog). Throughout (IsInOrder f.name (log_name (f.name.number + 1)) h.current) 7 v w) (same_file c.in-Some.log file (sym its ∙ is))
     (c.next_log.ensures.in_order told h c.args.self.now.ledger.next_store (kept_file c.args.self.now v h c.in-Some.log its whole))
+
+pub returns-in-Ok-clause-names : goal.returns-in-Ok-clause-names
+returns-in-Ok-clause-names g c told h file whole is =
+    let v = g.D.Disk.view c.args.self.now.disk in
+    let w = g.D.Disk.view c.next_log.new.disk in
+    let its = sym c.take.ensures.value ∙ c.in-Some.is in
+    subst (λ (f : OpenLog). Throughout (Bears h.kept.base c.args.self.now.ledger.next_store (f.name.number + 1)) 7 v w) (same_file c.in-Some.log file (sym its ∙ is))
+    (c.next_log.ensures.names told h c.args.self.now.ledger.next_store (kept_file c.args.self.now v h c.in-Some.log its whole))
+
+pub returns-in-Err-clause-names : goal.returns-in-Err-clause-names
+returns-in-Err-clause-names g c told h file whole is =
+    let v = g.D.Disk.view c.args.self.now.disk in
+    let w = g.D.Disk.view c.next_log.new.disk in
+    let its = sym c.take.ensures.value ∙ c.in-Some.is in
+    subst (λ (f : OpenLog). Throughout (Bears h.kept.base c.args.self.now.ledger.next_store (f.name.number + 1)) 7 v w) (same_file c.in-Some.log file (sym its ∙ is))
+    (c.next_log.ensures.names told h c.args.self.now.ledger.next_store (kept_file c.args.self.now v h c.in-Some.log its whole))

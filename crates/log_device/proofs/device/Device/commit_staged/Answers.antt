@@ -1,16 +1,18 @@
-use Rattle.std.proofs.Common.{ℕ, List, ◌++◌, refl, sym, ap, ◌∙◌, subst, arith}
+use Rattle.std.proofs.Common.{◌≡◌, [], ℕ, List, ◌++◌, refl, sym, ap, ◌∙◌, subst, arith}
 use Rattle.std.specs.Prelude.{sum}
 use Rattle.std.proofs.Math.Logic.{∥∥₁_map}
 use Rattle.disk_images.specs.Crash.{Throughout}
 use Rattle.recovery.specs.Kept.{committed}
-use Rattle.log_file.specs.Open.{OpenLog}
+use Rattle.log_file.specs.Open.{OpenLog, HasEither}
+use Rattle.log_file.specs.LogText.{behind_gate}
 use Rattle.log_ledger.specs.Books.{Books}
 use Rattle.log_ledger.specs.History.{committed_in}
+use Rattle.log_device.specs.Bears.{Bears}
 use Rattle.log_device.specs.Keeps.{Keeps, Between}
 use Rattle.log_device.specs.Numbered.{IsNumbered}
 use Rattle.log_device.proofs.Numbering.{same_file, numbered_still}
 use Rattle.log_device.proofs.Whole.{kept_file}
-use Rattle.log_device.proofs.Committed.{commit_moments, commit_kept}
+use Rattle.log_device.proofs.Committed.{names_moments, commit_moments, commit_kept}
 use Rattle.log_device.proofs.device.Device.commit_staged.Goals as goal
 
 pub commit-requires : goal.commit-requires
@@ -57,3 +59,30 @@ returns-in-Err-clause-any_moment g c told h file whole is =
     let keeps = kept_file c.args.self.now v h c.in-Some.log c.in-Some.is whole in
     subst (λ (f : OpenLog). Throughout (Between h.kept f.name h.current (committed h.kept) f.name (h.current ++ h.kept.staged)) 4 v w) (same_file c.in-Some.log file (sym c.in-Some.is ∙ is))
     (commit_moments c.in-Some.log v h c.args.self.now.ledger.next_store keeps w (c.commit.ensures.any_moment told h.current h.kept.staged keeps.open_log keeps.staged))
+
+none_behind : behind_gate [] ≡ []
+unfolding behind_gate
+none_behind = refl
+
+pub returns-in-Ok-clause-emptied : goal.returns-in-Ok-clause-emptied
+returns-in-Ok-clause-emptied g c file is =
+    let same = same_file c.commit.new.self file is in
+    (ap (λ (f : OpenLog). f.staged) (sym same) ∙ c.in-Ok.ensures.emptied.count, ap (λ (f : OpenLog). f.bytes) (sym same) ∙ (c.in-Ok.ensures.emptied.bytes ∙ none_behind))
+
+pub returns-in-Ok-clause-names : goal.returns-in-Ok-clause-names
+returns-in-Ok-clause-names g c told h file whole is =
+    let v = g.D.Disk.view c.args.self.now.disk in
+    let w = g.D.Disk.view c.commit.new.disk in
+    let keeps = kept_file c.args.self.now v h c.in-Some.log c.in-Some.is whole in
+    subst (λ (f : OpenLog). Throughout (Bears h.kept.base c.args.self.now.ledger.next_store f.name.number) 4 v w) (same_file c.in-Some.log file (sym c.in-Some.is ∙ is))
+    (names_moments c.in-Some.log v h c.args.self.now.ledger.next_store keeps (HasEither c.in-Some.log.name h.current (h.current ++ h.kept.staged)) 4 w
+    (c.commit.ensures.any_moment told h.current h.kept.staged keeps.open_log keeps.staged))
+
+pub returns-in-Err-clause-names : goal.returns-in-Err-clause-names
+returns-in-Err-clause-names g c told h file whole is =
+    let v = g.D.Disk.view c.args.self.now.disk in
+    let w = g.D.Disk.view c.commit.new.disk in
+    let keeps = kept_file c.args.self.now v h c.in-Some.log c.in-Some.is whole in
+    subst (λ (f : OpenLog). Throughout (Bears h.kept.base c.args.self.now.ledger.next_store f.name.number) 4 v w) (same_file c.in-Some.log file (sym c.in-Some.is ∙ is))
+    (names_moments c.in-Some.log v h c.args.self.now.ledger.next_store keeps (HasEither c.in-Some.log.name h.current (h.current ++ h.kept.staged)) 4 w
+    (c.commit.ensures.any_moment told h.current h.kept.staged keeps.open_log keeps.staged))

@@ -1,4 +1,4 @@
-use Rattle.std.proofs.Common.{◌≡◌, ◌≤◌, ◌+◌, ℕ, ◌++◌, get_or, Result, Ok, Err, IfOk, IsErr, refl, sym, ap, ◌∙◌, subst, arith}
+use Rattle.std.proofs.Common.{◌≡◌, ◌≤◌, ◌+◌, ℕ, List, ◌++◌, get_or, Result, Ok, Err, IfOk, IsErr, refl, sym, ap, ◌∙◌, subst, arith}
 use Rattle.std.proofs.Math.Logic.{∥∥₁_map}
 use Rattle.log_model.specs.declared.name.Name.{Name}
 use Rattle.disk_images.specs.Crash.{Throughout}
@@ -7,6 +7,9 @@ use Rattle.recovery.specs.Kept.{committed, flushed_to, lasts}
 use Rattle.recovery.proofs.Likes.{orderly_committed}
 use Rattle.log_ledger.specs.Books.{Books, IsServed}
 use Rattle.log_ledger.specs.History.{committed_in}
+use Rattle.log_device.specs.Flushed.{HasStore}
+use Rattle.log_device.specs.Bears.{AreStoresFew}
+use Rattle.log_device.specs.Bears.{Bears}
 use Rattle.log_device.specs.declared.device.Device.{Device}
 use Rattle.log_device.specs.declared.error.WriteFault.{WriteFault}
 use Rattle.log_device.specs.Keeps.{Between}
@@ -80,3 +83,34 @@ returns-clause-nothing g c told h n whole is =
           let at : lasts h.kept.first (h.kept.durable ++ h.kept.staged) e.region ≡ lasts h.kept.first (h.kept.durable ++ h.kept.staged) r = ap (lasts h.kept.first (h.kept.durable ++ h.kept.staged)) region in
           omega (arith, below_last (committed h.kept) v.files e like then.keeps.orderly member, at, drawn, told_of.0, told_of.1, flushed),
     )
+
+pub returns-in_err-commit_staged-clause-names : goal.returns-in_err-commit_staged-clause-names
+returns-in_err-commit_staged-clause-names g c told h file whole is = (4, c.commit_staged.ensures.names told h file whole is)
+
+pub returns-clause-names : goal.returns-clause-names
+returns-clause-names g c told h file whole is =
+    let u = g.D.Disk.view c.args.self.now.disk in
+    let v = g.D.Disk.view c.commit_staged.new.self.disk in
+    let w = g.D.Disk.view c.flush_committed.new.self.disk in
+    let ns = c.args.self.now.ledger.next_store in
+    let now = c.in_ok-commit_staged.ensures.file file is in
+    let number : now.0.name.number ≡ file.name.number = ap (λ (n : Name). n.number) now.2 in
+    let stores : c.commit_staged.new.self.ledger.next_store ≡ ns = ap (λ (b : Books). b.next_store) c.in_ok-commit_staged.ensures.synced in
+    let over = c.flush_committed.ensures.names told (committed_in h) now.0 (c.in_ok-commit_staged.ensures.committed told h whole) now.1 refl in (
+      4 + over.0,
+      joined (Bears h.kept.base ns file.name.number) 4 over.0 u v w (c.commit_staged.ensures.names told h file whole is)
+          (subst (λ (p : List ℕ × ℕ). Throughout (Bears h.kept.base p.0 p.1) over.0 v w) (λ i. (stores i, number i)) over.1),
+    )
+
+pub returns-clause-few : goal.returns-clause-few
+returns-clause-few g c limit few =
+    c.flush_committed.ensures.few limit (subst (λ (b : Books). AreStoresFew limit b) (sym c.in_ok-commit_staged.ensures.synced) few)
+
+pub returns-clause-store : goal.returns-clause-store
+returns-clause-store g c told h whole =
+    let w = g.D.Disk.view c.flush_committed.new.self.disk in
+    let r = c.args.region in
+    let old = c.args.self.now.ledger in
+    let result = c.flush_committed.result in
+    subst (λ (m : ℕ). IfOk result (λ n. HasStore w r (get_or old.next_store r 0) (m + 1) n)) (whole.counted.flushed r c.requires.served)
+    (subst (λ (b : Books). IfOk result (λ n. HasStore w r (get_or b.next_store r 0) (get_or b.accounts.flushed r 0 + 1) n)) c.in_ok-commit_staged.ensures.synced (c.flush_committed.ensures.store told))

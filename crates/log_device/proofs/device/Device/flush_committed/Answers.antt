@@ -1,7 +1,10 @@
-use Rattle.std.proofs.Common.{get_or, refl, ap}
+use Rattle.std.proofs.Common.{arith, get_or, refl, ap}
 use Rattle.std.specs.Prelude.{sum}
 use Rattle.recovery.specs.Kept.{flushed_to}
 use Rattle.log_ledger.specs.Books.{Books}
+use Rattle.log_ledger.proofs.DrawnSums.{served_place}
+use Rattle.log_device.proofs.Bearing.{still_names}
+use Rattle.log_device.proofs.Few.{few_kept}
 use Rattle.log_device.proofs.Numbering.{numbered_still}
 use Rattle.log_device.proofs.Whole.{kept_file}
 use Rattle.log_device.proofs.StoreSteps.{still_moments}
@@ -23,3 +26,21 @@ pub returns-in_err-cells-clause-any_moment : goal.returns-in_err-cells-clause-an
 returns-in_err-cells-clause-any_moment g c told h file whole is none =
     let u = g.D.Disk.view c.args.self.now.disk in
     still_moments file u h c.args.self.now.ledger.next_store (kept_file c.args.self.now u h file is whole) (flushed_to h.kept c.args.region (get_or c.args.self.now.ledger.drawn c.args.region 0)) file.name h.current
+
+pub returns-then-not-has_unflushed-clause-names : goal.returns-then-not-has_unflushed-clause-names
+returns-then-not-has_unflushed-clause-names g c told h file whole is none =
+    (0, still_names file (g.D.Disk.view c.args.self.now.disk) h c.args.self.now.ledger.next_store (kept_file c.args.self.now (g.D.Disk.view c.args.self.now.disk) h file is whole) file.name.number 0 (omega arith))
+
+pub returns-in_err-cells-clause-names : goal.returns-in_err-cells-clause-names
+returns-in_err-cells-clause-names g c told h file whole is none =
+    (0, still_names file (g.D.Disk.view c.args.self.now.disk) h c.args.self.now.ledger.next_store (kept_file c.args.self.now (g.D.Disk.view c.args.self.now.disk) h file is whole) file.name.number 0 (omega arith))
+
+pub returns-then-not-has_unflushed-clause-few : goal.returns-then-not-has_unflushed-clause-few
+returns-then-not-has_unflushed-clause-few g c limit few =
+    let old = c.args.self.now.ledger in
+    let order = c.if-not-has_unflushed.ensures.order in
+    few_kept limit old c.keep.new.self c.args.region (get_or old.accounts.flushed c.args.region 0) order (served_place old c.args.region order c.requires.served)
+    (ap (λ (b : Books). b.next_store) c.keep.ensures.stored) (ap (λ (b : Books). b.stored) c.keep.ensures.stored) (order.regions c.args.region).stored few
+
+pub returns-clause-flushed : goal.returns-clause-flushed
+returns-clause-flushed g c told h whole none = c.write_store.ensures.flushed told h whole none (c.in_ok-cells.ensures.cut h whole.counted none)

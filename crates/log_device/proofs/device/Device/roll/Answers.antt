@@ -1,16 +1,19 @@
-use Rattle.std.proofs.Common.{◌+◌, ℕ, [], ◌++◌, length-append, Result, Ok, Err, IfOk, IsErr, refl, sym, ap, ◌∙◌, subst, arith}
+use Rattle.std.proofs.Common.{◌≡◌, ◌+◌, ℕ, List, [], ◌++◌, length-append, Result, Ok, Err, IfOk, OnOk, IsErr, refl, sym, ap, ◌∙◌, subst, arith}
 use Rattle.std.proofs.Math.Logic.{∥∥₁_map}
 use Rattle.log_model.specs.declared.name.Name.{Name}
 use Rattle.disk_images.specs.Crash.{Throughout}
-use Rattle.disk_images.proofs.Moments.{joined, more_time}
+use Rattle.disk_images.proofs.Moments.{joined, more_time, weaker}
 use Rattle.recovery.specs.Kept.{committed}
+use Rattle.log_ledger.specs.Books.{Books}
 use Rattle.log_ledger.specs.History.{committed_in}
+use Rattle.log_device.specs.Bears.{Bears}
 use Rattle.log_device.specs.Keeps.{Between, IsInOrder, log_name}
 use Rattle.log_device.specs.Leaves.{Leaves}
 use Rattle.log_file.specs.Open.{OpenLog}
 use Rattle.log_device.specs.declared.device.Device.{Device}
 use Rattle.log_device.specs.declared.error.WriteFault.{WriteFault}
 use Rattle.log_device.specs.declared.error.RollRefusal.TheVariants as refusals
+use Rattle.log_device.proofs.Bearing.{bears_on}
 use Rattle.log_device.proofs.Numbering.{same_file}
 use Rattle.log_device.proofs.Calls.{commit_leaves, commit_in_order, roll_leaves}
 use Rattle.log_device.proofs.device.Device.roll.Goals as goal
@@ -91,3 +94,38 @@ pub returns-clause-empty : goal.returns-clause-empty
 returns-clause-empty g c file is none unbroken =
     let now = c.in_ok-commit_staged.ensures.file file is in
     c.roll_committed.ensures.empty now.0 now.1 (now.3 ∙ none) ∙ ap (λ (n : ℕ). Err (refusals.NothingToRoll n)) (ap (λ (n : Name). n.number) now.2)
+
+after : {T E : Type 0} {P Q : Type 0} (result : Result T E) → (P → Q) → OnOk result P → OnOk result Q
+after (Ok t) step p = step p
+after (Err e) step p = tt
+
+pub returns-clause-next : goal.returns-clause-next
+returns-clause-next g c file is =
+    let now = c.in_ok-commit_staged.ensures.file file is in
+    after c.roll_committed.result
+    (λ begun. record { now = begun.now; is = begun.is; name = begun.name ∙ ap (λ (n : Name). log_name (n.number + 1)) now.2; entries = begun.entries; staged = begun.staged })
+    (c.roll_committed.ensures.next now.0 now.1)
+
+pub returns-in_err-commit_staged-clause-names : goal.returns-in_err-commit_staged-clause-names
+returns-in_err-commit_staged-clause-names g c told h file whole is =
+    let v = g.D.Disk.view c.args.self.now.disk in
+    let w = g.D.Disk.view c.commit_staged.new.self.disk in
+    let ns = c.args.self.now.ledger.next_store in
+    more_time (Bears h.kept.base ns (file.name.number + 1)) 4 11 v w (omega arith)
+    (weaker (Bears h.kept.base ns file.name.number) (Bears h.kept.base ns (file.name.number + 1)) 4 v w (λ J bears. bears_on h.kept.base ns ns file.name.number (file.name.number + 1) J (omega arith) (λ r. omega arith) bears)
+    (c.commit_staged.ensures.names told h file whole is))
+
+pub returns-clause-names : goal.returns-clause-names
+returns-clause-names g c told h file whole is =
+    let u = g.D.Disk.view c.args.self.now.disk in
+    let v = g.D.Disk.view c.commit_staged.new.self.disk in
+    let w = g.D.Disk.view c.roll_committed.new.self.disk in
+    let ns = c.args.self.now.ledger.next_store in
+    let now = c.in_ok-commit_staged.ensures.file file is in
+    let number : now.0.name.number ≡ file.name.number = ap (λ (n : Name). n.number) now.2 in
+    let stores : c.commit_staged.new.self.ledger.next_store ≡ ns = ap (λ (b : Books). b.next_store) c.in_ok-commit_staged.ensures.synced in
+    joined (Bears h.kept.base ns (file.name.number + 1)) 4 7 u v w
+    (weaker (Bears h.kept.base ns file.name.number) (Bears h.kept.base ns (file.name.number + 1)) 4 u v (λ J bears. bears_on h.kept.base ns ns file.name.number (file.name.number + 1) J (omega arith) (λ r. omega arith) bears)
+    (c.commit_staged.ensures.names told h file whole is))
+    (subst (λ (p : List ℕ × ℕ). Throughout (Bears h.kept.base p.0 (p.1 + 1)) 7 v w) (λ i. (stores i, number i))
+    (c.roll_committed.ensures.names told (committed_in h) now.0 (c.in_ok-commit_staged.ensures.committed told h whole) now.1))

@@ -1,8 +1,11 @@
-use Rattle.std.proofs.Common.{◌≡◌, ◌+◌, refl, subst}
+use Rattle.std.proofs.Common.{◌≡◌, ◌+◌, [], refl, subst, arith}
+use Rattle.disk_images.proofs.Moments.{at_once, more_time}
 use Rattle.std.proofs.Math.Logic.{∥∥₁_map}
 use Rattle.log_file.specs.Open.{OpenLog}
+use Rattle.log_device.specs.Bears.{Bears}
+use Rattle.log_device.specs.Opened.{log_number}
 use Rattle.log_device.proofs.Numbering.{same_file}
-use Rattle.log_device.proofs.Starting.{still_moments}
+use Rattle.log_device.proofs.Starting.{still_moments, names_found}
 use Rattle.log_device.proofs.device.Device.start.Goals as goal
 
 pub returns-in_default-clause-any_moment : goal.returns-in_default-clause-any_moment
@@ -18,7 +21,7 @@ pub returns-in-Ok-first_log-clause-started : goal.returns-in-Ok-first_log-clause
 returns-in-Ok-first_log-clause-started g c told flushed opened = record {
   file = c.in-Ok-first_log.log;
   is = refl;
-  keeps = c.in-Ok-first_log.ensures.kept told c.args.regions.now flushed c.in-Ok.ledger.next_store opened c.in-Ok.ensures.next_store;
+  keeps = c.in-Ok-first_log.ensures.kept told c.args.regions.now flushed c.in-Ok.ledger.next_store c.requires.regions opened c.in-Ok.ensures.next_store;
   counted = c.in-Ok.ensures.counted (g.D.Disk.view c.args.disk).files flushed opened.marks opened.no_logs opened.flushed_of;
 }
 
@@ -28,3 +31,16 @@ returns-in-Ok-first_log-clause-number g c told flushed last opened greatest file
 
 pub returns-in-Err-clause-any_moment : goal.returns-in-Err-clause-any_moment
 returns-in-Err-clause-any_moment g c told flushed opened = c.first_log.ensures.any_moment told c.args.regions.now flushed opened
+
+pub returns-in_default-clause-names : goal.returns-in_default-clause-names
+returns-in_default-clause-names g c told flushed last opened greatest =
+    let u = g.D.Disk.view c.args.disk in
+    more_time (Bears u.files [] (last + 1)) 0 4 u u (omega arith)
+    (at_once (Bears u.files [] (last + 1)) u
+    (names_found u c.args.regions.now flushed opened (g.met.D.Disk.is_true c.args.disk told) [] (last + 1) (λ m there. let low = greatest.bound (log_number m) (m, there, refl) in omega (arith, low))))
+
+pub returns-in-Ok-first_log-clause-names : goal.returns-in-Ok-first_log-clause-names
+returns-in-Ok-first_log-clause-names g c told flushed last opened greatest = c.first_log.ensures.names told c.args.regions.now flushed last opened greatest
+
+pub returns-in-Err-clause-names : goal.returns-in-Err-clause-names
+returns-in-Err-clause-names g c told flushed last opened greatest = c.first_log.ensures.names told c.args.regions.now flushed last opened greatest

@@ -1,21 +1,26 @@
-use Rattle.std.proofs.Common.{◌≡◌, ◌+◌, ℕ, List, [], Err, get_or, refl, sym, ap, ◌∙◌, subst, arith}
+use Rattle.std.proofs.Common.{◌≡◌, ◌+◌, ℕ, List, [], length, Err, get_or, refl, sym, ap, ◌∙◌, subst, arith}
 use Rattle.std.specs.Prelude.{sum}
 use Rattle.std.proofs.Math.Logic.{∥∥₁_elim}
 use Rattle.std.proofs.lemmas.List.{get_or-set_same}
 use Rattle.log_model.specs.Files.{content, IsAbsent}
 use Rattle.disk_images.specs.Crash.{Throughout}
+use Rattle.disk_images.specs.OneFile.{IsDurableFile}
 use Rattle.recovery.specs.Kept.{flushed_to}
 use Rattle.log_file.specs.declared.error.FileRefusal.{FileRefusal}
 use Rattle.log_ledger.specs.Counted.{IsCounted}
+use Rattle.flush_snapshot.specs.Cut.{cut_store, ordered_cells}
+use Rattle.store_file.specs.Whole.{IsWholeOrNot}
+use Rattle.log_model.specs.StoreText.{store_text}
 use Rattle.log_ledger.specs.History.{History, flushed_in}
 use Rattle.log_ledger.proofs.DrawnSums.{served_place}
 use Rattle.log_device.specs.Keeps.{Between, store_name}
 use Rattle.log_device.specs.Whole.{IsWhole}
+use Rattle.log_device.proofs.Few.{few_more}
 use Rattle.log_device.proofs.Numbering.{numbered_still}
 use Rattle.log_device.proofs.Whole.{kept_file}
 use Rattle.log_device.proofs.Disk.{absent_by}
 use Rattle.log_device.proofs.Stored.{free_store}
-use Rattle.log_device.proofs.StoreSteps.{stored_moments, stored_kept, still_moments}
+use Rattle.log_device.proofs.StoreSteps.{stored_moments, stored_kept, still_moments, store_names_of}
 use Rattle.log_device.proofs.device.Device.write_store.Goals as goal
 
 pub flushed-from-requires : goal.flushed-from-requires
@@ -80,3 +85,40 @@ returns-in-Err-DiskFault-clause-any_moment g c told h file whole is none puts =
     stored_moments file (g.D.Disk.view c.args.self.now.disk) (g.D.Disk.view c.write_cut.new.disk) h c.args.self.now.ledger (kept_file c.args.self.now (g.D.Disk.view c.args.self.now.disk) h file is whole) whole.counted
     (g.met.D.Disk.is_true c.args.self.now.disk told) c.args.region c.args.cells none puts c.requires.served c.requires.above (c.flushed-from.result + 1) c.drawn-to.result c.next_store.result (ap (λ (n : ℕ). n + 1) c.flushed-from.ensures.number) c.drawn-to.ensures.number c.next_store.ensures.number
     (c.write_cut.ensures.store (λ memory. absurd (cc (sym (c.in-Err-DiskFault.is ∙ ap (λ (e : FileRefusal). Err e) c.in-Err-DiskFault.field-0-is) ∙ memory)))) (c.write_cut.ensures.any_moment told)
+
+pub returns-in-Ok-clause-names : goal.returns-in-Ok-clause-names
+returns-in-Ok-clause-names g c told h file whole is none =
+    let u = g.D.Disk.view c.args.self.now.disk in
+    store_names_of file u (g.D.Disk.view c.write_cut.new.disk) h c.args.self.now.ledger.next_store (kept_file c.args.self.now u h file is whole) c.args.region c.next_store.result c.requires.served c.next_store.ensures.number
+    (IsWholeOrNot (store_text (cut_store (store_name c.args.region c.next_store.result) (c.flushed-from.result + 1) c.drawn-to.result c.args.cells))) (7 + length (ordered_cells c.args.cells)) (c.write_cut.ensures.any_moment told)
+
+pub returns-in-Err-Memory-clause-names : goal.returns-in-Err-Memory-clause-names
+returns-in-Err-Memory-clause-names g c told h file whole is none =
+    let u = g.D.Disk.view c.args.self.now.disk in
+    store_names_of file u (g.D.Disk.view c.write_cut.new.disk) h c.args.self.now.ledger.next_store (kept_file c.args.self.now u h file is whole) c.args.region c.next_store.result c.requires.served c.next_store.ensures.number
+    (IsWholeOrNot (store_text (cut_store (store_name c.args.region c.next_store.result) (c.flushed-from.result + 1) c.drawn-to.result c.args.cells))) (7 + length (ordered_cells c.args.cells)) (c.write_cut.ensures.any_moment told)
+
+pub returns-in-Err-DiskFault-clause-names : goal.returns-in-Err-DiskFault-clause-names
+returns-in-Err-DiskFault-clause-names g c told h file whole is none =
+    let u = g.D.Disk.view c.args.self.now.disk in
+    store_names_of file u (g.D.Disk.view c.write_cut.new.disk) h c.args.self.now.ledger.next_store (kept_file c.args.self.now u h file is whole) c.args.region c.next_store.result c.requires.served c.next_store.ensures.number
+    (IsWholeOrNot (store_text (cut_store (store_name c.args.region c.next_store.result) (c.flushed-from.result + 1) c.drawn-to.result c.args.cells))) (7 + length (ordered_cells c.args.cells)) (c.write_cut.ensures.any_moment told)
+
+pub returns-in-Ok-clause-few : goal.returns-in-Ok-clause-few
+returns-in-Ok-clause-few g c limit few =
+    let old = c.args.self.now.ledger in
+    let order = c.requires.order in
+    few_more limit old c.flush.new.self c.args.region (get_or old.drawn c.args.region 0) order (served_place old c.args.region order c.requires.served)
+    c.flush.ensures.next_store c.flush.ensures.stored (let low = (order.regions c.args.region).stored in omega (arith, low, c.requires.above)) few
+
+pub returns-in-Ok-clause-store : goal.returns-in-Ok-clause-store
+returns-in-Ok-clause-store g c told =
+    let name = store_name c.args.region c.next_store.result in
+    let store = cut_store name (c.flushed-from.result + 1) c.drawn-to.result c.args.cells in
+    record {
+      store = store;
+      region = refl;
+      from = ap (λ (n : ℕ). n + 1) c.flushed-from.ensures.number;
+      to = refl;
+      file = subst (λ (n : ℕ). IsDurableFile (g.D.Disk.view c.write_cut.new.disk) (store_name c.args.region n) (store_text store)) c.next_store.ensures.number (c.in-Ok.ensures.stored told);
+    }

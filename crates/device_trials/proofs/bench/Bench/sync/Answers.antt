@@ -1,0 +1,14 @@
+use Rattle.std.proofs.Common.{◌≡◌, IsErr, IsTrue, sym, subst}
+use Rattle.std.proofs.Math.Logic.{∥∥₁_map, ∥∥₁_map₂}
+use Rattle.log_ledger.specs.History.{History, committed_in, staged_in}
+use Rattle.log_device.specs.declared.device.Device.{Device}
+use Rattle.log_device.specs.Whole.{IsWhole, IsBroken, disk_of}
+use Rattle.device_trials.proofs.Held.{on_ok, on_err, by_answer, roll_keeps, flush_keeps, archive_keeps}
+use Rattle.device_trials.proofs.bench.Bench.sync.Goals as goal
+
+pub invariant_of-self : goal.invariant_of-self
+invariant_of-self g c = record {
+  kept = λ told whole.
+      ∥∥₁_map (c.args.self.now.kept told (λ broken. whole (subst (λ (d : Device g.row.D.Denot). IsBroken d) (sym (c.sync.ensures.stays broken)) broken)))
+      (λ r. (committed_in r.0, on_ok c.sync.result (c.sync.ensures.committed told r.0 r.1) (λ err. whole (c.sync.ensures.broken.0 err))));
+}

@@ -1,0 +1,148 @@
+//! Devices on an empty disk, and the entries that they are given.
+
+ghost use Rattle.std.specs.Prelude.{◌≡◌, ◌≤◌, ◌<◌, ◌^◌, [], IfOk, get_or};
+ghost use Rattle.log_model.specs.Entry.{Entry, IsEntry, entry_frame};
+ghost use Rattle.log_ledger.specs.Books.{IsServed};
+ghost use Rattle.log_device.specs.Whole.{books_of};
+
+use crate::bench::Bench;
+use disk_fakes::{Fail, MemDisk};
+use disk_images::{Name, NameKind};
+use entry_frame::encode_entry;
+use kv_cell::{Batch, Cell};
+use log_device::{DeviceFlush, DeviceRefusal, RegionBase, Truck};
+use std::alloc::Global;
+use std::test::Fail as TestFail;
+
+/// Regions 1 and 2, of which nothing is stored.
+pub(crate) const TWO_REGIONS: [RegionBase; 2] = [
+    RegionBase {
+        region: 1,
+        flushed: 0,
+        next_store: 1,
+    },
+    RegionBase {
+        region: 2,
+        flushed: 0,
+        next_store: 1,
+    },
+];
+
+pub(crate) const fn log(number: u64) -> Name {
+    Name {
+        kind: NameKind::Log,
+        region: 0,
+        number,
+    }
+}
+
+pub(crate) const fn store(region: u32, number: u64) -> Name {
+    Name {
+        kind: NameKind::Store,
+        region,
+        number,
+    }
+}
+
+/// A device with regions 1 and 2 on an empty disk whose calls of these kinds and numbers fail, or why there is none.
+pub(crate) fn start(
+    alloc: Global,
+    fails: &[Fail],
+) -> Result<Result<Bench<MemDisk>, DeviceRefusal<MemDisk>>, TestFail> {
+    let disk = MemDisk::new(alloc, fails)?;
+    Ok(Bench::start(alloc, disk, &TWO_REGIONS))
+}
+
+/// A device with regions 1 and 2 on an empty disk.
+pub(crate) fn two_regions(alloc: Global) -> Result<Bench<MemDisk>, TestFail> {
+    match start(alloc, &[])? {
+        Ok(bench) => Ok(bench),
+        Err(refusal) => {
+            let why = refusal.why;
+            Err(why)?
+        }
+    }
+}
+
+/// The value that is put into a region: `v` into region 1, `w` into region 2.
+pub(crate) fn value_of(region: u32) -> &'static [u8] {
+    if region == 1 { b"v" } else { b"w" }
+}
+
+/// One put of row `r`, column `f:q`, with the edit's number as timestamp, so that edits 1 of region 1 are one and the same.
+pub(crate) fn one_put(alloc: Global, region: u32, number: u64) -> Result<Batch, TestFail> {
+    let value = value_of(region);
+    let cell = Cell::new(alloc, b"r", b"f", b"q", number, 4, value)
+        .ok()
+        .ok_or("within the limits")?;
+    let mut cells = Vec::new(alloc);
+    cells.push(cell)?;
+    Ok(Batch::new(cells).ok().ok_or("a batch")?)
+}
+
+/// A lone truck with an entry of these cells, written at 1000.
+pub(crate) fn truck(
+    alloc: Global,
+    region: u32,
+    number: u64,
+    batch: &Batch,
+) -> Result<Box<Truck>, TestFail>
+    requires given { 1 ≤ region }
+    requires region { region ≤ 64 }
+    requires number_given { 1 ≤ number }
+    requires number { number < 2 ^ 48 }
+    ensures region { IfOk result (λ t. t.value.region ≡ region) }
+    ensures number { IfOk result (λ t. t.value.number ≡ number) }
+    ensures alone { IfOk result (λ t. t.value.behind ≡ []) }
+    ensures entry { IfOk result (λ t. ∥ ((e : Entry) × IsEntry e × (t.value.bytes ≡ entry_frame e) × (e.region ≡ t.value.region) × (e.number ≡ t.value.number)) ∥₁) }
+{
+    let bytes = encode_entry(alloc, region, number, 1000, batch)?;
+    let truck = Truck {
+        region,
+        number,
+        bytes,
+        next: None,
+    };
+    Ok(Box::new(alloc, truck)?)
+}
+
+/// The number of the region's next edit, where the device has the region.
+pub(crate) fn next_number(bench: &Bench<MemDisk>, region: u32) -> Result<u64, TestFail>
+    ensures region { IfOk result (λ n. (1 ≤ region) × (region ≤ 64)) }
+    ensures served { IfOk result (λ n. IsServed (books_of bench.now.device) region) }
+    ensures number { IfOk result (λ n. (1 ≤ n) × (n < 2 ^ 48)) }
+    ensures above { IfOk result (λ n. get_or (books_of bench.now.device).drawn region 0 < n) }
+{
+    if region == 0 || region > 64 || bench.device.ledger().next_store(region) == 0 {
+        Err("no such region")?
+    }
+    let number = bench.device.ledger().drawn(region) + 1;
+    if number >= 1 << 48 {
+        Err("no number is left")?
+    }
+    Ok(number)
+}
+
+/// Stages the next edit of a region, and gives its number, or None where the stage is full.
+pub(crate) fn stage_put(
+    alloc: Global,
+    bench: &mut Bench<MemDisk>,
+    region: u32,
+) -> Result<Option<u64>, TestFail> {
+    let number = next_number(bench, region)?;
+    let batch = one_put(alloc, region, number)?;
+    match bench.stage(truck(alloc, region, number, &batch)?) {
+        Ok(()) => Ok(Some(number)),
+        Err(_) => Ok(None),
+    }
+}
+
+/// Flushes a region that the device has.
+pub(crate) fn flush(
+    alloc: Global,
+    bench: &mut Bench<MemDisk>,
+    region: u32,
+) -> Result<Result<u64, DeviceFlush>, TestFail> {
+    next_number(bench, region)?;
+    Ok(bench.flush(alloc, region))
+}

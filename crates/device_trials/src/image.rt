@@ -1,0 +1,213 @@
+//! What a crash leaves, read back.
+
+ghost use Rattle.std.specs.Prelude.{◌<◌, IfOk};
+
+use crate::entries::value_of;
+use crate::script::EDITS;
+use disk_fakes::MemDisk;
+use disk_images::{Disk, Name, NameKind};
+use kv_cell::Cell;
+use log_file::{LogText, read_log};
+use std::alloc::Global;
+use std::process::Abort;
+use std::test::Fail as TestFail;
+use store_file::{StoreText, read_store};
+
+/// What stood after a call: the clock, how many edits were staged, and what was synced of regions 1 and 2.
+#[derive(Clone, Copy, Debug, PartialEq, Eq)]
+pub(crate) struct Mark {
+    pub(crate) clock: u64,
+    pub(crate) staged: usize,
+    pub(crate) synced: [u64; 2],
+}
+
+/// What the files of an image recover to: which of the edits, and up to which number each region is flushed.
+#[derive(Drop)]
+struct Content {
+    edits: [bool; 5],
+    flushed: [u64; 2],
+    // whether the last log that was read has no end frame
+    is_open: bool,
+}
+
+impl Content {
+    /// Takes note of an edit, which has to be one of those that were staged, with one cell.
+    fn add(&mut self, region: u32, number: u64, cell: &Cell) -> Result<(), TestFail> {
+        if !is_cell_of(region, number, cell) {
+            Err("another cell")?
+        }
+        for (i, edit) in EDITS.iter().enumerate() {
+            if *edit == (region, number) {
+                self.edits[i] = true;
+                return Ok(());
+            }
+        }
+        Err("an edit that was not staged")?
+    }
+
+    /// Takes note of what a store file holds, where it is there.
+    fn add_store(&mut self, alloc: Global, disk: &mut MemDisk, name: Name) -> Result<(), TestFail> {
+        let Some(text) = store_text(alloc, disk, name)? else {
+            return Ok(());
+        };
+        let place = place_of(name.region)?;
+        self.flushed[place] = self.flushed[place].max(text.to);
+        for (number, cell) in text.cells.as_slice() {
+            self.add(name.region, *number, cell)?;
+        }
+        Ok(())
+    }
+
+    /// Takes note of the entries of a log that no store covers. It has no byte before the log before it has its end frame.
+    fn add_log(&mut self, alloc: Global, disk: &mut MemDisk, name: Name) -> Result<(), TestFail> {
+        let is_empty = disk.size(name)? == Some(0);
+        if self.is_open && !is_empty {
+            Err("a log was begun before the last one was ended")?
+        }
+        let text = log_text(alloc, disk, name)?;
+        self.is_open = text.ended.is_none();
+        for entry in text.entries.as_slice() {
+            let place = place_of(entry.region)?;
+            if entry.number > self.flushed[place] {
+                let cell = entry.batch.as_slice().first().ok_or("a cell")?;
+                self.add(entry.region, entry.number, cell)?;
+            }
+        }
+        Ok(())
+    }
+
+    /// How many edits there are, which have to be the first ones.
+    fn count(&self) -> Result<usize, TestFail> {
+        let mut count: usize = 0;
+        for (i, is_there) in self.edits.iter().enumerate() {
+            if *is_there {
+                if i != count {
+                    Err("an edit is there without one before it")?
+                }
+                count = i + 1;
+            }
+        }
+        Ok(count)
+    }
+}
+
+/// What a log that is there holds.
+fn log_text(alloc: Global, disk: &mut MemDisk, name: Name) -> Result<LogText, TestFail> {
+    match disk.bytes(name) {
+        Some(_) => {}
+        None => Err("no such file")?,
+    }
+    Ok(read_log(alloc, disk, name)?)
+}
+
+/// What a store file that is there holds.
+fn store_text(
+    alloc: Global,
+    disk: &mut MemDisk,
+    name: Name,
+) -> Result<Option<StoreText>, TestFail> {
+    match disk.bytes(name) {
+        Some(_) => {}
+        None => Err("no such file")?,
+    }
+    Ok(read_store(alloc, disk, name)?)
+}
+
+/// What a crash at this moment may leave.
+fn crash_at(alloc: Global, disk: &MemDisk, moment: u64, choice: u64) -> Result<MemDisk, TestFail> {
+    if moment > disk.clock() {
+        Err("no such moment")?
+    }
+    Ok(disk.crash(alloc, moment, choice)?)
+}
+
+fn place_of(region: u32) -> Result<usize, TestFail>
+    ensures { IfOk result (λ place. place < 2) }
+{
+    match region {
+        1 => Ok(0),
+        2 => Ok(1),
+        _ => Err("another region")?,
+    }
+}
+
+fn is_cell_of(region: u32, number: u64, cell: &Cell) -> bool {
+    cell.row.as_slice() == b"r".as_slice()
+        && cell.family.as_slice() == b"f".as_slice()
+        && cell.qualifier.as_slice() == b"q".as_slice()
+        && cell.ts == number
+        && cell.kind.code() == 4
+        && cell.value.as_slice() == value_of(region)
+}
+
+/// How many of the edits the files of an image recover to.
+fn recovered(alloc: Global, disk: &mut MemDisk) -> Result<usize, TestFail> {
+    let names = disk.names(alloc)?;
+    let mut content = Content {
+        edits: [false; 5],
+        flushed: [0; 2],
+        is_open: false,
+    };
+    for name in names.as_slice() {
+        if name.kind == NameKind::Store {
+            content.add_store(alloc, disk, *name)?;
+        }
+    }
+    for name in names.as_slice() {
+        if name.kind == NameKind::Log {
+            content.add_log(alloc, disk, *name)?;
+        }
+    }
+    content.count()
+}
+
+/// How many of the edits have to be there so that all that was synced by this moment is.
+fn fewest_at(marks: &[Mark], moment: u64) -> usize {
+    let mut synced = [0; 2];
+    for mark in marks {
+        if mark.clock <= moment {
+            synced = mark.synced;
+        }
+    }
+    let mut fewest = 0;
+    for (i, (region, number)) in EDITS.iter().enumerate() {
+        if *number <= synced[if *region == 1 { 0 } else { 1 }] {
+            fewest = i + 1;
+        }
+    }
+    fewest
+}
+
+/// How many of the edits were staged before the call that came to this moment.
+fn most_at(marks: &[Mark], moment: u64) -> usize {
+    let mut staged = 0;
+    for mark in marks {
+        if mark.clock < moment {
+            staged = mark.staged;
+        }
+    }
+    staged
+}
+
+/// Asserts that a crash at this moment or at a later one leaves the first edits, with all that was synced by then.
+pub(crate) fn assert_images<R: Abort>(
+    rt: &R,
+    alloc: Global,
+    disk: &MemDisk,
+    marks: &[Mark],
+    first: u64,
+) -> Result<(), TestFail> {
+    for moment in first..disk.clock().saturating_add(1) {
+        let fewest = fewest_at(marks, moment);
+        let most = most_at(marks, moment);
+        for choice in 0..4 {
+            let mut image = crash_at(alloc, disk, moment, choice)?;
+            let count = recovered(alloc, &mut image)?;
+            assert!(rt;
+                fewest <= count && count <= most,
+                "moment {moment} choice {choice}: {fewest} {count} {most}"
+            );
+        }
+    }
+    Ok(())
+}
