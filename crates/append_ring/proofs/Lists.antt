@@ -45,7 +45,7 @@ pub end_of-snoc : {T : Type 0} (number : T → Option ℕ) (k : ℕ) (xs : List 
 end_of-snoc number k [] x = refl
 end_of-snoc number k (y ∷ ys) x = end_of-snoc number (next_or number k (number y)) ys x
 
-module _ {T : Type 0} (place : T → ℕ) (number : T → Option ℕ) (is_whole : T → Type 0) (in_order : List T → Type 0) where
+module _ {T : Type 0} (place : T → ℕ) (number : T → Option ℕ) (is_whole : T → Type 0) (in_order : List ℕ → List T → Type 0) where
   pub runs_snoc : (n k : ℕ) (xs : List T) (x : T) → Runs place number is_whole in_order n k xs → IsGood place number is_whole in_order n x → Follows number (end_of number k xs) x → Runs place number is_whole in_order n k (xs ++ x ∷ [])
   runs_snoc n k [] x r good next = (good, next, tt)
   runs_snoc n k (y ∷ ys) x r good next = (r.0, r.1, runs_snoc n (next_or number k (number y)) ys x r.2 good next)

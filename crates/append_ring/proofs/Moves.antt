@@ -12,7 +12,7 @@ use Rattle.append_ring.specs.declared.knows.Knows.{Knows}
 use Rattle.append_ring.specs.Rules.{knows, newcomer, nobody, based, one_more, next_region, compared, HasPushed, base_of, of, Totals, end_of, Follows, IsGood, Runs, Fits, Kept, HasPopped, Possible}
 use Rattle.append_ring.proofs.Lists.{put, put_same, put_other, at_snoc_end, of-append, of_here, of_else, runs_snoc, runs_mid}
 
-module _ {T : Type 0} (place : T → ℕ) (number : T → Option ℕ) (is_whole : T → Type 0) (in_order : List T → Type 0) (order_empty : in_order []) (order_front : (xs ys : List T) → in_order (xs ++ ys) → in_order xs) where
+module _ {T : Type 0} (place : T → ℕ) (number : T → Option ℕ) (is_whole : T → Type 0) (in_order : List ℕ → List T → Type 0) (order_empty : (lasts : List ℕ) → in_order lasts []) (order_front : (lasts : List ℕ) (xs ys : List T) → in_order lasts (xs ++ ys) → in_order lasts xs) where
   abbrev V : Type 0
   V = Knows T
 
@@ -39,7 +39,7 @@ module _ {T : Type 0} (place : T → ℕ) (number : T → Option ℕ) (is_whole 
     popped = [];
     flows = λ r. refl;
     runs = λ r. tt;
-    ordered = λ r. order_empty;
+    ordered = λ r. order_empty [];
     unmade = λ r _. refl;
     zeroth = refl;
     each = one;
@@ -49,7 +49,7 @@ module _ {T : Type 0} (place : T → ℕ) (number : T → Option ℕ) (is_whole 
       one zero u e = subst (Fits place number is_whole in_order [] 0 0 (λ _. 0) (λ _. []) [] 0) (some-injective newcomer u e) record { writes = λ no. absurd (no refl); reads = λ _. (refl, refl, refl, refl) }
       one (suc j) u e = absurd (some-ne-none u (sym e))
 
-  pub pushes : (room pass : ℕ) (v : V) (x : T) → 0 < v.region → v.region ≤ length v.lasts → place x ≡ v.region → is_whole x → in_order (v.pushed ++ x ∷ []) → Follows number (end_of number (base_of v.lasts v.region) v.pushed) x
+  pub pushes : (room pass : ℕ) (v : V) (x : T) → 0 < v.region → v.region ≤ length v.lasts → place x ≡ v.region → is_whole x → in_order v.lasts (v.pushed ++ x ∷ []) → Follows number (end_of number (base_of v.lasts v.region) v.pushed) x
       → Pushes K room pass v x (HasPushed v x)
   pushes room pass v x pos low at whole order next items views _ h seen =
       let r : ℕ = v.region in
@@ -81,8 +81,8 @@ module _ {T : Type 0} (place : T → ℕ) (number : T → Option ℕ) (is_whole 
               (λ e. subst (λ (j : ℕ). Runs place number is_whole in_order (length h.lasts) (base_of h.lasts j) (pushed j)) (sym e) (subst (Runs place number is_whole in_order (length h.lasts) (base_of h.lasts r)) (sym (put_same h.pushed r more)) ran))
               (λ ne. subst (Runs place number is_whole in_order (length h.lasts) (base_of h.lasts k)) (sym (put_other h.pushed r more k ne)) (h.runs k));
           ordered = λ k. dite (ℕ_discrete k r)
-              (λ e. subst (λ (j : ℕ). in_order (pushed j)) (sym e) (subst in_order (sym (put_same h.pushed r more)) order))
-              (λ ne. subst in_order (sym (put_other h.pushed r more k ne)) (h.ordered k));
+              (λ e. subst (λ (j : ℕ). in_order h.lasts (pushed j)) (sym e) (subst (in_order h.lasts) (sym (put_same h.pushed r more)) (subst (λ (l : List ℕ). in_order l more) f.2 order)))
+              (λ ne. subst (in_order h.lasts) (sym (put_other h.pushed r more k ne)) (h.ordered k));
           unmade = λ k lt. put_other h.pushed r more k (λ e. let a : r ≤ h.made = f.3 in omega arith) ∙ h.unmade k lt;
           zeroth = put_other h.pushed r more 0 (λ e. omega arith) ∙ h.zeroth;
           each = all_set (Fits place number is_whole in_order h.lasts h.made h.reader h.seat pushed h.popped) views pass w
@@ -129,7 +129,7 @@ module _ {T : Type 0} (place : T → ℕ) (number : T → Option ℕ) (is_whole 
         record {
           good = subst (λ (l : List ℕ). IsGood place number is_whole in_order (length l) x) (sym f.2) ran.0;
           follows = subst (λ (p : List ℕ × List T). Follows number (end_of number (base_of p.0 r) (of place r p.1)) x) (λ i. (sym f.2 i, sym f.1 i)) ran.1;
-          ordered = subst (λ (ps : List T). in_order (of place r (ps ++ x ∷ []))) (sym f.1) (subst in_order (sym tail) (order_front (of place r h.popped ++ x ∷ []) (of place r items) (subst in_order (sym parted ∙ sym (append_assoc (of place r h.popped) (x ∷ []) (of place r items))) (h.ordered r))));
+          ordered = subst (λ (p : List ℕ × List T). in_order p.0 (of place r (p.1 ++ x ∷ []))) (λ i. (sym f.2 i, sym f.1 i)) (subst (in_order h.lasts) (sym tail) (order_front h.lasts (of place r h.popped ++ x ∷ []) (of place r items) (subst (in_order h.lasts) (sym parted ∙ sym (append_assoc (of place r h.popped) (x ∷ []) (of place r items))) (h.ordered r))));
           oldest = (items, (views, pass, h, seen));
           now = refl;
         },
@@ -158,7 +158,7 @@ module _ {T : Type 0} (place : T → ℕ) (number : T → Option ℕ) (is_whole 
         popped = h.popped;
         flows = h.flows;
         runs = λ r. subst (Runs place number is_whole in_order (length ls) (base_of ls r)) (sym (empty r)) tt;
-        ordered = h.ordered;
+        ordered = λ r. subst (in_order ls) (sym (empty r)) (order_empty ls);
         unmade = h.unmade;
         zeroth = h.zeroth;
         each = λ j u e. ⊎_elim (λ was. all j u was) (λ (t : (j ≡ length vs) × (nobody ≡ u)). subst (F j) t.1 record { writes = λ no. absurd (no refl); reads = λ p. absurd (off p) }) (at_snoc_end vs nobody u j e);

@@ -70,7 +70,7 @@ module _ {T : Type 0} where
     abbrev pub Follows : ℕ → T → Type 0
     Follows k x = FollowsAt k (number x)
 
-  module _ (place : T → ℕ) (number : T → Option ℕ) (is_whole : T → Type 0) (in_order : List T → Type 0) where
+  module _ (place : T → ℕ) (number : T → Option ℕ) (is_whole : T → Type 0) (in_order : List ℕ → List T → Type 0) where
     -- a whole item of one of n regions
     abbrev pub IsGood : ℕ → T → Type 0
     IsGood n x = is_whole x × (0 < place x) × (place x ≤ n)
@@ -95,7 +95,7 @@ module _ {T : Type 0} where
       pub popped : List T
       pub flows : (r : ℕ) → of place r popped ++ of place r items ≡ pushed r
       pub runs : (r : ℕ) → Runs (length lasts) (base_of lasts r) (pushed r)
-      pub ordered : (r : ℕ) → in_order (pushed r)
+      pub ordered : (r : ℕ) → in_order lasts (pushed r)
       pub unmade : (r : ℕ) → made < r → pushed r ≡ []
       pub zeroth : pushed 0 ≡ []
       pub each : (pass : ℕ) (v : Knows T) → get_elem? views pass ≡ some v → Fits lasts made reader seat pushed popped pass v
@@ -108,6 +108,6 @@ module _ {T : Type 0} where
     pub record HasPopped (v : Knows T) (x : T) (w : Knows T) : Type 0 where
       pub good : IsGood (length v.lasts) x
       pub follows : Follows number (end_of number (base_of v.lasts (place x)) (of place (place x) v.popped)) x
-      pub ordered : in_order (of place (place x) (v.popped ++ x ∷ []))
+      pub ordered : in_order v.lasts (of place (place x) (v.popped ++ x ∷ []))
       pub oldest : (items : List T) × Possible v (x ∷ items)
       pub now : w ≡ knows v.region v.pops v.made v.lasts v.pushed (v.popped ++ x ∷ [])

@@ -18,7 +18,7 @@ impl<T: OfRegion> Ring<T> {
         requires ring { pass.old.pass.table_id ≡ self.now.id }
         requires region { T.place item ≡ pass.old.region }
         requires whole { T.is_whole item }
-        requires order { T.in_order ((view pass.old.pass).pushed ++ item ∷ []) }
+        requires order { T.in_order (view pass.old.pass).lasts ((view pass.old.pass).pushed ++ item ∷ []) }
         requires follows { Follows T.number (last_pushed T.number pass.old) item }
         ensures same { (pass.new.pass.table_id ≡ pass.old.pass.table_id) × (pass.new.region ≡ pass.old.region) }
         ensures pushed { MatchResult result (λ _. HasPushed (view pass.old.pass) item (view pass.new.pass)) (λ full. (full.item ≡ item) × (view pass.new.pass ≡ view pass.old.pass) × Held self.now.capacity (Possible T.place T.number T.is_whole T.in_order (view pass.old.pass))) }

@@ -13,8 +13,8 @@ pub trait OfRegion {
     /// What has to hold of an item by itself.
     ghost is_whole: { Self → Type 0 };
 
-    /// Which lists of items of one region are in order.
-    ghost in_order: { List Self → Type 0 };
+    /// Which lists of items of one region are in order, where the ring has these numbers before the first drawn ones.
+    ghost in_order: { List ℕ → List Self → Type 0 };
 
     /// The region that the item is of.
     fn region(&self) -> u32
@@ -25,8 +25,8 @@ pub trait OfRegion {
         ensures { result ≡ number self.now };
 
     /// No items are in order.
-    ghost order_empty: { in_order [] };
+    ghost order_empty: { (lasts : List ℕ) → in_order lasts [] };
 
     /// The beginning of a list in order is in order.
-    ghost order_front: { (xs ys : List Self) → in_order (xs ++ ys) → in_order xs };
+    ghost order_front: { (lasts : List ℕ) (xs ys : List Self) → in_order lasts (xs ++ ys) → in_order lasts xs };
 }

@@ -14,7 +14,6 @@ mod opening;
 mod pass;
 mod passes;
 mod ring;
-mod uses;
 
 pub use item::OfRegion;
 pub use knows::Knows;
@@ -27,3 +26,5 @@ pub use ring::{Full, Ring};
 
 #[cfg(test)]
 mod tests;
+#[cfg(test)]
+mod uses;

@@ -24,7 +24,7 @@ impl OfRegion for Stamp {
 
     ghost is_whole = { λ _. Unit {0} };
 
-    ghost in_order = { λ _. Unit {0} };
+    ghost in_order = { λ _ _. Unit {0} };
 
     fn region(&self) -> u32 {
         self.region
@@ -34,9 +34,9 @@ impl OfRegion for Stamp {
         Some(self.number)
     }
 
-    ghost order_empty = { tt };
+    ghost order_empty = { λ lasts. tt };
 
-    ghost order_front = { λ xs ys all. tt };
+    ghost order_front = { λ lasts xs ys all. tt };
 }
 
 /// Pushes an item with the next number. False where the ring was full.

@@ -1,12 +1,12 @@
 -- Lists of numbers read by index, and the views of a table after one is set.
-use Rattle.std.proofs.Common.{◌≡◌, ◌≢◌, ◌⊎◌, ℕ, zero, suc, ◌+◌, ◌<◌, ◌≤◌, true, max, List, [], ◌∷◌, ◌++◌, length, get_or, take, set, refl, sym, ap, ◌∙◌, subst, ⊎_elim, inl, inr, arith, le_refl}
+use Rattle.std.proofs.Common.{◌≡◌, ◌≢◌, ◌⊎◌, ℕ, zero, suc, ◌+◌, ◌<◌, ◌≤◌, true, max, min, List, [], ◌∷◌, ◌++◌, length, get_or, take, set, refl, sym, ap, ◌∙◌, subst, ⊎_elim, inl, inr, arith, le_refl}
 use mathlib.Core.Option.{some, some-injective, some-ne-none}
 use mathlib.Core.Logic.{dite}
 use native.Mathlib.Decide.{ℕ_discrete}
 use lib.ListN.{get_elem?}
 use Rattle.atomic_table.proofs.Lists.{at_set}
 use Rattle.log_berth.specs.declared.known.Known.{Known}
-use Rattle.log_berth.specs.Words.{noted, greater, starts, NoMore, parts_of, HasHolder}
+use Rattle.log_berth.specs.Words.{noted, greater, lesser, starts, NoMore, parts_of, HasHolder}
 use Rattle.atomic_table.proofs.Lists.{set_else}
 
 pub noted_same : (xs : List ℕ) (i x : ℕ) → get_or (noted xs i x) i 0 ≡ x
@@ -38,6 +38,12 @@ greater_at (x ∷ xs) [] zero = omega arith
 greater_at (x ∷ xs) [] (suc i) = omega arith
 greater_at (x ∷ xs) (y ∷ ys) zero = refl
 greater_at (x ∷ xs) (y ∷ ys) (suc i) = greater_at xs ys i
+
+pub lesser_at : (xs ys : List ℕ) (i : ℕ) → get_or (lesser xs ys) i 0 ≡ min (get_or xs i 0) (get_or ys i 0)
+lesser_at [] ys i = omega arith
+lesser_at (x ∷ xs) [] i = omega arith
+lesser_at (x ∷ xs) (y ∷ ys) zero = refl
+lesser_at (x ∷ xs) (y ∷ ys) (suc i) = lesser_at xs ys i
 
 -- the numbers that the first n regions start with
 pub starts_at : (n : ℕ) (xs : List ℕ) (i : ℕ) → i < n → get_or (starts n xs) i 0 ≡ get_or xs i 0

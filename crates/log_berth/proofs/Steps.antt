@@ -12,8 +12,8 @@ use Rattle.atomic_table.specs.Table.{State, Me, step, Act, keeps, takes, gives, 
 use Rattle.atomic_table.proofs.Lists.{at_set, set_here, set_else, exchanged}
 use Rattle.log_berth.specs.declared.known.Known.{Known}
 use Rattle.log_berth.specs.declared.known.Plan.{Plan}
-use Rattle.log_berth.specs.Words.{known, newcomer, nobody, less_one, one_part, saw, missed, fault_set, without_turn, looked, tried, starts, noted, NoMore, Same, parts_of, HasHolder, Fits, Backs, Kept, sees_word, sees_fault, raised, broke, gave, took, informed}
-use Rattle.log_berth.proofs.Numbers.{noted_same, noted_other, noted_each, greater_at, set_elsewhere, set_at, at_front, at_end, at_snoc_end, parts_set, parts_snoc, parts_two, each_set, had, holder_set, starts_below}
+use Rattle.log_berth.specs.Words.{known, newcomer, nobody, less_one, one_part, saw, missed, fault_set, without_turn, looked, tried, starts, noted, NoMore, Same, parts_of, HasHolder, Fits, Backs, Kept, sees_word, sees_fault, raised, broke, gave, took, greater, lesser, reached, informed}
+use Rattle.log_berth.proofs.Numbers.{noted_same, noted_other, noted_each, greater_at, lesser_at, set_elsewhere, set_at, at_front, at_end, at_snoc_end, parts_set, parts_snoc, parts_two, each_set, had, holder_set, starts_below}
 
 module _ {W : Type 0} (numbers_of : W → List ℕ) (is_broken : W → Bool) where
   abbrev St : Type 0
@@ -73,12 +73,12 @@ module _ {W : Type 0} (numbers_of : W → List ℕ) (is_broken : W → Bool) whe
       let ends : (b : Bool) → v.broken ≡ b → Same (cond b v.last (take n s.words)) (take n s.words) = elim [ true ↦ (λ e. (f.stands e).1) | false ↦ (λ e i. refl) ] in
       let fits : Fits (take n s.words) x w = record { seen = f.seen; stands = λ _. (is, ends v.broken refl); exact = λ t. ((f.exact t).0, refl, (f.exact t).2) } in
       let reached : NoMore v.seen last = λ i. subst (λ (y : ℕ). get_or v.seen i 0 ≤ y) (sym (ends v.broken refl i)) (f.seen i) in
-      (w, keeps, tt, looks k s n id v w kept at refl refl fits, (refl, refl, refl, refl, refl, refl, (λ b. (is, ap (λ (c : Bool). cond c v.last (take n s.words)) b)), λ _. reached)))
+      (w, keeps, tt, looks k s n id v w kept at refl refl fits, (refl, refl, refl, refl, refl, refl, (λ b. (is, ap (λ (c : Bool). cond c v.last (take n s.words)) b)), (λ _. reached), λ t. sym (f.exact t).1)))
       (λ no.
       let not : (x == 1) ≡ false = ne_eqb x 1 no in
       let w : Known = known v.parts v.turn v.seen (x == 1) v.last (looked v.tally) in
       let fits : Fits (take n s.words) x w = record { seen = f.seen; stands = λ b. absurd (true≢false (sym b ∙ not)); exact = λ t. ((f.exact t).0, refl, (f.exact t).2) } in
-      (w, keeps, tt, looks k s n id v w kept at refl refl fits, (refl, refl, refl, refl, refl, refl, (λ b. absurd (no (f.stands b).0)), λ set. absurd (no set))))
+      (w, keeps, tt, looks k s n id v w kept at refl refl fits, (refl, refl, refl, refl, refl, refl, (λ b. absurd (no (f.stands b).0)), (λ set. absurd (no set)), λ t. sym (f.exact t).1)))
 
   -- the numbers or the fault word change, by the seat that has the turn
   pub writes : (k : ℕ × ℕ) (s : St) (i y id : ℕ) (v w : Known) → K k s → i < k.0 + 1 → get_elem? s.views id ≡ some v → v.turn ≡ true → w.turn ≡ true → w.parts ≡ v.parts
@@ -244,16 +244,26 @@ module _ {W : Type 0} (numbers_of : W → List ℕ) (is_broken : W → Bool) whe
           (λ e. here (wb (ap (λ (y : Known). y.turn) (some-injective w h.1 (sym was ∙ (ap (λ (i : ℕ). get_elem? s.views i) (sym e) ∙ h.2))) ∙ h.3)))
           (λ ne'. (h.0, h.1, set_else (set s.views id both) other h.0 nobody ne' ∙ (set_else s.views id h.0 both ne ∙ h.2), h.3)))
 
-  stands_or : (fault : ℕ) (ns xs ys : List ℕ) (b c : Bool) → (b ≡ true → (fault ≡ 1) × Same xs ns) → (c ≡ true → (fault ≡ 1) × Same ys ns) → (b || c) ≡ true → (fault ≡ 1) × Same (cond b xs ys) ns
-  stands_or fault ns xs ys true c p q e = p refl
+  stands_or : (fault : ℕ) (ns xs ys : List ℕ) (b c : Bool) → (b ≡ true → (fault ≡ 1) × Same xs ns) → (c ≡ true → (fault ≡ 1) × Same ys ns) → (b || c) ≡ true → (fault ≡ 1) × Same (cond b (cond c (lesser xs ys) xs) ys) ns
+  stands_or fault ns xs ys true true p q e = ((p refl).0, λ i. let a : get_or xs i 0 ≡ get_or ns i 0 = (p refl).1 i in let b : get_or ys i 0 ≡ get_or ns i 0 = (q refl).1 i in omega (arith, lesser_at xs ys i))
+  stands_or fault ns xs ys true false p q e = p refl
   stands_or fault ns xs ys false true p q e = q refl
   stands_or fault ns xs ys false false p q e = absurd (true≢false (sym e))
+
+  -- the words are at or above what a seat knows that they had reached
+  reached_below : (fault : ℕ) (ns xs ys : List ℕ) (b : Bool) → NoMore xs ns → (b ≡ true → (fault ≡ 1) × Same ys ns) → NoMore (cond b (greater xs ys) xs) ns
+  reached_below fault ns xs ys true p q i = let a : get_or xs i 0 ≤ get_or ns i 0 = p i in let b : get_or ys i 0 ≡ get_or ns i 0 = (q refl).1 i in omega (arith, greater_at xs ys i)
+  reached_below fault ns xs ys false p q i = p i
 
   -- seats without the turn
   pub merges : (k : ℕ × ℕ) (id : ℕ) (v : Known) (other : ℕ) (w : Known) → v.turn ≡ false → w.turn ≡ false → Joins (K k) id v other w (informed v w) nobody
   merges k id v other w off off' s kept at apart there =
       unites k id v other w (informed v w) s kept at apart there refl (λ t. inl t) (λ t. t) (λ t. absurd (true≢false (sym t ∙ off'))) (λ f g. record {
-        seen = λ i. let a : get_or v.seen i 0 ≤ get_or (take k.0 s.words) i 0 = f.seen i in let b : get_or w.seen i 0 ≤ get_or (take k.0 s.words) i 0 = g.seen i in omega (arith, greater_at v.seen w.seen i);
+        seen = λ i.
+            let ns : List ℕ = take k.0 s.words in
+            let a : get_or (reached v) i 0 ≤ get_or ns i 0 = reached_below (get_or s.words k.0 0) ns v.seen v.last v.broken f.seen f.stands i in
+            let b : get_or (reached w) i 0 ≤ get_or ns i 0 = reached_below (get_or s.words k.0 0) ns w.seen w.last w.broken g.seen g.stands i in
+            omega (arith, greater_at (reached v) (reached w) i);
         stands = stands_or (get_or s.words k.0 0) (take k.0 s.words) v.last w.last v.broken w.broken f.stands g.stands;
         exact = λ t. absurd (true≢false (sym t ∙ off));
       })

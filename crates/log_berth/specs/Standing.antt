@@ -2,7 +2,7 @@
 use Rattle.std.specs.Prelude.{◌≡◌, ℕ, Bool, true, false, List, [], ◌∷◌}
 use Rattle.atomic_table.specs.Seated.{TableId}
 use Rattle.log_berth.specs.declared.known.Known.{Known}
-use Rattle.log_berth.specs.Words.{known, nobody, idle, NoMore}
+use Rattle.log_berth.specs.Words.{known, nobody, idle, NoMore, Same, Informs}
 
 -- of which berth a seat is, and what it knows
 pub record Standing : Type 0 where
@@ -33,7 +33,16 @@ abbrev pub AreBack : TableId → List Standing → Type 0
 AreBack id [] = Unit {0}
 AreBack id (s ∷ ss) = ((s.berth ≡ id) × (s.knows.turn ≡ false)) × AreBack id ss
 
--- what each seat had seen is not above these numbers, and a fault that it had seen is there
+-- what the seat had seen is not above these numbers, and where it had seen the fault they are those that it saw last
+pub record Saw (seat : Standing) (numbers : List ℕ) (broken : Bool) : Type 0 where
+  pub seen : NoMore seat.knows.seen numbers
+  pub fault : seat.knows.broken ≡ true → (broken ≡ true) × Same seat.knows.last numbers
+
 abbrev pub AllSaw : List Standing → List ℕ → Bool → Type 0
 AllSaw [] numbers broken = Unit {0}
-AllSaw (s ∷ ss) numbers broken = (NoMore s.knows.seen numbers × (s.knows.broken ≡ true → broken ≡ true)) × AllSaw ss numbers broken
+AllSaw (s ∷ ss) numbers broken = Saw s numbers broken × AllSaw ss numbers broken
+
+-- who knows this knows at least what each seat does
+abbrev pub InformAll : List Standing → Known → Type 0
+InformAll [] v = Unit {0}
+InformAll (s ∷ ss) v = Informs s.knows v × InformAll ss v

@@ -1,6 +1,6 @@
 -- The words of a berth, the ware in its slot and what each seat knows.
 -- The words are the synced number of each region, region 1 first, then the fault word, then the turn word.
-use Rattle.std.specs.Prelude.{◌≡◌, ◌≢◌, ℕ, zero, suc, ◌+◌, ◌-◌, ◌<◌, ◌≤◌, ◌==◌, ◌||◌, max, Bool, true, false, cond, List, [], ◌∷◌, length, take, slice_index, Option, Some}
+use Rattle.std.specs.Prelude.{◌≡◌, ◌≢◌, ℕ, zero, suc, ◌+◌, ◌-◌, ◌<◌, ◌≤◌, ◌==◌, ◌||◌, max, min, Bool, true, false, cond, List, [], ◌∷◌, length, take, slice_index, Option, Some}
 use mathlib.Core.Option.{some}
 use lib.ListN.{get_elem?}
 use Rattle.atomic_table.specs.Table.{State, Me, Step, rest}
@@ -27,6 +27,12 @@ abbrev pub greater : List ℕ → List ℕ → List ℕ
 greater [] ys = ys
 greater (x ∷ xs) [] = x ∷ xs
 greater (x ∷ xs) (y ∷ ys) = max x y ∷ greater xs ys
+
+-- the lesser number at each place
+abbrev pub lesser : List ℕ → List ℕ → List ℕ
+lesser [] ys = []
+lesser (x ∷ xs) [] = []
+lesser (x ∷ xs) (y ∷ ys) = min x y ∷ lesser xs ys
 
 -- the numbers of the first n regions
 abbrev pub starts : ℕ → List ℕ → List ℕ
@@ -78,9 +84,22 @@ fault_set v = known v.parts true v.seen true v.seen v.tally
 abbrev pub without_turn : Known → Known
 without_turn v = known v.parts false v.seen v.broken v.last v.tally
 
+-- what the words had reached: they stand at the last ones once the fault was seen
+abbrev pub reached : Known → List ℕ
+reached v = cond v.broken (greater v.seen v.last) v.seen
+
+-- no more than the words, of two seats of which one saw the fault
+abbrev pub ended : Known → Known → List ℕ
+ended v w = cond v.broken (cond w.broken (lesser v.last w.last) v.last) w.last
+
 -- what the first seat knows once the second is joined to it
 abbrev pub informed : Known → Known → Known
-informed v w = known (v.parts + w.parts) v.turn (greater v.seen w.seen) (v.broken || w.broken) (cond v.broken v.last w.last) v.tally
+informed v w = known (v.parts + w.parts) v.turn (greater (reached v) (reached w)) (v.broken || w.broken) (ended v w) v.tally
+
+-- w knows at least what v does: where v saw the fault, the numbers that it saw last lie between those of w
+pub record Informs (v w : Known) : Type 0 where
+  pub seen : NoMore v.seen (reached w)
+  pub fault : v.broken ≡ true → (w.broken ≡ true) × NoMore v.last (reached w) × NoMore w.last v.last
 
 -- the parts of all views
 abbrev pub parts_of : List Known → ℕ
@@ -123,7 +142,7 @@ module _ {W : Type 0} where
   abbrev pub sees_fault : Step (Option W) → Me (Option W) Known → ℕ → Me (Option W) Known → Type 0
   sees_fault st m found m' =
       (m'.1 ≡ m.1) × (m'.0.parts ≡ m.0.parts) × (m'.0.turn ≡ m.0.turn) × (m'.0.seen ≡ m.0.seen) × (m'.0.broken ≡ (found == 1)) × (m'.0.tally ≡ looked m.0.tally)
-      × (m.0.broken ≡ true → (found ≡ 1) × (m'.0.last ≡ m.0.last)) × (found ≡ 1 → NoMore m.0.seen m'.0.last)
+      × (m.0.broken ≡ true → (found ≡ 1) × (m'.0.last ≡ m.0.last)) × (found ≡ 1 → NoMore m.0.seen m'.0.last) × (m.0.turn ≡ true → (found == 1) ≡ m.0.broken)
 
   abbrev pub raised : Step (Option W) → Me (Option W) Known → ℕ → Me (Option W) Known → Type 0
   raised st m found m' = (m'.1 ≡ m.1) × (m'.0 ≡ saw m.0 st.word st.first)

@@ -3,8 +3,8 @@ ghost use Rattle.std.specs.Prelude.{◌≡◌, ℕ, ◌+◌, ◌<◌, ◌≤◌,
 ghost use Rattle.std.specs.Slots.{slots_items, slots_len, IsFull};
 ghost use mathlib.Core.Option.{some};
 ghost use lib.ListN.{get_elem?};
-ghost use Rattle.log_berth.specs.Words.{NoMore};
-ghost use Rattle.log_berth.specs.Standing.{AreBack, AllSaw};
+ghost use Rattle.log_berth.specs.Words.{NoMore, Informs};
+ghost use Rattle.log_berth.specs.Standing.{AreBack, AllSaw, InformAll};
 
 use crate::berth::Berth;
 use crate::known::{Known, Plan};
@@ -32,8 +32,8 @@ fn joined<W: Ware>(
     requires me { (me.table_id ≡ shared.now.table_id) × (me.me.1 ≡ []) × (me.me.0.turn ≡ false) × (0 < shared.now.table_id.words) }
     requires back { AreBack shared.now.table_id seats.items }
     ensures seat { (result.table_id ≡ shared.now.table_id) × (result.me.1 ≡ []) × (result.me.0.turn ≡ false) × (result.me.0.parts ≡ me.me.0.parts + length seats.items) }
-    ensures first { NoMore me.me.0.seen result.me.0.seen × (me.me.0.broken ≡ true → result.me.0.broken ≡ true) }
-    ensures saw { AllSaw seats.items result.me.0.seen result.me.0.broken }
+    ensures first { Informs me.me.0 result.me.0 }
+    ensures saw { InformAll seats.items result.me.0 }
 {
     while let Some(seat) = seats.pop() {
         shared.join_seat::<OnePart>(&mut me, seat.into_seat());
@@ -42,7 +42,7 @@ fn joined<W: Ware>(
 }
 
 // The numbers, the fault word and the ware of a table that no thread shares any more.
-fn finish<W>(
+fn finish<W: Ware>(
     mut closed: Closed<Option<W>, Global>,
     regions: u32,
     mut synced: Vec<u64>,
@@ -56,12 +56,13 @@ fn finish<W>(
     ensures broken { result.broken ≡ (slice_index (slots_items closed.words) regions == 1) }
 {
     let broken = closed.word(regions as usize) == 1;
-    for region in 0..regions {
-        synced.push_reserved(closed.word(region as usize));
-    }
     let Some(ware) = closed.take(0) else {
         unreachable!()
     };
+    for region in 0..regions {
+        let number = closed.word(region as usize);
+        synced.push_reserved(number);
+    }
     closed.free();
     Berthed {
         ware,
@@ -71,7 +72,8 @@ fn finish<W>(
 }
 
 impl<W: Ware> Berth<W> {
-    /// Gives the ware and the synced numbers, once all seats and the turn are back. It takes no memory.
+    /// Gives the ware and the synced words, once all seats and the turn are back. Where a seat saw the fault, they are those that stood
+    /// then. It takes no memory.
     pub fn close(self, seats: LogSeats) -> Berthed<W>
         requires back { AreBack self.id seats.seats }
         requires all { length seats.seats ≡ self.seats }

@@ -13,7 +13,6 @@ mod law;
 mod opening;
 mod seats;
 mod synced;
-mod uses;
 mod ware;
 
 pub use berth::{Berth, Busy, Turn};
@@ -27,3 +26,5 @@ pub use ware::Ware;
 
 #[cfg(test)]
 mod tests;
+#[cfg(test)]
+mod uses;

@@ -7,7 +7,7 @@ pub loop-region-preserved : goal.loop-region-preserved
 loop-region-preserved g c =
     let i = c.loop-region.invariant in
     record {
-      made = c.push_reserved.ensures.items ∙ (ap (λ l. l ++ c.word.result ∷ []) i.made ∙ sym (take_next (slots_items c.args.closed.words) c.loop-region.region c.word.result c.word.ensures));
+      made = c.push_reserved.ensures.items ∙ (ap (λ l. l ++ c.word-number.result ∷ []) i.made ∙ sym (take_next (slots_items c.take.new.self.words) c.loop-region.region c.word-number.result c.word-number.ensures));
       room = omega (arith, i.room, c.push_reserved.ensures.capacity);
     }
 

@@ -1,9 +1,9 @@
-use Rattle.std.proofs.Common.{arith, ◌≡◌, ◌||◌, ◌++◌, ◌∷◌, [], true, List, length, length-append, sym, subst, ap, ◌∙◌}
+use Rattle.std.proofs.Common.{arith, ◌≡◌, ◌++◌, ◌∷◌, [], List, length, length-append, refl, sym, subst, ap, ◌∙◌}
 use Rattle.log_berth.specs.declared.known.Known.{Known}
-use Rattle.log_berth.specs.Words.{informed, greater, NoMore}
+use Rattle.log_berth.specs.Words.{informed, Informs}
 use Rattle.log_berth.specs.Standing.{Standing, AreBack}
 use Rattle.log_berth.proofs.Steps.{merges}
-use Rattle.log_berth.proofs.Joined.{SawLater, greater_left, greater_right, or_left, or_right, no_more-trans, saw_later-one, are_back-front}
+use Rattle.log_berth.proofs.Joined.{InformLater, informs-same, informs-left, informs-right, informs-trans, inform_later-start, inform_later-one, are_back-front}
 use Rattle.log_berth.proofs.closing.joined.Goals as goal
 
 pub join_seat-requires : goal.join_seat-requires
@@ -29,12 +29,8 @@ loop-seat-preserved g c =
     let u : Known = c.join_seat.new.seat.me.0 in
     let other : c.into_seat.result.me.0 ≡ w = ap (λ m. m.0) s.1 in
     let now : u ≡ informed v w = ap (λ m. m.0) j.2 ∙ ap (λ (u : Known). informed v u) other in
-    let seen : u.seen ≡ greater v.seen w.seen = ap (λ (u : Known). u.seen) now in
-    let broken : u.broken ≡ (v.broken || w.broken) = ap (λ (u : Known). u.broken) now in
-    let more : NoMore v.seen u.seen = subst (NoMore v.seen) (sym seen) (greater_left v.seen w.seen) in
-    let here : NoMore w.seen u.seen = subst (NoMore w.seen) (sym seen) (greater_right v.seen w.seen) in
-    let told : v.broken ≡ true → u.broken ≡ true = λ b. broken ∙ or_left v.broken w.broken b in
-    let fault : w.broken ≡ true → u.broken ≡ true = λ b. broken ∙ or_right v.broken w.broken b in
+    let more : Informs v u = subst (Informs v) (sym now) (informs-left v w) in
+    let here : Informs w u = subst (Informs w) (sym now) (informs-right v w) in
     record {
       of = j.0 ∙ i.of;
       slots = ap (λ m. m.1) j.2 ∙ i.slots;
@@ -42,7 +38,18 @@ loop-seat-preserved g c =
       words = i.words;
       parts = omega (arith, i.parts, ap (λ (u : Known). u.parts) now, c.into_seat.ensures.part, ap length items, length-append left (seat ∷ []));
       back = back.0;
-      saw = no_more-trans c.args.me.me.0.seen v.seen u.seen i.saw more;
-      told = λ b. told (i.told b);
-      later = saw_later-one c.args.seats.items left seat v.seen u.seen v.broken u.broken (subst (λ (l : List Standing). SawLater c.args.seats.items l v.seen v.broken) items i.later) more told here fault;
+      first = informs-trans c.args.me.me.0 v u i.first more;
+      later = inform_later-one c.args.seats.items left seat v u (subst (λ (l : List Standing). InformLater c.args.seats.items l v) items i.later) more here;
     }
+
+pub loop-seat-init : goal.loop-seat-init
+loop-seat-init g c = record {
+  of = c.requires.me.0;
+  slots = c.requires.me.1;
+  off = c.requires.me.2;
+  words = c.requires.me.3;
+  parts = refl;
+  back = c.requires.back;
+  first = informs-same c.args.me.me.0;
+  later = inform_later-start c.args.seats.items c.args.me.me.0;
+}

@@ -1,7 +1,7 @@
-use Rattle.std.proofs.Common.{◌≡◌, ◌+◌, ◌<◌, true, false, [], length, vec_len}
-use Rattle.log_berth.specs.Words.{NoMore}
+use Rattle.std.proofs.Common.{◌≡◌, ◌+◌, ◌<◌, false, [], length, vec_len}
+use Rattle.log_berth.specs.Words.{Informs}
 use Rattle.log_berth.specs.Standing.{AreBack}
-use Rattle.log_berth.proofs.Joined.{SawLater}
+use Rattle.log_berth.proofs.Joined.{InformLater}
 use Rattle.log_berth.proofs.closing.joined.Given as goal
 
 abbrev pub invariant-loop-seat : goal.invariant-loop-seat
@@ -12,9 +12,8 @@ invariant-loop-seat g l = record {
   words : 0 < l.shared.table_id.words;
   parts : l.me.me.0.parts + length l.seats.items ≡ l.fn.me.me.0.parts + length l.fn.seats.items;
   back : AreBack l.shared.table_id l.seats.items;
-  saw : NoMore l.fn.me.me.0.seen l.me.me.0.seen;
-  told : l.fn.me.me.0.broken ≡ true → l.me.me.0.broken ≡ true;
-  later : SawLater l.fn.seats.items l.seats.items l.me.me.0.seen l.me.me.0.broken;
+  first : Informs l.fn.me.me.0 l.me.me.0;
+  later : InformLater l.fn.seats.items l.seats.items l.me.me.0;
 }
 
 abbrev pub decreases-loop-seat : goal.decreases-loop-seat

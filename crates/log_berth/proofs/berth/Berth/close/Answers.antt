@@ -3,10 +3,10 @@ use mathlib.Core.Option.{some-injective}
 use Rattle.std.proofs.lemmas.Option.{same_Some}
 use Rattle.std.specs.Slots.{slots_items}
 use Rattle.log_berth.specs.declared.known.Known.{Known}
-use Rattle.log_berth.specs.Words.{NoMore}
+use Rattle.log_berth.specs.Words.{NoMore, Same, Informs}
 use Rattle.log_berth.specs.Standing.{Standing, Place, Bundle, AreBack, AllSaw}
 use Rattle.log_berth.proofs.Steps.{ends}
-use Rattle.log_berth.proofs.Joined.{no_more-trans, all_saw-more, all_saw-snoc, are_back-front}
+use Rattle.log_berth.proofs.Joined.{words_saw, all_saw, all_saw-snoc, are_back-front}
 use Rattle.log_berth.proofs.berth.Berth.close.Goals as goal
 
 pub joined-me-requires-clause-me : goal.joined-me-requires-clause-me
@@ -77,11 +77,10 @@ returns-clause-saw g c =
     let n : key.0 ≡ c.self.inside.regions = ap (λ (k : ℕ × ℕ). k.0) c.self.invariant.2 in
     let synced : take key.0 ws ≡ c.finish.result.synced = ap (λ (k : ℕ). take k ws) n ∙ sym c.finish.ensures.synced.0 in
     let fault : (get_or ws key.0 0 == 1) ≡ c.finish.result.broken = ap (λ (k : ℕ). get_or ws k 0 == 1) n ∙ sym c.finish.ensures.broken in
-    let last : NoMore v.seen c.finish.result.synced = subst (NoMore v.seen) synced e.3 in
-    let told : v.broken ≡ true → c.finish.result.broken ≡ true = λ b. sym fault ∙ eq-eqb (get_or ws key.0 0) 1 (e.4 b).0 in
-    let saw = c.joined-me.ensures.first in
-    let here : NoMore first.knows.seen c.finish.result.synced = no_more-trans first.knows.seen v.seen c.finish.result.synced (subst (λ (u : Known). NoMore u.seen v.seen) mine saw.0) last in
-    let fault_here : first.knows.broken ≡ true → c.finish.result.broken ≡ true = λ b. told (saw.1 (ap (λ (u : Known). u.broken) mine ∙ b)) in
-    let others = all_saw-more left v.seen c.finish.result.synced v.broken c.finish.result.broken c.joined-me.ensures.saw last told in
-    let whole = all_saw-snoc left first c.finish.result.synced c.finish.result.broken others here fault_here in
+    let low : NoMore v.seen c.finish.result.synced = subst (NoMore v.seen) synced e.3 in
+    let told : v.broken ≡ true → (c.finish.result.broken ≡ true) × Same v.last c.finish.result.synced =
+    λ b. (sym fault ∙ eq-eqb (get_or ws key.0 0) 1 (e.4 b).0, subst (Same v.last) synced (e.4 b).1) in
+    let here : Informs first.knows v = subst (λ (u : Known). Informs u v) mine c.joined-me.ensures.first in
+    let others = all_saw left v c.finish.result.synced c.finish.result.broken c.joined-me.ensures.saw low told in
+    let whole = all_saw-snoc left first c.finish.result.synced c.finish.result.broken others (words_saw first v c.finish.result.synced c.finish.result.broken here low told) in
     subst (λ (l : List Standing). AllSaw l c.finish.result.synced c.finish.result.broken) (sym popped ∙ items) whole
