@@ -1,0 +1,13 @@
+pub mod Numbers
+pub mod Chains
+pub mod ItemLaws
+pub mod Raised
+pub mod Staged
+pub mod Committed
+pub mod SeatLaws
+pub mod Beginning
+pub mod PushedLaws
+pub mod CloseLaws
+pub mod Tied
+pub mod IdlePasses
+pub mod Popped

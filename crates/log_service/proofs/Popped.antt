@@ -1,0 +1,65 @@
+-- What is popped from the ring of loads, and from both rings at the close.
+use Rattle.std.proofs.Common.{◌≡◌, ◌+◌, ◌-◌, ℕ, suc, List, [], ◌∷◌, ◌++◌, refl, sym, ap, ◌∙◌, subst, arith}
+use Rattle.std.specs.Prelude.{Option, Some, None, MatchOption, slice_set}
+use Rattle.std.proofs.lemmas.List.{append-nil}
+use Rattle.atomic_table.specs.Seated.{TableId}
+use Rattle.append_ring.specs.declared.knows.Knows.{Knows}
+use Rattle.append_ring.specs.declared.pass.RingPass.{RingPass}
+use Rattle.crossbeam_queue.specs.Passes.{view}
+use Rattle.append_ring.specs.Rules.{HasPopped, of}
+use Rattle.append_ring.specs.Parts.{EachThere, AreNew, AreNewAfter}
+use Rattle.log_trucks.specs.Held.{Held}
+use Rattle.log_service.specs.declared.item.Item.{Item}
+use Rattle.log_service.specs.Items.{appended, held_in}
+use Rattle.log_service.specs.Trucks.{AreSpelled}
+use Rattle.log_service.specs.Loads.{all_trucks, IsWholeLoad, AreInOrder}
+use Rattle.log_service.proofs.ItemLaws.{all_with}
+use Rattle.log_service.proofs.Committed.{of_all}
+
+-- at most one load more was popped
+pub record PoppedMore (v w : Knows (List Held)) : Type 0 where
+  pub more : List Held
+  pub spelled : AreSpelled more
+  pub all : all_trucks w.popped ≡ all_trucks v.popped ++ more
+  pub lasts : w.lasts ≡ v.lasts
+
+pub popped_more : (X : Type 0) (v w : Knows (List Held)) (o : Option (List Held)) → MatchOption o ((w ≡ v) × X) (λ load. HasPopped (λ _. 1) (λ _. None) IsWholeLoad AreInOrder v load w) → PoppedMore v w
+popped_more X v w None p = record { more = []; spelled = tt; all = ap (λ (k : Knows (List Held)). all_trucks k.popped) p.0 ∙ sym (append-nil (all_trucks v.popped)); lasts = ap (λ (k : Knows (List Held)). k.lasts) p.0 }
+popped_more X v w (Some load) p = record {
+  more = load;
+  spelled = p.good.0.2;
+  all = ap (λ (k : Knows (List Held)). all_trucks k.popped) p.now ∙ all_with v.popped load;
+  lasts = ap (λ (k : Knows (List Held)). k.lasts) p.now;
+}
+
+-- all that was pushed into the ring of loads was popped from it
+pub loads_pushed : (pass first : RingPass (List Held)) (loads popped : List (List Held)) → pass ≡ first → pass.region ≡ 1 → popped ≡ loads → of (λ (_ : List Held). 1) pass.region popped ≡ (view pass.pass).pushed → loads ≡ (view first.pass).pushed
+loads_pushed pass first loads popped is region same equal =
+    sym same ∙ (sym (of_all popped) ∙ (ap (λ (r : ℕ). of (λ (_ : List Held). 1) r popped) (sym region) ∙ (equal ∙ ap (λ (p : RingPass (List Held)). (view p.pass).pushed) is)))
+
+-- all that was popped from the ring of items went through the ring of loads
+pub all_popped : (pushed loads : List (List Held)) (load : List Held) (held : Option Item) (items : List Item) → all_trucks pushed ++ (load ++ appended (held_in held)) ≡ appended items → load ≡ [] → held ≡ None → loads ≡ pushed
+    → all_trucks loads ≡ appended items
+all_popped pushed loads load held items tie empty none same =
+    ap all_trucks same
+    ∙ (sym (append-nil (all_trucks pushed))
+    ∙ (ap (λ (p : List Held × Option Item). all_trucks pushed ++ (p.0 ++ appended (held_in p.1))) {x = ([], None)} {y = (load, held)} (λ i. (sym empty i, sym none i)) ∙ tie))
+
+module _ {T : Type 0} (id : TableId) (lasts : List ℕ) where
+  each_new : (k : ℕ) (places : List (Option (RingPass T))) → AreNew id lasts k places → EachThere (λ p. p.pass.table_id ≡ id) places
+  each_new k [] new = tt
+  each_new k (None ∷ places) new = absurd new
+  each_new k (Some p ∷ places) new = (new.0.0, each_new (suc k) places (subst (λ (j : ℕ). AreNew id lasts j places) (omega arith) new.1))
+
+  -- the first pass is back in its place
+  pub idle_back : (places : List (Option (RingPass T))) (pass : RingPass T) → AreNewAfter id lasts 0 1 places → pass.pass.table_id ≡ id → pass.region ≡ 1 → EachThere (λ p. p.pass.table_id ≡ id) (slice_set places (pass.region - 1) (Some pass))
+  idle_back [] pass new of first = absurd new
+  idle_back (Some p ∷ places) pass new of first = absurd new
+  idle_back (None ∷ places) pass new of first =
+      subst (λ (i : ℕ). EachThere (λ p. p.pass.table_id ≡ id) (slice_set (None ∷ places) i (Some pass))) (sym (ap (λ (r : ℕ). r - 1) first)) (of, each_new 1 places new)
+
+  -- what holds of all holds of that one
+  pub idle_first : (is_so : RingPass T → Type 0) (places : List (Option (RingPass T))) (pass : RingPass T) → AreNewAfter id lasts 0 1 places → pass.region ≡ 1 → EachThere is_so (slice_set places (pass.region - 1) (Some pass)) → is_so pass
+  idle_first is_so [] pass new first all = absurd new
+  idle_first is_so (Some p ∷ places) pass new first all = absurd new
+  idle_first is_so (None ∷ places) pass new first all = (subst (λ (i : ℕ). EachThere is_so (slice_set (None ∷ places) i (Some pass))) (ap (λ (r : ℕ). r - 1) first) all).0

@@ -1,0 +1,152 @@
+-- What ties a device to the loads popped, over a call on a whole device.
+use Rattle.std.proofs.Common.{◌≡◌, ◌⊎◌, ℕ, ◌+◌, ◌<◌, ◌≤◌, List, [], ◌++◌, length, take, get_or, refl, sym, ap, ◌∙◌, subst, arith, ⊎_elim, inl, le_refl}
+use Rattle.std.proofs.lemmas.List.{append-nil, take_all}
+use Rattle.log_model.specs.Entry.{Entry}
+use Rattle.log_model.specs.Files.{Files}
+use Rattle.recovery.specs.Change.{RecoversSome}
+use Rattle.recovery.specs.Kept.{lasts}
+use Rattle.recovery.proofs.Likes.{like_recovers}
+use Rattle.recovery.proofs.Lasts.{like_lasts}
+use Rattle.recovery.proofs.Longer.{from_base}
+use Rattle.disk_images.specs.Crash.{DiskView, IsImageNow, Throughout, Since}
+use Rattle.disk_images.specs.Calls.{IsTrueDisk}
+use Rattle.disk_images.proofs.Moments.{since_on, weaker, at_end}
+use Rattle.log_trucks.specs.Held.{Held, AreHeld}
+use Rattle.log_ledger.specs.History.{ClosedLog, History, committed_in}
+use Rattle.log_ledger.specs.Books.{IsServed}
+use Rattle.log_ledger.specs.Counted.{NoneMayGo}
+use Rattle.log_device.specs.declared.device.Device.{Device}
+use Rattle.log_device.specs.Archived.{LogsLeft}
+use Rattle.log_device.specs.Leaves.{Leaves}
+use Rattle.log_device.specs.Whole.{IsWhole, IsBroken, books_of}
+use Rattle.log_service.specs.Halves.{BeganWith, Stands, Fell, RecoversHeld}
+use Rattle.log_service.specs.Ties.{KeepsTies}
+
+-- a whole device whose closed logs may be wholly flushed
+pub record Tied {D : Type 0} (found : Files) (first : List ℕ) (d : Device D) (disk : DiskView) (popped : List Held) (h : History) : Type 0 where
+  pub whole : IsWhole d disk h
+  pub began : BeganWith found first h
+  pub idle : h.kept.staged ≡ []
+  pub all : AreHeld popped h.kept.durable
+
+module _ {D : Type 0} (found : Files) (first : List ℕ) (d : Device D) (disk : DiskView) (popped : List Held) (h : History) where
+  pub tied_of : Stands found first d disk popped h → Tied found first d disk popped h
+  tied_of s = record { whole = s.whole; began = s.began; idle = s.idle; all = s.all }
+
+  pub stands_of : Tied found first d disk popped h → NoneMayGo h → Stands found first d disk popped h
+  stands_of t none = record { whole = t.whole; began = t.began; idle = t.idle; all = t.all; none_may_go = none }
+
+-- the same entries are committed, besides those that were staged, and the store began alike
+pub record GoesOn (h g : History) : Type 0 where
+  pub base : g.kept.base ≡ h.kept.base
+  pub first : (r : ℕ) → g.kept.first r ≡ h.kept.first r
+  pub durable : g.kept.durable ≡ h.kept.durable ++ h.kept.staged
+  pub staged : g.kept.staged ≡ []
+
+module _ {D : Type 0} (found : Files) (first : List ℕ) (popped : List Held) (d e : Device D) (v w : DiskView) (h : History) (t : Tied found first d v popped h) where
+  with_staged : AreHeld popped (h.kept.durable ++ h.kept.staged)
+  with_staged = subst (λ (l : List Entry). AreHeld popped (h.kept.durable ++ l)) (sym t.idle) (subst (AreHeld popped) (sym (append-nil h.kept.durable)) t.all)
+
+  pub tied_on : (g : History) → GoesOn h g → IsWhole e w g → Tied found first e w popped g
+  tied_on g on whole = record {
+    whole = whole;
+    began = record { base = on.base ∙ t.began.base; first = λ r low high. on.first r ∙ t.began.first r low high };
+    idle = on.staged;
+    all = subst (AreHeld popped) (sym on.durable) with_staged;
+  }
+
+  module _ (sound : IsTrueDisk v) (n : ℕ) (over : Throughout (Leaves (books_of d).stored (books_of d).closed v.files h.kept.staged) n v w) where
+    pub tied_falls : ((r : ℕ) → 0 < r → r ≤ length first → IsServed (books_of d) r) → ((books_of e).synced ≡ (books_of d).synced) ⊎ ((books_of e).synced ≡ (books_of d).drawn) → (books_of e).stored ≡ (books_of d).stored
+        → (books_of e).closed ≡ (books_of d).closed → Fell found first e w popped h
+    tied_falls served synced stored closed = record {
+      files = v.files;
+      like = (t.whole.keeps.images v.files sound.reads).like;
+      orderly = t.whole.keeps.orderly;
+      began = t.began;
+      taken = length popped;
+      within = le_refl (length popped);
+      all = subst (λ (l : List Held). AreHeld l (h.kept.durable ++ h.kept.staged)) (sym (take_all (length popped) popped (le_refl (length popped)))) with_staged;
+      synced = λ r low high. ⊎_elim
+          (λ (is : (books_of e).synced ≡ (books_of d).synced). let was = t.whole.counted.synced r (served r low high) in let now = ap (λ (l : List ℕ). get_or l r 0) is in omega (arith, was, now))
+          (λ (is : (books_of e).synced ≡ (books_of d).drawn).
+          let was = t.whole.counted.drawn r (served r low high) in
+          let none : lasts (lasts h.kept.first h.kept.durable) h.kept.staged r ≡ lasts h.kept.first h.kept.durable r = ap (λ (l : List Entry). lasts (lasts h.kept.first h.kept.durable) l r) t.idle in
+          let now = ap (λ (l : List ℕ). get_or l r 0) is in
+          omega (arith, was, now, none))
+          synced;
+      stored = λ r. let now = ap (λ (l : List ℕ). get_or l r 0) stored in omega (arith, t.whole.counted.stored r, now);
+      left = λ J now.
+          subst (λ (p : List ℕ × List ℕ). Leaves p.0 p.1 v.files h.kept.staged J) (λ i. (sym stored i, sym closed i))
+          (at_end (Leaves (books_of d).stored (books_of d).closed v.files h.kept.staged) n v w over J now);
+    }
+
+    recovers : (J : Files) → Leaves (books_of d).stored (books_of d).closed v.files h.kept.staged J → RecoversHeld found popped J
+    recovers J leaves = record {
+      entries = h.kept.durable ++ h.kept.staged;
+      held = with_staged;
+      recovers = subst (λ (b : Files). RecoversSome b (h.kept.durable ++ h.kept.staged) J) t.began.base
+          (let like = (t.whole.keeps.images v.files sound.reads).like in from_base h.kept.base v.files h.kept.durable h.kept.staged J (like_recovers h.kept v.files like) (like_lasts h.kept v.files like t.whole.keeps.orderly) leaves.recovers);
+    }
+
+    pub tied_since : (start : ℕ) → Since start (RecoversHeld found popped) v → Since start (RecoversHeld found popped) w
+    tied_since start since = since_on start (RecoversHeld found popped) n v w since (weaker (Leaves (books_of d).stored (books_of d).closed v.files h.kept.staged) (RecoversHeld found popped) n v w recovers over)
+
+-- at each moment of a call each image recovers to the files as they read with the first of what was staged
+abbrev pub EachMoment : {D : Type 0} → Device D → DiskView → DiskView → Type 0
+EachMoment d v w = (h : History) → IsWhole d v h → (n : ℕ) × Throughout (Leaves (books_of d).stored (books_of d).closed v.files h.kept.staged) n v w
+
+-- the numbers that are told of a device that a call broke
+pub record BreaksAs {D : Type 0} (d e : Device D) : Type 0 where
+  pub synced : ((books_of e).synced ≡ (books_of d).synced) ⊎ ((books_of e).synced ≡ (books_of d).drawn)
+  pub stored : IsBroken e → (books_of e).stored ≡ (books_of d).stored
+  pub closed : IsBroken e → (books_of e).closed ≡ (books_of d).closed
+
+-- a call that commits what is staged and does nothing more, or breaks the device
+pub ties_committed : {D : Type 0} (d e : Device D) (v w : DiskView) → IsTrueDisk v → EachMoment d v w → ((h : History) → IsWhole d v h → (IsBroken e → ⊥) → IsWhole e w (committed_in h)) → BreaksAs d e → KeepsTies d e v w
+ties_committed d e v w sound each refused breaks = record {
+  stands = λ base first popped h s whole. (
+    committed_in h,
+    stands_of base first e w popped (committed_in h)
+        (tied_on base first popped d e v w h (tied_of base first d v popped h s) (committed_in h) record { base = refl; first = λ r. refl; durable = refl; staged = refl } (refused h s.whole whole)) s.none_may_go,
+  );
+  fell = λ base first popped h s served broken.
+      (h, (let m = each h s.whole in tied_falls base first popped d e v w h (tied_of base first d v popped h s) sound m.0 m.1 served breaks.synced (breaks.stored broken) (breaks.closed broken)));
+  since = λ base first popped h start s since.
+      (let m = each h s.whole in tied_since base first popped d e v w h (tied_of base first d v popped h s) sound m.0 m.1 start since);
+}
+
+-- the numbers that are told stand
+pub record TellsAlike {D : Type 0} (d e : Device D) : Type 0 where
+  pub synced : (books_of e).synced ≡ (books_of d).synced
+  pub stored : (books_of e).stored ≡ (books_of d).stored
+  pub closed : (books_of e).closed ≡ (books_of d).closed
+
+-- a call that goes on, and then the closed logs that are wholly flushed go
+pub ties_archived : {D : Type 0} (d m e : Device D) (v u w : DiskView) → IsTrueDisk v → IsTrueDisk u → EachMoment d v u → ((h : History) → IsWhole d v h → (g : History) × IsWhole m u g × GoesOn h g)
+    → ((r : ℕ) → IsServed (books_of d) r → IsServed (books_of m) r)
+    → ((g : History) → IsWhole m u g → Throughout (Leaves (books_of m).stored (books_of m).closed u.files []) (length g.logs) u w)
+    → ((g : History) → IsWhole m u g → (IsBroken e → ⊥) → (left : List ClosedLog) × LogsLeft g left × IsWhole e w (record { kept = g.kept; logs = left; current = g.current })) → TellsAlike m e → KeepsTies d e v w
+ties_archived d m e v u w sound sound_then each on served_on moments archived alike = record {
+  stands = λ base first popped h s whole.
+      (let n = next base first popped h s in
+      let a = archived n.0 n.1.whole whole in
+      let g : History = record { kept = n.0.kept; logs = a.0; current = n.0.current } in (
+        g,
+        stands_of base first e w popped g (tied_on base first popped m e u w n.0 n.1 g record { base = refl; first = λ r. refl; durable = sym (ap (λ (l : List Entry). n.0.kept.durable ++ l) n.1.idle ∙ append-nil n.0.kept.durable); staged = n.1.idle } a.2)
+            (λ c has flushed. ((a.1 c).0 has).1 flushed),
+      ));
+  fell = λ base first popped h s served broken.
+      (let n = next base first popped h s in
+      (n.0, tied_falls base first popped m e u w n.0 n.1 sound_then (length n.0.logs) (then n.0 n.1.whole n.1.idle) (λ r low high. served_on r (served r low high)) (inl alike.synced) alike.stored alike.closed));
+  since = λ base first popped h start s since.
+      (let n = next base first popped h s in
+      let first_part = each h s.whole in
+      tied_since base first popped m e u w n.0 n.1 sound_then (length n.0.logs) (then n.0 n.1.whole n.1.idle) start
+      (tied_since base first popped d m v u h (tied_of base first d v popped h s) sound first_part.0 first_part.1 start since));
+}
+  where
+    next : (base : Files) (first : List ℕ) (popped : List Held) (h : History) → Stands base first d v popped h → (g : History) × Tied base first m u popped g
+    next base first popped h s = let o = on h s.whole in (o.0, tied_on base first popped d m v u h (tied_of base first d v popped h s) o.0 o.2 o.1)
+
+    then : (g : History) → IsWhole m u g → g.kept.staged ≡ [] → Throughout (Leaves (books_of m).stored (books_of m).closed u.files g.kept.staged) (length g.logs) u w
+    then g whole idle = subst (λ (l : List Entry). Throughout (Leaves (books_of m).stored (books_of m).closed u.files l) (length g.logs) u w) (sym idle) (moments g whole)

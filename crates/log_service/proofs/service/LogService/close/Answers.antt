@@ -1,0 +1,155 @@
+use Rattle.std.proofs.Common.{Some, ◌≡◌, ◌≤◌, ◌<◌, ◌-◌, ◌∷◌, [], ℕ, List, Bool, true, length, refl, sym, ap, ◌∙◌, subst, arith}
+use Rattle.std.specs.Prelude.{◌↔◌, Option, None, is_none}
+use Rattle.std.specs.Coded.{le_prop}
+use Rattle.std.proofs.Math.Logic.{∥∥₁_elim}
+use Rattle.crossbeam_queue.specs.Passes.{view}
+use Rattle.atomic_table.specs.Seated.{TableId}
+use Rattle.append_ring.specs.declared.knows.Knows.{Knows}
+use Rattle.append_ring.specs.declared.pass.RingPass.{RingPass}
+use Rattle.append_ring.specs.Rules.{base_of}
+use Rattle.append_ring.specs.Parts.{EachThere, IsCounted, IsEqual}
+use Rattle.append_ring.proofs.Places.{drained_counted}
+use Rattle.disk_images.specs.Calls.{Rose}
+use Rattle.log_berth.specs.Words.{NoMore}
+use Rattle.log_berth.specs.Standing.{Standing, AllSaw}
+use Rattle.log_trucks.specs.Held.{Held}
+use Rattle.log_device.specs.Whole.{IsBroken, disk_of, books_of}
+use Rattle.log_service.specs.declared.item.Item.{Item}
+use Rattle.log_service.specs.Items.{region_of, appended}
+use Rattle.log_service.specs.Trucks.{FollowFrom}
+use Rattle.log_service.specs.Loads.{all_trucks}
+use Rattle.log_service.specs.Numbers.{told_numbers}
+use Rattle.log_service.specs.Places.{Place}
+use Rattle.log_service.specs.Closed.{CommitsRegion, CommitsSince}
+use Rattle.log_berth.proofs.Joined.{no_more-trans}
+use Rattle.log_service.proofs.CloseLaws.{region_commits, region_since}
+use Rattle.log_service.proofs.Popped.{all_popped, loads_pushed, idle_back, idle_first}
+use Rattle.log_service.proofs.service.LogService.close.Goals as goal
+
+pub settle_items-requires-clause-there : goal.settle_items-requires-clause-there
+settle_items-requires-clause-there g c = subst (λ (id : TableId). EachThere (λ p. p.pass.table_id ≡ id) c.args.passes) (sym (ap (λ (p : Place). p.ring) c.self.view_is)) c.requires.passes.0
+
+pub settle_loads-requires-clause-there : goal.settle_loads-requires-clause-there
+settle_loads-requires-clause-there g c =
+    let id = g.N.Naming.hand in
+    let pass = c.into_passes-items.result.1 in
+    let mover = c.settle_items.new.mover in
+    let is = c.into_passes-items.ensures.1 in
+    let there = idle_back id g.N.Naming.lasts c.self.inside.idle pass c.self.invariant.9.0 (ap (λ (p : RingPass (List Held)). p.pass.table_id) is ∙ mover.to.0) (ap (λ (p : RingPass (List Held)). p.region) is ∙ mover.to.1) in
+    subst (λ (i : TableId). EachThere (λ p. p.pass.table_id ≡ i) c.put_back.new.self) (sym c.self.invariant.1) (subst (EachThere (λ p. p.pass.table_id ≡ id)) (sym c.put_back.ensures) there)
+
+pub close-requires-clause-there : goal.close-requires-clause-there
+close-requires-clause-there g c = subst (λ (id : TableId). EachThere (λ p. p.pass.table_id ≡ id) c.args.passes) (sym (ap (λ (p : Place). p.ring) c.self.view_is)) c.requires.passes.0
+
+pub close-requires-clause-counts : goal.close-requires-clause-counts
+close-requires-clause-counts g c =
+    let popped = (view c.settle_items.new.mover.consumer.pass).popped in
+    subst (λ k. EachThere (IsCounted region_of (view {T = Item} {V = Knows Item} k.pass).popped) c.args.passes) (sym c.into_passes-items.ensures.0) (drained_counted region_of popped c.args.passes c.settle_items.ensures.moved.drained)
+
+pub close-requires-2-clause-there : goal.close-requires-2-clause-there
+close-requires-2-clause-there g c =
+    let id = g.N.Naming.hand in
+    let pass = c.into_passes-items.result.1 in
+    let mover = c.settle_items.new.mover in
+    let is = c.into_passes-items.ensures.1 in
+    let there = idle_back id g.N.Naming.lasts c.self.inside.idle pass c.self.invariant.9.0 (ap (λ (p : RingPass (List Held)). p.pass.table_id) is ∙ mover.to.0) (ap (λ (p : RingPass (List Held)). p.region) is ∙ mover.to.1) in
+    subst (λ (i : TableId). EachThere (λ p. p.pass.table_id ≡ i) c.put_back.new.self) (sym c.self.invariant.1) (subst (EachThere (λ p. p.pass.table_id ≡ id)) (sym c.put_back.ensures) there)
+
+pub close-requires-2-clause-counts : goal.close-requires-2-clause-counts
+close-requires-2-clause-counts g c =
+    let popped = (view c.settle_loads.new.committer.consumer.pass).popped in
+    subst (λ k. EachThere (IsCounted (λ (_ : List Held). 1) (view {T = List Held} {V = Knows (List Held)} k.pass).popped) c.put_back.new.self) (sym c.into_parts-device.ensures.1) (drained_counted (λ (_ : List Held). 1) popped c.put_back.new.self c.settle_loads.ensures.drained)
+
+none_is : {A : Type 0} (o : Option A) → is_none o ≡ true → o ≡ None
+none_is None is = refl
+none_is (Some a) is = absurd (cc is)
+
+all_saw-later : (ss : List Standing) (numbers : List ℕ) (b c : Bool) → (b ≡ true → c ≡ true) → AllSaw ss numbers b → AllSaw ss numbers c
+all_saw-later [] numbers b c then p = tt
+all_saw-later (s ∷ ss) numbers b c then p = (record { seen = p.0.seen; fault = λ broken. let f = p.0.fault broken in (then f.0, f.1) }, all_saw-later ss numbers b c then p.1)
+
+pub returns-clause-saw : goal.returns-clause-saw
+returns-clause-saw g c =
+    let ware = c.close-committer.result.ware in
+    let half = c.settle_loads.new.committer in
+    let is = subst (λ d. (c.broken-broken.result ≡ true) ↔ IsBroken d) c.into_parts-device.ensures.0 c.broken-broken.ensures in
+    all_saw-later c.args.seats.devices.seats c.close-committer.result.synced c.close-committer.result.broken c.broken-broken.result
+    (λ broken. is.1 (c.settle_loads.ensures.broken (c.settle_items.ensures.broken (none_is _ (sym c.close-committer.ensures.ware.1 ∙ broken)))))
+    c.close-committer.ensures.saw
+
+pub returns-clause-commits : goal.returns-clause-commits
+returns-clause-commits g c told r content pushed p =
+    let half = c.settle_loads.new.committer in
+    let mover = c.settle_items.new.mover in
+    let mid = c.settle_items.new.committer in
+    let ware = c.close-committer.result.ware in
+    let words : List ℕ = c.close-committer.result.synced in
+    let lasts : List ℕ = g.N.Naming.lasts in
+    let base = g.N.Naming.base in
+    let disk = g.D.Disk.view (disk_of half.device) in
+    let pass = c.into_passes-items.result.1 in
+    let pass_is = c.into_passes-items.ensures.1 in
+    let region : pass.region ≡ 1 = ap (λ (p : RingPass (List Held)). p.region) pass_is ∙ mover.to.1 in
+    let items : List Item = (view mover.consumer.pass).popped in
+    let loads : List (List Held) = (view half.consumer.pass).popped in
+    let popped : List (List Held) = (view c.into_parts-device.result.1.pass).popped in
+    let popped_is : popped ≡ loads = ap (λ k. (view {T = List Held} {V = Knows (List Held)} k.pass).popped) c.into_parts-device.ensures.1 in
+    let back = subst (EachThere (IsEqual (λ (_ : List Held). 1) popped)) c.put_back.ensures c.close-2.ensures.equal in
+    let equal_loads = idle_first g.N.Naming.hand lasts (IsEqual (λ (_ : List Held). 1) popped) c.self.inside.idle pass c.self.invariant.9.0 region back in
+    let through : loads ≡ (view mover.hand.pass).pushed = loads_pushed pass mover.hand loads popped pass_is region popped_is equal_loads in
+    let moved = c.settle_items.ensures.moved in
+    let every : all_trucks loads ≡ appended items = all_popped (view mover.hand.pass).pushed loads mover.load mover.held items mover.tie moved.load moved.held through in
+    let follow : FollowFrom lasts (all_trucks loads) = subst (FollowFrom lasts) (sym every) mover.follow in
+    let equal = subst (λ k. EachThere (IsEqual region_of (view {T = Item} {V = Knows Item} k.pass).popped) c.args.passes) c.into_passes-items.ensures.0 c.close.ensures.equal in
+    let is = subst (λ d. (c.broken-broken.result ≡ true) ↔ IsBroken d) c.into_parts-device.ensures.0 c.broken-broken.ensures in
+    let n_is : half.regions ≡ c.args.self.regions = half.all.0 ∙ (sym c.self.invariant.6 ∙ ap (λ (p : Place). p.regions) c.self.view_is) in
+    let there : length c.args.passes ≡ half.regions = c.requires.passes.1 ∙ sym n_is in
+    let disk_is = c.into_disk.ensures ∙ ap disk_of c.into_parts-device.ensures.0 in
+    let told_at_close = c.close-committer.ensures.ware.0 in
+    let mid_low = no_more-trans words (told_numbers ware.regions (books_of ware.device)) (told_numbers mid.regions (books_of mid.device)) told_at_close c.settle_items.ensures.later in
+    let low = no_more-trans words (told_numbers mid.regions (books_of mid.device)) (told_numbers half.regions (books_of half.device)) mid_low c.settle_loads.ensures.later in
+    let here = region_commits base lasts half.device disk (all_trucks loads) follow half.regions half.all.0 c.broken-broken.result is (half.stands told) (half.fell told) items every c.args.passes there equal r content pushed p words low half.served in
+    subst (λ (n : ℕ). ∥ CommitsRegion (g.D.Disk.view c.into_disk.result) c.broken-broken.result n words lasts r content pushed ∥₁) n_is
+    (subst (λ d. ∥ CommitsRegion (g.D.Disk.view d) c.broken-broken.result half.regions words lasts r content pushed ∥₁) (sym disk_is) here)
+
+pub returns-clause-since : goal.returns-clause-since
+returns-clause-since g c told r content pushed p =
+    let half = c.settle_loads.new.committer in
+    let mover = c.settle_items.new.mover in
+    let mid = c.settle_items.new.committer in
+    let ware = c.close-committer.result.ware in
+    let words : List ℕ = c.close-committer.result.synced in
+    let lasts : List ℕ = g.N.Naming.lasts in
+    let base = g.N.Naming.base in
+    let disk = g.D.Disk.view (disk_of half.device) in
+    let pass = c.into_passes-items.result.1 in
+    let pass_is = c.into_passes-items.ensures.1 in
+    let region : pass.region ≡ 1 = ap (λ (p : RingPass (List Held)). p.region) pass_is ∙ mover.to.1 in
+    let items : List Item = (view mover.consumer.pass).popped in
+    let loads : List (List Held) = (view half.consumer.pass).popped in
+    let popped : List (List Held) = (view c.into_parts-device.result.1.pass).popped in
+    let popped_is : popped ≡ loads = ap (λ k. (view {T = List Held} {V = Knows (List Held)} k.pass).popped) c.into_parts-device.ensures.1 in
+    let back = subst (EachThere (IsEqual (λ (_ : List Held). 1) popped)) c.put_back.ensures c.close-2.ensures.equal in
+    let equal_loads = idle_first g.N.Naming.hand lasts (IsEqual (λ (_ : List Held). 1) popped) c.self.inside.idle pass c.self.invariant.9.0 region back in
+    let through : loads ≡ (view mover.hand.pass).pushed = loads_pushed pass mover.hand loads popped pass_is region popped_is equal_loads in
+    let moved = c.settle_items.ensures.moved in
+    let every : all_trucks loads ≡ appended items = all_popped (view mover.hand.pass).pushed loads mover.load mover.held items mover.tie moved.load moved.held through in
+    let follow : FollowFrom lasts (all_trucks loads) = subst (FollowFrom lasts) (sym every) mover.follow in
+    let equal = subst (λ k. EachThere (IsEqual region_of (view {T = Item} {V = Knows Item} k.pass).popped) c.args.passes) c.into_passes-items.ensures.0 c.close.ensures.equal in
+    let is = subst (λ d. (c.broken-broken.result ≡ true) ↔ IsBroken d) c.into_parts-device.ensures.0 c.broken-broken.ensures in
+    let n_is : half.regions ≡ c.args.self.regions = half.all.0 ∙ (sym c.self.invariant.6 ∙ ap (λ (p : Place). p.regions) c.self.view_is) in
+    let there : length c.args.passes ≡ half.regions = c.requires.passes.1 ∙ sym n_is in
+    let disk_is = c.into_disk.ensures ∙ ap disk_of c.into_parts-device.ensures.0 in
+    let here = region_since base lasts half.device disk (all_trucks loads) follow half.regions half.all.0 c.broken-broken.result is (half.stands told) (half.fell told) items every c.args.passes there equal r content pushed p g.N.Naming.start (half.since told) in
+    subst (λ d. ∥ CommitsSince g.N.Naming.start (g.D.Disk.view d) r (base_of lasts r) content pushed ∥₁) (sym disk_is) here
+
+pub returns-clause-faults : goal.returns-clause-faults
+returns-clause-faults g c =
+    let half = c.settle_loads.new.committer in
+    subst (λ d. g.N.Naming.faults ≤ g.D.Disk.faults d) (sym (c.into_disk.ensures ∙ ap disk_of c.into_parts-device.ensures.0)) (∥∥₁_elim half.cause le_prop (λ k. k.later))
+
+pub returns-clause-cause : goal.returns-clause-cause
+returns-clause-cause g c broken =
+    let half = c.settle_loads.new.committer in
+    let is = subst (λ d. (c.broken-broken.result ≡ true) ↔ IsBroken d) c.into_parts-device.ensures.0 c.broken-broken.ensures in
+    subst (λ d. Rose g.N.Naming.faults (g.D.Disk.faults d)) (sym (c.into_disk.ensures ∙ ap disk_of c.into_parts-device.ensures.0)) (∥∥₁_elim half.cause le_prop (λ k. k.risen (is.0 broken)))

@@ -1,0 +1,35 @@
+use Rattle.std.proofs.Common.{◌≡◌, ◌<◌, ◌≤◌, ℕ, List, [], length, get_or, refl, sym, ap, ◌∙◌, subst, arith}
+use Rattle.std.proofs.Math.Logic.{∥∥₁_map}
+use Rattle.crossbeam_queue.specs.Passes.{view}
+use Rattle.append_ring.specs.Rules.{base_of}
+use Rattle.disk_images.specs.Crash.{Since}
+use Rattle.log_trucks.specs.Held.{Held}
+use Rattle.log_ledger.specs.History.{History}
+use Rattle.log_device.specs.Whole.{IsBroken, disk_of, books_of}
+use Rattle.log_service.specs.Trucks.{come_to}
+use Rattle.log_service.specs.Loads.{all_trucks}
+use Rattle.log_service.specs.Halves.{Stands, RecoversHeld}
+use Rattle.log_service.proofs.Beginning.{stands_first, since_first}
+use Rattle.log_service.proofs.starting.second_half.Goals as goal
+
+pub invariant_of-result : goal.invariant_of-result
+invariant_of-result g c =
+    let d = c.args.device in
+    let v = g.D.Disk.view (disk_of d) in
+    let lasts : List ℕ = g.N.Naming.lasts in
+    let base = g.N.Naming.base in
+    let fresh = c.requires.device in
+    let none : [] ≡ all_trucks (view c.args.consumer.pass).popped = sym (ap all_trucks c.requires.consumer.1) in
+    record {
+      from = (c.requires.hand, c.requires.consumer.0);
+      all = c.requires.regions;
+      served = fresh.served;
+      idle = fresh.idle;
+      drawn = λ whole r low high. fresh.drawn r low high ∙ ap (λ (ts : List Held). come_to (base_of lasts) ts r) none;
+      synced = λ whole. fresh.synced;
+      stands = λ told whole. subst (λ (ts : List Held). ∥ ((h : History) × Stands base lasts d v ts h) ∥₁) none (∥∥₁_map (c.requires.whole told) (λ b. (b.0, stands_first base lasts d v b.0 b.1)));
+      fell = λ told broken. absurd (fresh.unbroken broken);
+      since = λ told. subst (λ (ts : List Held). ∥ Since g.N.Naming.start (RecoversHeld base ts) v ∥₁) none
+          (subst (λ (t : ℕ). ∥ Since t (RecoversHeld base []) v ∥₁) (sym (c.requires.start told)) (∥∥₁_map (c.requires.whole told) (λ b. since_first base lasts d v b.0 b.1)));
+      cause = ∣ record { later = (let same = c.requires.faults in omega (arith, same)); risen = λ broken. absurd (fresh.unbroken broken) } ∣₁;
+    }

@@ -1,0 +1,51 @@
+-- What the device's half has made of the loads that were popped.
+use Rattle.std.specs.Prelude.{◌≡◌, ℕ, ◌+◌, ◌<◌, ◌≤◌, List, [], ◌∷◌, ◌++◌, length, take, get_or, Bool, is_none}
+use Rattle.log_model.specs.Entry.{Entry}
+use Rattle.log_model.specs.Files.{Files}
+use Rattle.recovery.specs.Change.{RecoversSome}
+use Rattle.recovery.specs.Kept.{IsLike, IsOrderly, lasts}
+use Rattle.disk_images.specs.Crash.{DiskView, IsImageNow, Since}
+use Rattle.append_ring.specs.Rules.{base_of}
+use Rattle.log_trucks.specs.Held.{Held, AreHeld}
+use Rattle.log_ledger.specs.History.{History}
+use Rattle.log_ledger.specs.Books.{Books, IsServed}
+use Rattle.log_ledger.specs.Counted.{NoneMayGo}
+use Rattle.log_device.specs.declared.device.Device.{Device}
+use Rattle.log_device.specs.Leaves.{Leaves}
+use Rattle.log_device.specs.Whole.{IsWhole, IsBroken, log_of, books_of}
+use Rattle.log_service.specs.Trucks.{come_to}
+
+-- the history began with these files and these numbers
+pub record BeganWith (found : Files) (lasts_then : List ℕ) (h : History) : Type 0 where
+  pub base : h.kept.base ≡ found
+  pub first : (r : ℕ) → 0 < r → r ≤ length lasts_then → h.kept.first r ≡ base_of lasts_then r
+
+-- a device that isn't broken: all these are committed, and no closed log is wholly flushed
+pub record Stands {D : Type 0} (base : Files) (first : List ℕ) (d : Device D) (disk : DiskView) (popped : List Held) (h : History) : Type 0 where
+  pub whole : IsWhole d disk h
+  pub began : BeganWith base first h
+  pub idle : h.kept.staged ≡ []
+  pub all : AreHeld popped h.kept.durable
+  pub none_may_go : NoneMayGo h
+
+-- a broken device: these were the files when the call that broke it began, and each image leaves them with the first of what was staged then
+pub record Fell {D : Type 0} (base : Files) (first : List ℕ) (d : Device D) (disk : DiskView) (popped : List Held) (h : History) : Type 0 where
+  pub files : Files
+  pub like : IsLike h.kept files
+  pub orderly : IsOrderly h.kept
+  pub began : BeganWith base first h
+  pub taken : ℕ
+  pub within : taken ≤ length popped
+  pub all : AreHeld (take taken popped) (h.kept.durable ++ h.kept.staged)
+  pub synced : (r : ℕ) → 0 < r → r ≤ length first → get_or (books_of d).synced r 0 ≤ lasts h.kept.first h.kept.durable r
+  pub stored : (r : ℕ) → get_or (books_of d).stored r 0 ≤ h.kept.flushed r
+  pub left : (J : Files) → IsImageNow disk J → Leaves (books_of d).stored (books_of d).closed files h.kept.staged J
+
+-- it recovers to these files with a beginning of the entries of these trucks
+pub record RecoversHeld (base : Files) (trucks : List Held) (J : Files) : Type 0 where
+  pub entries : List Entry
+  pub held : AreHeld trucks entries
+  pub recovers : RecoversSome base entries J
+
+abbrev pub broken_of : {D : Type 0} → Device D → Bool
+broken_of d = is_none (log_of d)

@@ -1,0 +1,14 @@
+pub mod Names
+pub mod Trucks
+pub mod Items
+pub mod Loads
+pub mod Order
+pub mod Props
+pub mod Numbers
+pub mod Halves
+pub mod Moves
+pub mod Places
+pub mod Commits
+pub mod Ties
+pub mod Closed
+pub mod Begun

@@ -1,0 +1,63 @@
+//! A device's roll and flush, with the closed logs that may go behind them.
+ghost use Rattle.std.specs.Prelude.{◌≡◌, ◌≤◌, ◌↔◌, ℕ, get_or, Err, IsTrue, IfOk, OnOk, IsErrOf};
+ghost use Rattle.disk_images.specs.Calls.{HasCause};
+ghost use Rattle.log_ledger.specs.History.{History};
+ghost use Rattle.log_ledger.specs.Books.{IsServed};
+ghost use Rattle.log_device.specs.Whole.{IsWhole, IsBroken, disk_of, books_of};
+ghost use Rattle.log_service.specs.Ties.{KeepsTies, KeepsNumbers};
+
+use disk_images::Disk;
+use log_device::{Device, DeviceFlush, RollRefusal, Rolled};
+use std::alloc::Global;
+
+/// Rolls, and after Ok renames the closed logs that are wholly flushed.
+pub(crate) fn roll_archived<D: Disk>(
+    device: &mut Device<D>,
+    alloc: Global,
+) -> Result<Rolled, RollRefusal>
+    requires unbroken { IsBroken device.old → ⊥ }
+    requires whole { IsTrue D.told → ∥ ((h : History) × IsWhole device.old (D.view (disk_of device.old)) h) ∥₁ }
+
+    ensures ties { IsTrue D.told → KeepsTies device.old device.new (D.view (disk_of device.old)) (D.view (disk_of device.new)) }
+    ensures numbers { KeepsNumbers device.old device.new }
+    ensures closed { OnOk result ((books_of device.new).closed ≡ (books_of device.new).synced) }
+    ensures nothing { (n : ℕ) → result ≡ Err (RollRefusal.NothingToRoll n) → (books_of device.new).closed ≡ (books_of device.new).synced }
+    ensures broken { IsErrOf result RollRefusal.WriteFault ↔ IsBroken device.new }
+    ensures cause { HasCause (D.faults (disk_of device.old)) (D.faults (disk_of device.new)) (IsErrOf result RollRefusal.WriteFault) }
+{
+    let rolled = match device.roll(alloc) {
+        Ok(rolled) => rolled,
+        Err(refusal) => return Err(refusal),
+    };
+    match device.archive() {
+        Ok(_) => Ok(rolled),
+        Err(_) => Err(RollRefusal::WriteFault),
+    }
+}
+
+/// Flushes a region, and after Ok renames the closed logs that are wholly flushed.
+pub(crate) fn flush_archived<D: Disk>(
+    device: &mut Device<D>,
+    alloc: Global,
+    region: u32,
+) -> Result<u64, DeviceFlush>
+    requires unbroken { IsBroken device.old → ⊥ }
+    requires served { IsServed (books_of device.old) region }
+    requires whole { IsTrue D.told → ∥ ((h : History) × IsWhole device.old (D.view (disk_of device.old)) h) ∥₁ }
+
+    ensures ties { IsTrue D.told → KeepsTies device.old device.new (D.view (disk_of device.old)) (D.view (disk_of device.new)) }
+    ensures numbers { KeepsNumbers device.old device.new }
+    ensures flushed { IfOk result (λ n. (n ≡ get_or (books_of device.old).drawn region 0) × (get_or (books_of device.new).stored region 0 ≡ n)) }
+    ensures nothing { (n : ℕ) → result ≡ Err (DeviceFlush.Nothing n) → (get_or (books_of device.old).drawn region 0 ≤ n) × (get_or (books_of device.new).stored region 0 ≡ n) }
+    ensures broken { IsErrOf result DeviceFlush.WriteFault ↔ IsBroken device.new }
+    ensures cause { HasCause (D.faults (disk_of device.old)) (D.faults (disk_of device.new)) (IsErrOf result DeviceFlush.WriteFault) }
+{
+    let number = match device.flush(alloc, region) {
+        Ok(number) => number,
+        Err(refusal) => return Err(refusal),
+    };
+    match device.archive() {
+        Ok(_) => Ok(number),
+        Err(_) => Err(DeviceFlush::WriteFault),
+    }
+}

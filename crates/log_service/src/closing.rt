@@ -1,0 +1,85 @@
+//! How a service is closed.
+ghost use Rattle.std.specs.Prelude.{◌≡◌, ◌≤◌, ◌*◌, ℕ, List, length, true, IsTrue};
+ghost use Rattle.cell_model.specs.Order.{Content};
+ghost use Rattle.log_model.specs.Entry.{Entry};
+ghost use Rattle.disk_images.specs.Calls.{Rose};
+ghost use Rattle.append_ring.specs.Rules.{base_of};
+ghost use Rattle.append_ring.specs.Parts.{EachThere};
+ghost use Rattle.log_berth.specs.Standing.{AreBack, AllSaw};
+ghost use Rattle.log_service.specs.Closed.{CommitsRegion, CommitsSince, Pushed};
+
+use crate::item::Item;
+use crate::name::Naming;
+use crate::seats::LogSeats;
+use crate::service::LogService;
+use crate::settling::{settle_items, settle_loads};
+use append_ring::RingPasses;
+use disk_images::Disk;
+use log_berth::{Berthed, SyncedList};
+use std::sync::Wait;
+
+/// What a service leaves: the disk, the synced word of each region, then the stored and the closed ones, and whether the log is broken.
+#[derive(Drop)]
+pub struct ServiceClosed<D> {
+    pub disk: D,
+    pub synced: SyncedList,
+    pub broken: bool,
+}
+
+impl<D: Disk, N: Naming> LogService<D, N> {
+    /// Moves and commits all that is left, unless the log is broken, and gives the disk, once all seats and passes are back. Of a broken
+    /// log what is left is let go, and no disk call is made. It takes no memory.
+    pub fn close<R: Wait>(
+        self,
+        rt: &R,
+        seats: LogSeats,
+        passes: RingPasses<Item>,
+    ) -> ServiceClosed<D>
+        requires consumers { AreBack self.consumer seats.consumers.seats }
+        requires devices { AreBack self.device seats.devices.seats }
+        requires all { length seats.devices.seats ≡ self.seats }
+        requires passes { EachThere (λ p. p.pass.table_id ≡ self.ring) passes × (length passes ≡ self.regions) }
+
+        ensures words { length result.synced ≡ 3 * self.regions }
+        ensures saw { AllSaw seats.devices.seats result.synced result.broken }
+        // Each image has each region's content at the start with the first of the entries pushed: all that the words tell of, and all of
+        // them where the log isn't broken.
+        ensures commits { IsTrue D.told → (r : ℕ) (c : Content) (pushed : List Entry) → Pushed N.base passes r c pushed → ∥ CommitsRegion (D.view result.disk) result.broken self.regions result.synced N.lasts r c pushed ∥₁ }
+        // So it was at each moment since the start.
+        ensures since { IsTrue D.told → (r : ℕ) (c : Content) (pushed : List Entry) → Pushed N.base passes r c pushed → ∥ CommitsSince N.start (D.view result.disk) r (base_of N.lasts r) c pushed ∥₁ }
+        ensures faults { N.faults ≤ D.faults result.disk }
+        ensures cause { result.broken ≡ true → Rose N.faults (D.faults result.disk) }
+    {
+        let LogService {
+            ring,
+            hand,
+            mut idle,
+            consumer,
+            device,
+            regions: _,
+        } = self;
+        let LogSeats { consumers, devices } = seats;
+        let Berthed {
+            ware: mut mover,
+            ..
+        } = consumer.close(consumers);
+        let Berthed {
+            ware: mut committer,
+            synced,
+            broken: _,
+        } = device.close(devices);
+        settle_items(rt, &ring, &passes, &hand, &mut mover, &mut committer);
+        let (items, pass) = mover.into_passes();
+        idle.put_back(pass);
+        settle_loads(rt, &hand, &idle, &mut committer);
+        let (device, loads) = committer.into_parts();
+        ring.close(passes, items);
+        hand.close(idle, loads);
+        let broken = device.broken();
+        ServiceClosed {
+            disk: device.into_disk(),
+            synced,
+            broken,
+        }
+    }
+}

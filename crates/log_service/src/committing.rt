@@ -1,0 +1,51 @@
+//! The work of a device's turn.
+ghost use Rattle.std.specs.Prelude.{◌≡◌, ◌++◌, ℕ, List, [], ◌∷◌, length};
+ghost use Rattle.crossbeam_queue.specs.Passes.{view};
+ghost use Rattle.disk_images.specs.Calls.{Rose};
+ghost use Rattle.log_berth.specs.Words.{NoMore};
+ghost use Rattle.log_trucks.specs.Held.{Held};
+ghost use Rattle.log_device.specs.Whole.{IsBroken, disk_of, books_of};
+ghost use Rattle.log_service.specs.Numbers.{told_numbers};
+ghost use Rattle.log_service.specs.Moves.{WasFull};
+
+use crate::committer::DeviceHalf;
+use crate::load::Load;
+use crate::name::Naming;
+use crate::staging::commit_load;
+use append_ring::Ring;
+use disk_images::Disk;
+use log_device::WriteFault;
+use std::sync::Wait;
+
+/// What a device's turn committed.
+#[derive(Clone, Copy, Debug, PartialEq, Eq)]
+pub enum Commit {
+    /// A load of so many entries.
+    Committed(u64),
+    /// There was no load.
+    Clean,
+    /// A disk call failed.
+    WriteFault,
+}
+
+impl<D: Disk, N: Naming> DeviceHalf<D, N> {
+    /// Pops a load, stages it and commits it. The disk's clock rises by four at most, however many entries the load has.
+    pub(crate) fn commit_one<R: Wait>(&mut self, rt: &R, hand: &Ring<Load>) -> Commit
+        requires hand { hand.now.id ≡ N.hand }
+        requires unbroken { IsBroken self.old.device → ⊥ }
+
+        ensures committed { (n : ℕ) → result ≡ Commit.Committed n → (load : List Held) × ((view self.new.consumer.pass).popped ≡ (view self.old.consumer.pass).popped ++ load ∷ []) × (n ≡ length load) × (IsBroken self.new.device → ⊥) }
+        ensures clean { result ≡ Commit.Clean → (view self.new.consumer.pass ≡ view self.old.consumer.pass) × (self.new.device ≡ self.old.device) × WasFull 0 (view self.old.consumer.pass) }
+        ensures fault { result ≡ Commit.WriteFault → IsBroken self.new.device × Rose (D.faults (disk_of self.old.device)) (D.faults (disk_of self.new.device)) }
+        ensures later { NoMore (told_numbers self.old.regions (books_of self.old.device)) (told_numbers self.new.regions (books_of self.new.device)) }
+        ensures same { self.new.regions ≡ self.old.regions }
+    {
+        let Some(load) = hand.pop(rt, &mut self.consumer) else {
+            return Commit::Clean;
+        };
+        match commit_load(&mut self.device, load) {
+            Ok(count) => Commit::Committed(count),
+            Err(WriteFault) => Commit::WriteFault,
+        }
+    }
+}

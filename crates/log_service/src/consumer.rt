@@ -1,0 +1,81 @@
+//! The consumer's half: what moves items from the ring into loads.
+ghost use Rattle.std.specs.Prelude.{◌≡◌, ◌++◌, [], length, Some};
+ghost use Rattle.crossbeam_queue.specs.Passes.{view};
+ghost use Rattle.append_ring.specs.Rules.{base_of};
+ghost use Rattle.log_service.specs.declared.item.Item.TheVariants as items;
+ghost use Rattle.log_service.specs.Items.{appended, held_in};
+ghost use Rattle.log_service.specs.Trucks.{AreSpelled, FollowFrom};
+ghost use Rattle.log_service.specs.Loads.{all_trucks};
+ghost use Rattle.log_service.specs.Props.{spelled_prop, follow_prop};
+
+use crate::item::Item;
+use crate::load::Load;
+use crate::name::Naming;
+use append_ring::{ConsumerPass, RingPass};
+use log_berth::Ware;
+use std::marker::PhantomData;
+
+/// The pass that pops items, the load that their trucks go into, an item that doesn't fit, and the pass that pushes loads.
+pub struct ConsumerHalf<N: Naming> {
+    pub(crate) consumer: ConsumerPass<Item>,
+    pub(crate) load: Load,
+    pub(crate) held: Option<Item>,
+    pub(crate) hand: RingPass<Load>,
+    // A sync request was moved since the last hand-over.
+    pub(crate) asked: bool,
+    pub(crate) of: PhantomData<N>,
+    ghost ring: { (consumer.pass.table_id ≡ N.ring) × ((view consumer.pass).lasts ≡ N.lasts) },
+    ghost to: { (hand.pass.table_id ≡ N.hand) × (hand.region ≡ 1) × ((view hand.pass).lasts ≡ N.lasts) },
+    // What was popped is in this order in the loads that were handed over, in the own load, and held.
+    ghost tie: { all_trucks (view hand.pass).pushed ++ (load ++ appended (held_in held)) ≡ appended (view consumer.pass).popped },
+    ghost spelled: { AreSpelled (load ++ appended (held_in held)) } by { spelled_prop (load ++ appended (held_in held)) },
+    ghost alone: { (truck : _) → held ≡ Some (items.Append truck) → truck.value.behind ≡ [] },
+    ghost follow: { FollowFrom N.lasts (appended (view consumer.pass).popped) } by { follow_prop (length N.lasts) (base_of N.lasts) (appended (view consumer.pass).popped) },
+}
+
+impl<N: Naming> Drop for ConsumerHalf<N> {
+    fn drop(self) {
+        let ConsumerHalf {
+            consumer: _,
+            load: _,
+            held: _,
+            hand: _,
+            asked: _,
+            of: _,
+        } = self;
+    }
+}
+
+impl<N: Naming> Ware for ConsumerHalf<N> {
+    ghost use Rattle.std.specs.Prelude.{[], false};
+
+    ghost numbers = { λ _. [] };
+
+    ghost is_broken = { λ _. false };
+
+    fn durable(&self, region: u32) -> u64 {
+        let _ = region;
+        0
+    }
+
+    fn broken(&self) -> bool {
+        false
+    }
+}
+
+impl<N: Naming> ConsumerHalf<N> {
+    /// Its two passes. What it has besides is let go.
+    pub(crate) fn into_passes(self) -> (ConsumerPass<Item>, RingPass<Load>)
+        ensures { (result.0 ≡ self.consumer) × (result.1 ≡ self.hand) }
+    {
+        let ConsumerHalf {
+            consumer,
+            load: _,
+            held: _,
+            hand,
+            asked: _,
+            of: _,
+        } = self;
+        (consumer, hand)
+    }
+}

@@ -1,0 +1,84 @@
+//! What was moved is committed, by who has both turns.
+ghost use Rattle.std.specs.Prelude.{◌≡◌, ◌<◌, ◌≤◌, [], get_or, IsTrue, IsFalse};
+ghost use Rattle.crossbeam_queue.specs.Passes.{view};
+ghost use Rattle.log_berth.specs.Words.{NoMore};
+ghost use Rattle.log_device.specs.Whole.{IsBroken, books_of};
+ghost use Rattle.log_service.specs.Numbers.{told_numbers};
+ghost use Rattle.log_service.specs.Moves.{WasFull};
+
+use crate::committer::DeviceHalf;
+use crate::committing::Commit;
+use crate::consumer::ConsumerHalf;
+use crate::item::Item;
+use crate::load::Load;
+use crate::name::Naming;
+use append_ring::Ring;
+use disk_images::Disk;
+use std::sync::Wait;
+use std::thread;
+
+impl<N: Naming> ConsumerHalf<N> {
+    /// Commits the loads in the ring of loads until it was empty at one moment, the own load among them. True where the device broke.
+    pub(crate) fn drain<D: Disk, R: Wait>(
+        &mut self,
+        rt: &R,
+        hand: &Ring<Load>,
+        committer: &mut DeviceHalf<D, N>,
+    ) -> bool
+        requires hand { hand.now.id ≡ N.hand }
+        requires unbroken { IsBroken committer.old.device → ⊥ }
+        ensures failed { IsTrue result → IsBroken committer.new.device }
+        ensures unbroken { IsFalse result → IsBroken committer.new.device → ⊥ }
+        ensures done { IsFalse result → (self.new.load ≡ []) × WasFull 0 (view committer.new.consumer.pass) }
+        ensures later { NoMore (told_numbers committer.old.regions (books_of committer.old.device)) (told_numbers committer.new.regions (books_of committer.new.device)) }
+        ensures same { (committer.new.regions ≡ committer.old.regions) × (self.new.held ≡ self.old.held) × (view self.new.consumer.pass ≡ view self.old.consumer.pass) }
+    {
+        for _load in rt.forever() {
+            self.push_load(rt, hand);
+            match committer.commit_one(rt, hand) {
+                Commit::Committed(_) => {}
+                Commit::Clean => {
+                    if self.load.len() == 0 {
+                        return false;
+                    }
+                }
+                Commit::WriteFault => return true,
+            }
+        }
+        unreachable!()
+    }
+
+    /// Moves items and commits loads until the region's synced number is at or above `upto`. True where the device broke.
+    pub(crate) fn move_up_to<D: Disk, R: Wait>(
+        &mut self,
+        rt: &R,
+        ring: &Ring<Item>,
+        hand: &Ring<Load>,
+        committer: &mut DeviceHalf<D, N>,
+        region: u32,
+        upto: u64,
+    ) -> bool
+        requires rings { (ring.now.id ≡ N.ring) × (hand.now.id ≡ N.hand) }
+        requires unbroken { IsBroken committer.old.device → ⊥ }
+        requires region { region ≤ 64 }
+        ensures failed { IsTrue result → IsBroken committer.new.device }
+        ensures unbroken { IsFalse result → IsBroken committer.new.device → ⊥ }
+        ensures done { IsFalse result → upto ≤ get_or (books_of committer.new.device).synced region 0 }
+        ensures later { NoMore (told_numbers committer.old.regions (books_of committer.old.device)) (told_numbers committer.new.regions (books_of committer.new.device)) }
+        ensures same { committer.new.regions ≡ committer.old.regions }
+    {
+        for _turn in rt.forever() {
+            if committer.synced(region) >= upto {
+                return false;
+            }
+            let _moves = self.move_items(rt, ring);
+            self.push_load(rt, hand);
+            match committer.commit_one(rt, hand) {
+                Commit::Committed(_) => {}
+                Commit::Clean => thread::yield_now(),
+                Commit::WriteFault => return true,
+            }
+        }
+        unreachable!()
+    }
+}

@@ -1,0 +1,115 @@
+//! A region's entries go into a store file.
+ghost use Rattle.std.specs.Prelude.{◌≡◌, ◌≤◌, ◌<◌, ◌↔◌, ℕ, true, [], get_or, Err, IfOk, OnOk, IsErrOf};
+ghost use Rattle.crossbeam_queue.specs.Passes.{view};
+ghost use Rattle.disk_images.specs.Calls.{Rose};
+ghost use Rattle.log_berth.specs.Words.{NoMore};
+ghost use Rattle.log_device.specs.Whole.{IsBroken, disk_of, books_of};
+ghost use Rattle.log_service.specs.Numbers.{told_numbers, seen_stored};
+ghost use Rattle.log_service.specs.Moves.{WasFull};
+ghost use Rattle.log_service.specs.Places.{IsSeatOf, IsLaterSeat};
+
+use crate::archived::flush_archived;
+use crate::committer::DeviceHalf;
+use crate::consumer::ConsumerHalf;
+use crate::item::Item;
+use crate::load::Load;
+use crate::name::Naming;
+use crate::seats::LogSeat;
+use crate::service::LogService;
+use append_ring::Ring;
+use disk_images::Disk;
+use log_berth::Ware;
+use log_device::DeviceFlush;
+use std::alloc::Global;
+use std::sync::Wait;
+
+impl<D: Disk, N: Naming> DeviceHalf<D, N> {
+    /// Flushes a region, and after Ok renames the closed logs that are wholly flushed.
+    fn flush(&mut self, alloc: Global, region: u32) -> Result<u64, DeviceFlush>
+        requires unbroken { IsBroken self.old.device → ⊥ }
+        requires region { (0 < region) × (region ≤ self.old.regions) }
+        ensures flushed { IfOk result (λ n. (get_or (books_of self.old.device).synced region 0 ≤ n) × (get_or (books_of self.new.device).stored region 0 ≡ n)) }
+        ensures nothing { (n : ℕ) → result ≡ Err (DeviceFlush.Nothing n) → (get_or (books_of self.old.device).synced region 0 ≤ n) × (get_or (books_of self.new.device).stored region 0 ≡ n) }
+        ensures broken { IsErrOf result DeviceFlush.WriteFault ↔ IsBroken self.new.device }
+        ensures fault { IsErrOf result DeviceFlush.WriteFault → Rose (D.faults (disk_of self.old.device)) (D.faults (disk_of self.new.device)) }
+        ensures later { NoMore (told_numbers self.old.regions (books_of self.old.device)) (told_numbers self.new.regions (books_of self.new.device)) }
+        ensures same { (self.new.regions ≡ self.old.regions) × (view self.new.consumer.pass ≡ view self.old.consumer.pass) }
+    {
+        flush_archived(&mut self.device, alloc, region)
+    }
+}
+
+impl<N: Naming> ConsumerHalf<N> {
+    /// Moves and commits the region's entries up to a number, commits all else that was moved, and flushes the region.
+    fn flush<D: Disk, R: Wait>(
+        &mut self,
+        rt: &R,
+        alloc: Global,
+        rings: (&Ring<Item>, &Ring<Load>),
+        committer: &mut DeviceHalf<D, N>,
+        region: u32,
+        upto: u64,
+    ) -> Result<u64, DeviceFlush>
+        requires rings { (rings.0.now.id ≡ N.ring) × (rings.1.now.id ≡ N.hand) }
+        requires unbroken { IsBroken committer.old.device → ⊥ }
+        requires region { (0 < region) × (region ≤ committer.old.regions) }
+        ensures flushed { IfOk result (λ n. (upto ≤ n) × (get_or (books_of committer.new.device).stored region 0 ≡ n)) }
+        ensures nothing { (n : ℕ) → result ≡ Err (DeviceFlush.Nothing n) → (upto ≤ n) × (get_or (books_of committer.new.device).stored region 0 ≡ n) }
+        ensures broken { IsErrOf result DeviceFlush.WriteFault ↔ IsBroken committer.new.device }
+        ensures later { NoMore (told_numbers committer.old.regions (books_of committer.old.device)) (told_numbers committer.new.regions (books_of committer.new.device)) }
+        // The loads in the ring were committed until it was empty at one moment, and the own load with them.
+        ensures drained { OnOk result ((self.new.load ≡ []) × WasFull 0 (view committer.new.consumer.pass)) }
+        ensures same { committer.new.regions ≡ committer.old.regions }
+    {
+        let (ring, hand) = rings;
+        if self.move_up_to(rt, ring, hand, committer, region, upto) {
+            return Err(DeviceFlush::WriteFault);
+        }
+        if self.drain(rt, hand, committer) {
+            return Err(DeviceFlush::WriteFault);
+        }
+        match committer.flush(alloc, region) {
+            Ok(number) => Ok(number),
+            Err(refusal) => Err(refusal),
+        }
+    }
+}
+
+impl<D: Disk, N: Naming> LogService<D, N> {
+    /// Takes both turns, moves and commits the region's entries up to `upto`, commits all else that was moved, flushes the region, and
+    /// after Ok renames the closed logs that are wholly flushed. The number flushed is at or above `upto`, which was pushed, and the seat
+    /// has then seen the region's stored word at or above it. `WriteFault` exactly where the seat has then seen the fault.
+    #[tactic(auto, using(crate::proofs::SeatLaws::later_trans))]
+    pub fn flush<R: Wait>(
+        &self,
+        rt: &R,
+        alloc: Global,
+        seat: &mut LogSeat,
+        region: u32,
+        upto: u64,
+    ) -> Result<u64, DeviceFlush>
+        requires seat { IsSeatOf self.now seat.old }
+        requires region { (0 < region) × (region ≤ self.now.regions) }
+        ensures seat { IsSeatOf self.now seat.new }
+        ensures later { IsLaterSeat seat.old seat.new }
+        ensures flushed { IfOk result (λ n. (upto ≤ n) × (n ≤ seen_stored self.now.regions seat.new.device.knows region)) }
+        ensures nothing { (n : ℕ) → result ≡ Err (DeviceFlush.Nothing n) → (upto ≤ n) × (n ≤ seen_stored self.now.regions seat.new.device.knows region) }
+        ensures fault { IsErrOf result DeviceFlush.WriteFault ↔ (seat.new.device.knows.broken ≡ true) }
+    {
+        let (mut mover, mut turn) = self.take_both(rt, seat);
+        if turn.ware.broken() {
+            self.device.give(&mut seat.device, turn);
+            self.consumer.give(&mut seat.consumer, mover);
+            return Err(DeviceFlush::WriteFault);
+        }
+        let rings = (&self.ring, &self.hand);
+        let flushed = mover
+            .ware
+            .flush(rt, alloc, rings, &mut turn.ware, region, upto);
+        self.give_both(seat, mover, turn);
+        match flushed {
+            Ok(number) => Ok(number),
+            Err(refusal) => Err(refusal),
+        }
+    }
+}

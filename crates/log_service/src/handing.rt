@@ -1,0 +1,41 @@
+//! The consumer's part of a device's turn.
+ghost use Rattle.std.specs.Prelude.{◌≡◌, ◌⊎◌, [], false, None};
+ghost use Rattle.crossbeam_queue.specs.Passes.{view};
+ghost use Rattle.log_service.specs.Moves.{bench_of, HasHanded, WasFull};
+
+use crate::consumer::ConsumerHalf;
+use crate::load::Load;
+use crate::name::Naming;
+use append_ring::{Full, Ring};
+use std::mem;
+use std::sync::Wait;
+
+impl<N: Naming> ConsumerHalf<N> {
+    /// Pushes the load into the ring of loads, unless it has no truck or that ring is full. It takes no memory.
+    pub(crate) fn push_load<R: Wait>(&mut self, rt: &R, hand: &Ring<Load>)
+        requires hand { hand.now.id ≡ N.hand }
+        ensures handed { HasHanded hand.now.capacity (view self.old.hand.pass) (bench_of self.old) (bench_of self.new) }
+        ensures same { view self.new.consumer.pass ≡ view self.old.consumer.pass }
+    {
+        if self.load.len() == 0 {
+            return;
+        }
+        let load = mem::replace(&mut self.load, Load::new());
+        match hand.push(rt, &mut self.hand, load) {
+            Ok(()) => self.asked = false,
+            Err(Full { item }) => self.load = item,
+        }
+    }
+
+    /// The same where a sync request was moved since the last hand-over, or an item is held. Then the load has no truck, or neither is
+    /// so, or the ring of loads held its capacity at a moment.
+    pub(crate) fn hand_over<R: Wait>(&mut self, rt: &R, hand: &Ring<Load>)
+        requires hand { hand.now.id ≡ N.hand }
+        ensures handed { (self.new.load ≡ []) ⊎ (((self.new.asked ≡ false) × (self.new.held ≡ None)) ⊎ WasFull hand.now.capacity (view self.old.hand.pass)) }
+        ensures same { (view self.new.consumer.pass ≡ view self.old.consumer.pass) × (self.new.held ≡ self.old.held) }
+    {
+        if self.asked || self.held.is_some() {
+            self.push_load(rt, hand);
+        }
+    }
+}

@@ -1,0 +1,44 @@
+//! The log service: handlers push entries and sync requests, and whoever waits moves them into loads and commits loads.
+//!
+//! The consumer's half pops items into a load and hands loads over, and the device's half commits them. Each half lies in a berth of its
+//! own, so that one thread moves items while another one commits. Kept true: the entries of the loads handed over, of the own load and a
+//! held one are the appends popped, in order; while the device isn't broken, what was committed since the start are the entries of the
+//! loads popped. No word is raised above what is committed. Nothing is said of who takes a turn, nor that a wait ends.
+#![tactic(auto)]
+
+mod archived;
+mod closing;
+mod committer;
+mod committing;
+mod consumer;
+mod draining;
+mod flushing;
+mod handing;
+mod item;
+mod load;
+mod moving;
+mod name;
+mod pairing;
+mod raising;
+mod rolling;
+mod seats;
+mod service;
+mod settling;
+mod staging;
+mod starting;
+mod turning;
+mod waiting;
+
+pub use closing::ServiceClosed;
+pub use committer::DeviceHalf;
+pub use committing::Commit;
+pub use consumer::ConsumerHalf;
+pub use item::Item;
+pub use load::Load;
+pub use moving::Moves;
+pub use name::Naming;
+pub use seats::{LogSeat, LogSeats};
+pub use service::LogService;
+pub use starting::{Rings, ServiceParts, ServiceRefusal};
+pub use turning::{ConsumerTurn, SyncTurn};
+pub use waiting::Waited;

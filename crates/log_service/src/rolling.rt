@@ -1,0 +1,100 @@
+//! From one log file to the next.
+ghost use Rattle.std.specs.Prelude.{◌≡◌, ◌≤◌, ◌<◌, ◌↔◌, ℕ, true, [], Err, IfOk, OnOk, IsErrOf};
+ghost use Rattle.crossbeam_queue.specs.Passes.{view};
+ghost use Rattle.disk_images.specs.Calls.{Rose};
+ghost use Rattle.log_berth.specs.Words.{NoMore};
+ghost use Rattle.log_device.specs.Whole.{IsBroken, disk_of, books_of};
+ghost use Rattle.log_service.specs.Numbers.{told_numbers, seen_synced, seen_closed};
+ghost use Rattle.log_service.specs.Moves.{WasFull};
+ghost use Rattle.log_service.specs.Places.{IsSeatOf, IsLaterSeat};
+
+use crate::archived::roll_archived;
+use crate::committer::DeviceHalf;
+use crate::consumer::ConsumerHalf;
+use crate::load::Load;
+use crate::name::Naming;
+use crate::seats::LogSeat;
+use crate::service::LogService;
+use append_ring::Ring;
+use disk_images::Disk;
+use log_berth::Ware;
+use log_device::{RollRefusal, Rolled};
+use std::alloc::Global;
+use std::sync::Wait;
+
+impl<D: Disk, N: Naming> DeviceHalf<D, N> {
+    /// Rolls, and after Ok renames the closed logs that are wholly flushed.
+    fn roll(&mut self, alloc: Global) -> Result<Rolled, RollRefusal>
+        requires unbroken { IsBroken self.old.device → ⊥ }
+        ensures closed { OnOk result ((books_of self.new.device).closed ≡ (books_of self.new.device).synced) }
+        ensures nothing { (n : ℕ) → result ≡ Err (RollRefusal.NothingToRoll n) → (books_of self.new.device).closed ≡ (books_of self.new.device).synced }
+        ensures broken { IsErrOf result RollRefusal.WriteFault ↔ IsBroken self.new.device }
+        ensures fault { IsErrOf result RollRefusal.WriteFault → Rose (D.faults (disk_of self.old.device)) (D.faults (disk_of self.new.device)) }
+        ensures later { NoMore (told_numbers self.old.regions (books_of self.old.device)) (told_numbers self.new.regions (books_of self.new.device)) }
+        ensures same { (self.new.regions ≡ self.old.regions) × (view self.new.consumer.pass ≡ view self.old.consumer.pass) }
+    {
+        roll_archived(&mut self.device, alloc)
+    }
+}
+
+impl<N: Naming> ConsumerHalf<N> {
+    /// Commits all that was moved, and rolls.
+    fn roll<D: Disk, R: Wait>(
+        &mut self,
+        rt: &R,
+        alloc: Global,
+        hand: &Ring<Load>,
+        committer: &mut DeviceHalf<D, N>,
+    ) -> Result<Rolled, RollRefusal>
+        requires hand { hand.now.id ≡ N.hand }
+        requires unbroken { IsBroken committer.old.device → ⊥ }
+        ensures closed { OnOk result ((books_of committer.new.device).closed ≡ (books_of committer.new.device).synced) }
+        ensures nothing { (n : ℕ) → result ≡ Err (RollRefusal.NothingToRoll n) → (books_of committer.new.device).closed ≡ (books_of committer.new.device).synced }
+        ensures broken { IsErrOf result RollRefusal.WriteFault ↔ IsBroken committer.new.device }
+        ensures later { NoMore (told_numbers committer.old.regions (books_of committer.old.device)) (told_numbers committer.new.regions (books_of committer.new.device)) }
+        // The loads in the ring were committed until it was empty at one moment, and the own load with them.
+        ensures drained { OnOk result ((self.new.load ≡ []) × WasFull 0 (view committer.new.consumer.pass)) }
+        ensures same { committer.new.regions ≡ committer.old.regions }
+    {
+        if self.drain(rt, hand, committer) {
+            return Err(RollRefusal::WriteFault);
+        }
+        match committer.roll(alloc) {
+            Ok(rolled) => Ok(rolled),
+            Err(refusal) => Err(refusal),
+        }
+    }
+}
+
+impl<D: Disk, N: Naming> LogService<D, N> {
+    /// Takes both turns, commits all that was moved, rolls, and after Ok renames the closed logs that are wholly flushed. After Ok, and
+    /// where there is nothing to roll, the seat has seen each closed word at or above the synced words that it had seen before.
+    /// `WriteFault` exactly where the seat has then seen the fault.
+    #[tactic(auto, using(crate::proofs::SeatLaws::later_trans))]
+    pub fn roll<R: Wait>(
+        &self,
+        rt: &R,
+        alloc: Global,
+        seat: &mut LogSeat,
+    ) -> Result<Rolled, RollRefusal>
+        requires seat { IsSeatOf self.now seat.old }
+        ensures seat { IsSeatOf self.now seat.new }
+        ensures later { IsLaterSeat seat.old seat.new }
+        ensures closed { IfOk result (λ _. (r : ℕ) → 0 < r → r ≤ self.now.regions → seen_synced seat.old.device.knows r ≤ seen_closed self.now.regions seat.new.device.knows r) }
+        ensures nothing { (n : ℕ) → result ≡ Err (RollRefusal.NothingToRoll n) → (r : ℕ) → 0 < r → r ≤ self.now.regions → seen_synced seat.old.device.knows r ≤ seen_closed self.now.regions seat.new.device.knows r }
+        ensures fault { IsErrOf result RollRefusal.WriteFault ↔ (seat.new.device.knows.broken ≡ true) }
+    {
+        let (mut mover, mut turn) = self.take_both(rt, seat);
+        if turn.ware.broken() {
+            self.device.give(&mut seat.device, turn);
+            self.consumer.give(&mut seat.consumer, mover);
+            return Err(RollRefusal::WriteFault);
+        }
+        let rolled = mover.ware.roll(rt, alloc, &self.hand, &mut turn.ware);
+        self.give_both(seat, mover, turn);
+        match rolled {
+            Ok(rolled) => Ok(rolled),
+            Err(refusal) => Err(refusal),
+        }
+    }
+}

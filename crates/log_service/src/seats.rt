@@ -1,0 +1,44 @@
+//! The seats of a service.
+ghost use Rattle.std.specs.Prelude.{◌≡◌, ◌∷◌, ◌++◌, ◌<◌, [], length, MatchOption};
+
+use log_berth::{LogSeat as BerthSeat, LogSeats as BerthSeats};
+
+/// Two seats, one of the consumer's berth and one of the device's.
+#[derive(Drop)]
+pub struct LogSeat {
+    pub consumer: BerthSeat,
+    pub device: BerthSeat,
+}
+
+/// The seats that are not handed out.
+#[derive(Drop)]
+pub struct LogSeats {
+    pub(crate) consumers: BerthSeats,
+    pub(crate) devices: BerthSeats,
+    ghost pairs: { length consumers.seats ≡ length devices.seats },
+}
+
+impl LogSeats {
+    /// A seat, or None exactly after the last. It takes no memory.
+    pub fn next(&mut self) -> Option<LogSeat>
+        ensures { MatchOption result ((self.old.devices.seats ≡ []) × (self.new ≡ self.old)) (λ seat. (self.old.consumers.seats ≡ self.new.consumers.seats ++ seat.consumer ∷ []) × (self.old.devices.seats ≡ self.new.devices.seats ++ seat.device ∷ []) × (self.new.consumers.room ≡ self.old.consumers.room) × (self.new.devices.room ≡ self.old.devices.room)) }
+    {
+        let consumer = self.consumers.next();
+        let device = self.devices.next();
+        match (consumer, device) {
+            (Some(consumer), Some(device)) => Some(LogSeat { consumer, device }),
+            _ => None,
+        }
+    }
+
+    /// Takes a seat back. It takes no memory.
+    pub fn put_back(&mut self, seat: LogSeat)
+        requires room { (length self.old.consumers.seats < self.old.consumers.room) × (length self.old.devices.seats < self.old.devices.room) }
+        ensures back { (self.new.consumers.seats ≡ self.old.consumers.seats ++ seat.consumer ∷ []) × (self.new.devices.seats ≡ self.old.devices.seats ++ seat.device ∷ []) }
+        ensures rooms { (self.new.consumers.room ≡ self.old.consumers.room) × (self.new.devices.room ≡ self.old.devices.room) }
+    {
+        let LogSeat { consumer, device } = seat;
+        self.consumers.put_back(consumer);
+        self.devices.put_back(device);
+    }
+}

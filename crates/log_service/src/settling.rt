@@ -1,0 +1,120 @@
+//! What is left at the close is moved and committed; of a broken log it is popped and let go.
+ghost use Rattle.std.specs.Prelude.{◌≡◌, length, IsTrue};
+ghost use Rattle.crossbeam_queue.specs.Passes.{view};
+ghost use Rattle.append_ring.specs.Parts.{EachThere, IsDrained};
+ghost use Rattle.log_berth.specs.Words.{NoMore};
+ghost use Rattle.log_device.specs.Whole.{IsBroken, books_of};
+ghost use Rattle.log_service.specs.Numbers.{told_numbers};
+ghost use Rattle.log_service.specs.Moves.{bench_of, IsAllMoved};
+
+use crate::committer::DeviceHalf;
+use crate::consumer::ConsumerHalf;
+use crate::item::Item;
+use crate::load::Load;
+use crate::name::Naming;
+use append_ring::{Ring, RingPasses};
+use disk_images::Disk;
+use std::sync::Wait;
+
+impl<N: Naming> ConsumerHalf<N> {
+    /// Whether all that was pushed under these passes was popped and handed over.
+    fn is_done(&self, ring: &Ring<Item>, passes: &RingPasses<Item>) -> bool
+        requires there { EachThere (λ p. p.pass.table_id ≡ ring.now.id) passes.now }
+        requires all { length passes.now ≡ length N.lasts }
+        ensures { IsTrue result → IsAllMoved (bench_of self.now) passes.now }
+    {
+        if self.held.is_some() || self.load.len() > 0 {
+            return false;
+        }
+        ring.drained(passes, &self.consumer)
+    }
+}
+
+impl<D: Disk, N: Naming> DeviceHalf<D, N> {
+    /// Whether all that was pushed under these passes was popped.
+    fn is_done(&self, hand: &Ring<Load>, passes: &RingPasses<Load>) -> bool
+        requires there { EachThere (λ p. p.pass.table_id ≡ hand.now.id) passes.now }
+        requires all { length passes.now ≡ length N.lasts }
+        ensures { IsTrue result → EachThere (IsDrained (λ _. 1) (view self.now.consumer.pass).popped) passes.now }
+    {
+        hand.drained(passes, &self.consumer)
+    }
+
+    /// Pops a load and lets it go, where the device is broken.
+    fn drop_one<R: Wait>(&mut self, rt: &R, hand: &Ring<Load>)
+        requires hand { hand.now.id ≡ N.hand }
+        requires broken { IsBroken self.old.device }
+        ensures { (self.new.device ≡ self.old.device) × (self.new.regions ≡ self.old.regions) }
+    {
+        let Some(load) = hand.pop(rt, &mut self.consumer) else {
+            return;
+        };
+        drop(load);
+    }
+
+    /// Pops a load, and commits it unless the device is broken.
+    fn settle_one<R: Wait>(&mut self, rt: &R, hand: &Ring<Load>)
+        requires hand { hand.now.id ≡ N.hand }
+        ensures later { NoMore (told_numbers self.old.regions (books_of self.old.device)) (told_numbers self.new.regions (books_of self.new.device)) }
+        ensures broken { IsBroken self.old.device → IsBroken self.new.device }
+        ensures same { self.new.regions ≡ self.old.regions }
+    {
+        if self.device.broken() {
+            self.drop_one(rt, hand);
+        } else {
+            let _commit = self.commit_one(rt, hand);
+        }
+    }
+}
+
+/// Moves and hands over all items, and settles loads meanwhile.
+pub(crate) fn settle_items<D: Disk, N: Naming, R: Wait>(
+    rt: &R,
+    ring: &Ring<Item>,
+    passes: &RingPasses<Item>,
+    hand: &Ring<Load>,
+    mover: &mut ConsumerHalf<N>,
+    committer: &mut DeviceHalf<D, N>,
+)
+    requires rings { (ring.now.id ≡ N.ring) × (hand.now.id ≡ N.hand) }
+    requires there { EachThere (λ p. p.pass.table_id ≡ ring.now.id) passes.now }
+    requires all { length passes.now ≡ length N.lasts }
+    ensures moved { IsAllMoved (bench_of mover.new) passes.now }
+    ensures later { NoMore (told_numbers committer.old.regions (books_of committer.old.device)) (told_numbers committer.new.regions (books_of committer.new.device)) }
+    ensures broken { IsBroken committer.old.device → IsBroken committer.new.device }
+    ensures same { committer.new.regions ≡ committer.old.regions }
+{
+    for _turn in rt.forever() {
+        if mover.is_done(ring, passes) {
+            return;
+        }
+        let _moves = mover.move_items(rt, ring);
+        mover.push_load(rt, hand);
+        committer.settle_one(rt, hand);
+    }
+    unreachable!()
+}
+
+/// Settles all loads.
+pub(crate) fn settle_loads<D: Disk, N: Naming, R: Wait>(
+    rt: &R,
+    hand: &Ring<Load>,
+    passes: &RingPasses<Load>,
+    committer: &mut DeviceHalf<D, N>,
+)
+    requires hand { hand.now.id ≡ N.hand }
+    requires there { EachThere (λ p. p.pass.table_id ≡ hand.now.id) passes.now }
+    requires all { length passes.now ≡ length N.lasts }
+    ensures drained { EachThere (IsDrained (λ _. 1) (view committer.new.consumer.pass).popped) passes.now }
+    ensures later { NoMore (told_numbers committer.old.regions (books_of committer.old.device)) (told_numbers committer.new.regions (books_of committer.new.device)) }
+    ensures broken { IsBroken committer.old.device → IsBroken committer.new.device }
+    ensures same { committer.new.regions ≡ committer.old.regions }
+{
+    for _turn in rt.forever() {
+        if committer.is_done(hand, passes) {
+            return;
+        }
+        committer.settle_one(rt, hand);
+    }
+    unreachable!()
+}

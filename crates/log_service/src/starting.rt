@@ -1,0 +1,166 @@
+//! How a service is started: first its rings, without a name, and then the service, over a name that names them.
+ghost use Rattle.std.specs.Prelude.{◌≡◌, ◌<◌, ◌≤◌, ◌*◌, ℕ, [], length, replicate, IsTrue, IfOk, IfErr};
+ghost use Rattle.crossbeam_queue.specs.Passes.{view};
+ghost use Rattle.append_ring.specs.Parts.{IsNew};
+ghost use Rattle.log_berth.specs.Words.{starts};
+ghost use Rattle.log_berth.specs.Standing.{fresh};
+ghost use Rattle.log_ledger.specs.History.{History};
+ghost use Rattle.log_device.specs.Whole.{disk_of, books_of};
+ghost use Rattle.log_service.specs.Begun.{IsFresh, BeginsAs, AreNewParts, AreParts};
+ghost use Rattle.log_service.specs.Numbers.{told_numbers};
+
+use crate::committer::DeviceHalf;
+use crate::consumer::ConsumerHalf;
+use crate::item::Item;
+use crate::load::Load;
+use crate::name::Naming;
+use crate::seats::LogSeats;
+use crate::service::LogService;
+use append_ring::{ConsumerPass, NoMemory, Ring, RingParts, RingPass, RingPasses};
+use disk_images::Disk;
+use log_berth::{Berth, BerthParts};
+use log_device::Device;
+use std::alloc::Global;
+use std::marker::PhantomData;
+
+/// How many loads the ring of loads holds.
+const LOADS: u32 = 2;
+
+/// The two rings, with their passes: what a name names.
+#[derive(Drop)]
+pub struct Rings {
+    pub items: RingParts<Item>,
+    pub loads: RingParts<Load>,
+}
+
+/// A service, the passes of its regions and its seats.
+pub struct ServiceParts<D: Disk, N: Naming> {
+    pub service: LogService<D, N>,
+    pub passes: RingPasses<Item>,
+    pub seats: LogSeats,
+}
+
+/// There was no memory. The device comes back.
+#[derive(Drop)]
+pub struct ServiceRefusal<D> {
+    pub device: Device<D>,
+}
+
+impl Rings {
+    /// The first part of a start: a ring of 1,024 items, and one of two loads. `lasts` has for each region, from 1 on, the number before
+    /// its first drawn one.
+    pub fn new(alloc: Global, lasts: &[u64]) -> Result<Rings, NoMemory>
+        requires { (0 < length lasts.now) × (length lasts.now ≤ 64) }
+        ensures items { IfOk result (λ r. (r.items.ring.capacity ≡ 1024) × AreNewParts r.items.ring.id lasts.now r.items.consumer.pass.table_id (view r.items.consumer.pass) r.items.passes) }
+        ensures loads { IfOk result (λ r. (r.loads.ring.capacity ≡ 2) × AreNewParts r.loads.ring.id lasts.now r.loads.consumer.pass.table_id (view r.loads.consumer.pass) r.loads.passes) }
+    {
+        let items = Ring::new(alloc, lasts)?;
+        let loads = Ring::of_capacity(alloc, lasts, LOADS)?;
+        Ok(Rings { items, loads })
+    }
+}
+
+/// The consumer's half at the start.
+fn first_half<N: Naming>(consumer: ConsumerPass<Item>, hand: RingPass<Load>) -> ConsumerHalf<N>
+    requires ring { consumer.pass.table_id ≡ N.ring }
+    requires consumer { ((view consumer.pass).lasts ≡ N.lasts) × ((view consumer.pass).popped ≡ []) }
+    requires hand { IsNew N.hand N.lasts 1 hand }
+{
+    ConsumerHalf {
+        consumer,
+        load: Load::new(),
+        held: None,
+        hand,
+        asked: false,
+        of: PhantomData,
+    }
+}
+
+/// The device's half at the start.
+fn second_half<D: Disk, N: Naming>(
+    device: Device<D>,
+    consumer: ConsumerPass<Load>,
+    regions: u32,
+) -> DeviceHalf<D, N>
+    requires regions { (regions ≡ length N.lasts) × (regions ≤ 64) }
+    requires hand { consumer.pass.table_id ≡ N.hand }
+    requires consumer { ((view consumer.pass).lasts ≡ N.lasts) × ((view consumer.pass).popped ≡ []) }
+    requires device { IsFresh N.lasts device }
+    requires whole { IsTrue D.told → ∥ ((h : History) × BeginsAs N.base N.lasts device (D.view (disk_of device)) h) ∥₁ }
+    requires start { IsTrue D.told → N.start ≡ (D.view (disk_of device)).clock }
+    requires faults { N.faults ≡ D.faults (disk_of device) }
+    ensures { (result.device ≡ device) × (result.regions ≡ regions) }
+{
+    DeviceHalf {
+        device,
+        consumer,
+        regions,
+        of: PhantomData,
+    }
+}
+
+impl<D: Disk, N: Naming> LogService<D, N> {
+    /// The second part of a start, over a device into which nothing was staged since it was started with the regions 1 to `regions`,
+    /// whose numbers are those of the rings. Each seat has seen what the device tells. The refusal is want of memory.
+    pub fn start(
+        alloc: Global,
+        rings: Rings,
+        device: Device<D>,
+        regions: u32,
+        seats: u32,
+    ) -> Result<ServiceParts<D, N>, ServiceRefusal<D>>
+        requires seats { 0 < seats }
+        requires regions { (regions ≡ length N.lasts) × (0 < regions) × (regions ≤ 64) }
+        requires items { (rings.items.ring.capacity ≡ 1024) × AreParts N.ring N.lasts rings.items.ring.id rings.items.consumer.pass.table_id (view rings.items.consumer.pass) rings.items.passes }
+        requires loads { (rings.loads.ring.capacity ≡ 2) × AreParts N.hand N.lasts rings.loads.ring.id rings.loads.consumer.pass.table_id (view rings.loads.consumer.pass) rings.loads.passes }
+        requires device { IsFresh N.lasts device }
+        requires whole { IsTrue D.told → ∥ ((h : History) × BeginsAs N.base N.lasts device (D.view (disk_of device)) h) ∥₁ }
+        requires start { IsTrue D.told → N.start ≡ (D.view (disk_of device)).clock }
+        requires faults { N.faults ≡ D.faults (disk_of device) }
+
+        ensures service { IfOk result (λ p. (p.service.ring ≡ N.ring) × (p.service.regions ≡ regions) × (p.service.seats ≡ seats)) }
+        ensures passes { IfOk result (λ p. p.passes ≡ rings.items.passes) }
+        ensures consumers { IfOk result (λ p. (p.seats.consumers.seats ≡ replicate seats (fresh p.service.consumer (starts 1 []))) × (seats ≤ p.seats.consumers.room)) }
+        ensures devices { IfOk result (λ p. (p.seats.devices.seats ≡ replicate seats (fresh p.service.device (starts (3 * regions) (told_numbers regions (books_of device))))) × (seats ≤ p.seats.devices.room)) }
+        ensures refused { IfErr result (λ r. r.device ≡ device) }
+    {
+        let Rings { items, loads } = rings;
+        let mut idle = loads.passes;
+        let Some(hand) = idle.next() else {
+            unreachable!()
+        };
+        let mover = first_half(items.consumer, hand);
+        let Ok(
+            BerthParts {
+                berth: consumer,
+                seats: consumers,
+            },
+        ) = Berth::new(alloc, mover, 1, seats)
+        else {
+            return Err(ServiceRefusal { device });
+        };
+        let committer = second_half(device, loads.consumer, regions);
+        match Berth::new(alloc, committer, 3 * regions, seats) {
+            Ok(
+                BerthParts {
+                    berth,
+                    seats: devices,
+                },
+            ) => Ok(ServiceParts {
+                service: LogService {
+                    ring: items.ring,
+                    hand: loads.ring,
+                    idle,
+                    consumer,
+                    device: berth,
+                    regions,
+                },
+                passes: items.passes,
+                seats: LogSeats { consumers, devices },
+            }),
+            Err(refusal) => Err(ServiceRefusal {
+                device: refusal.ware.into_device(),
+            }),
+        }
+    }
+}

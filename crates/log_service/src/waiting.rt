@@ -1,0 +1,71 @@
+//! Waiting for what was pushed to be durable.
+ghost use Rattle.std.specs.Prelude.{◌≡◌, ◌≤◌, ◌<◌, true};
+ghost use Rattle.log_service.specs.Numbers.{seen_synced};
+ghost use Rattle.log_service.specs.Places.{IsSeatOf, IsLaterSeat};
+
+use crate::name::Naming;
+use crate::seats::LogSeat;
+use crate::service::LogService;
+use crate::turning::SyncTurn;
+use disk_images::Disk;
+use std::sync::Wait;
+use std::thread;
+
+/// How a wait ended.
+#[derive(Clone, Copy, Debug, PartialEq, Eq)]
+pub enum Waited {
+    /// The seat has seen the synced word at or above the number.
+    Synced,
+    /// The fault word was seen set, and the synced word loaded after that is below the number. It stands.
+    Broken,
+}
+
+impl<D: Disk, N: Naming> LogService<D, N> {
+    /// Loads the fault word, and then the region's synced word.
+    fn look(&self, seat: &mut LogSeat, region: u32) -> (bool, u64)
+        requires seat { IsSeatOf self.now seat.old }
+        requires region { (0 < region) × (region ≤ self.now.regions) }
+        ensures seat { IsSeatOf self.now seat.new }
+        ensures later { IsLaterSeat seat.old seat.new }
+        ensures broken { result.0 ≡ seat.new.device.knows.broken }
+        ensures number { result.1 ≡ seen_synced seat.new.device.knows region }
+    {
+        let broken = self.device.broken(&mut seat.device);
+        let number = self.device.seen(&mut seat.device, region);
+        (broken, number)
+    }
+
+    /// Waits until the region's synced word is at or above a number, or the log is broken below it. Meanwhile it takes turns, and gives
+    /// the processor away where nothing was committed.
+    #[tactic(auto, using(crate::proofs::SeatLaws::later_trans))]
+    pub fn wait_synced<R: Wait>(
+        &self,
+        rt: &R,
+        seat: &mut LogSeat,
+        region: u32,
+        number: u64,
+    ) -> Waited
+        requires seat { IsSeatOf self.now seat.old }
+        requires region { (0 < region) × (region ≤ self.now.regions) }
+        ensures seat { IsSeatOf self.now seat.new }
+        ensures later { IsLaterSeat seat.old seat.new }
+        ensures synced { result ≡ Waited.Synced → number ≤ seen_synced seat.new.device.knows region }
+        ensures broken { result ≡ Waited.Broken → (seat.new.device.knows.broken ≡ true) × (seen_synced seat.new.device.knows region < number) }
+    {
+        for _turn in rt.forever() {
+            let (broken, synced) = self.look(seat, region);
+            if synced >= number {
+                return Waited::Synced;
+            }
+            if broken {
+                return Waited::Broken;
+            }
+            let _moves = self.consumer_turn(rt, seat);
+            match self.sync_turn(rt, seat) {
+                SyncTurn::Synced(_) => {}
+                _ => thread::yield_now(),
+            }
+        }
+        unreachable!()
+    }
+}
