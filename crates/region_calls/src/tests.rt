@@ -1,0 +1,69 @@
+ghost use Rattle.std.specs.Prelude.{◌≡◌, [], IfOk};
+
+use super::Scanner;
+use kv_cell::{Batch, Cell};
+use mem_segments::{Base, Draft, Segment};
+use region_state::{Caller, Ended, RegionState, Version};
+use std::alloc::Global;
+use std::sync::Arc;
+use std::test::Fail;
+
+/// A region with no cell.
+fn empty_region(alloc: Global) -> Result<RegionState, Fail>
+    ensures { IfOk result (λ s. (s.lines ≡ []) × (s.base.last ≡ 0)) }
+{
+    let base = Base {
+        cells: Arc::new(alloc, Segment::new(alloc))?,
+        last: 0,
+    };
+    Ok(RegionState::new(alloc, 1, base)?)
+}
+
+/// A version that shows the rows `a`, `b` and `c`, each with one cell.
+fn three_rows(alloc: Global) -> Result<Arc<Version, Global>, Fail> {
+    let mut cells = Vec::new(alloc);
+    for row in [b"a", b"b", b"c"] {
+        cells.push(Cell::new(alloc, row, b"f", b"q", 1, 4, b"v")?)?;
+    }
+    let batch = Arc::new(alloc, Batch::new(cells)?)?;
+    let draft = Draft::new(alloc, &batch)?;
+    let mut state = empty_region(alloc)?;
+    state.ready()?;
+    let caller = Caller {
+        handler: 1,
+        call: 1,
+    };
+    let entry = state.begin_edit(caller, 1000, batch, draft);
+    state.end_edit(entry, Ended::Done);
+    Ok(state.next_version(alloc)?)
+}
+
+/// The rows of a scan by pages of two cells, with a bar behind each page that isn't the last and a dot behind those that
+/// are done.
+fn pages_of_two(alloc: Global, from: &[u8], to: &[u8], pages: u32) -> Result<Vec<u8>, Fail> {
+    let version = three_rows(alloc)?;
+    let mut scanner = Scanner::of_version(alloc, version, from, to)?;
+    let mut told = Vec::new(alloc);
+    for _ in 0..pages {
+        let page = scanner.next(alloc, 2)?;
+        for (_, cell) in page.cells.into_vec() {
+            told.extend_from_slice(cell.row.as_slice())?;
+        }
+        told.push(if page.done { b'.' } else { b'|' })?;
+    }
+    Ok(told)
+}
+
+#[test]
+fn pages_of_three_cells(rt: HostRuntime) -> Result<(), Fail> {
+    let alloc = rt.alloc();
+    assert_eq!(rt;
+        pages_of_two(alloc, b"", b"", 3)?.as_slice(),
+        b"ab|c..".as_slice()
+    );
+    assert_eq!(rt;
+        pages_of_two(alloc, b"b", b"c", 1)?.as_slice(),
+        b"b.".as_slice()
+    );
+    Ok(())
+}
