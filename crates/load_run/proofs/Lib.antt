@@ -1,9 +1,1 @@
-pub mod Pieces
-pub mod ReadScript
-pub mod Committing
-pub mod Framing
-pub mod Ending
-pub mod RegionLaws
-pub mod Replies
-pub mod Shows
 pub mod Finish

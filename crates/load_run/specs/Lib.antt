@@ -1,13 +1,2 @@
 pub mod Words
-pub mod Printing
-pub mod Going
-pub mod Occasion
-pub mod Logging
-pub mod Regions
-pub mod Showing
 pub mod Top
-pub mod Steps
-pub mod Written
-pub mod Committed
-pub mod Framed
-pub mod Shown

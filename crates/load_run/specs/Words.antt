@@ -1,5 +1,6 @@
 -- The words of the commands.
 use Rattle.std.specs.Prelude.{ℕ, if◌then◌else◌, List, [], ◌∷◌, Option, Some, None, codes}
+use Rattle.script_model.specs.Text.{is_number, number_of}
 use Rattle.script_model.specs.Fields.{is}
 use Rattle.load_run.specs.declared.words.Word.{Word as CodeWord}
 use Rattle.load_run.specs.declared.words.Word.TheVariants as code
@@ -7,13 +8,16 @@ use Rattle.load_run.specs.declared.words.Word.TheVariants as code
 pub data Word : Type 0 where
   To_log : Word
   To_show : Word
+  To_dump : ℕ → Word
 
 abbrev pub meaning_of : CodeWord → Word
 meaning_of code.Log = To_log
 meaning_of code.Show = To_show
+meaning_of (code.Dump number) = To_dump number
 
 -- the command that words name
 abbrev pub word_of : List (List ℕ) → Option Word
 word_of [] = None
 word_of (a ∷ []) = if is a (codes "log") then Some To_log else (if is a (codes "show") then Some To_show else None)
-word_of (a ∷ b ∷ words) = None
+word_of (a ∷ b ∷ []) = if is a (codes "dump") then (if is_number b then Some (To_dump (number_of b)) else None) else None
+word_of (a ∷ b ∷ c ∷ words) = None

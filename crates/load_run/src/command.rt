@@ -6,23 +6,24 @@ ghost use Rattle.log_model.specs.declared.name.Name.{Name};
 ghost use Rattle.disk_images.specs.Calls.{Rose};
 ghost use Rattle.script_model.specs.Fields.{Why};
 ghost use Rattle.load_run.specs.Words.{Word as TheWord, word_of};
-ghost use Rattle.load_run.specs.Occasion.{occasion, IsUnchanged, GoesOn};
-ghost use Rattle.load_run.specs.Printing.{Prints};
-ghost use Rattle.load_run.specs.Top.{Ends, IsRefusal, refusal_line, IsScriptFault, IsWrongAt, IsScriptAt, IsDamageFor, IsDamageOf, IsNotEmpty, IsOrEarlier, WantsEmpty, HasRightScript, IsReady, IsComplete};
-ghost use Rattle.load_run.specs.declared.status.Damage.{Damage as TheDamage};
+ghost use Rattle.command_ends.specs.Invocation.{invocation, IsUnchanged, GoesOn};
+ghost use Rattle.command_ends.specs.Prints.{Prints};
+ghost use Rattle.load_run.specs.Top.{Ends, TakesNoScript, IsWrongAt, IsDamageFor, WantsEmpty, HasRightScript, IsReady};
+ghost use Rattle.command_ends.specs.Status.{IsRefusal, refusal_line, IsScriptFault, IsScriptAt, IsDamageOf, IsNotEmpty, IsOrEarlier, IsComplete};
+ghost use Rattle.command_ends.specs.declared.status.Damage.{Damage as TheDamage};
 
 use crate::gate::Gate;
-use crate::log_command::log;
-use crate::output::refuse;
-use crate::show_command::show;
-use crate::status::{Outcome, Status};
 use crate::words::{Word, read_words};
+use command_ends::{Outcome, Status, refuse};
 use disk_images::{Disk, Sink, Source};
+use dump_command::dump;
+use log_command::log;
+use show_command::show;
 use std::alloc::Global;
 use std::sync::Wait;
 use std::thread::Threads;
 
-/// Carries out the command that the words name: `log` or `show`. The source has a script, the sink takes the output. The
+/// Carries out the command that the words name: `log`, `show` or `dump NUMBER`. The source has a script, the sink takes the output. The
 /// gate holds handlers, which these commands don't have.
 pub fn run<R: Threads + Wait + Sync, D: Disk + Send, S: Source, K: Sink, G: Gate + Sync>(
     _rt: &R,
@@ -35,34 +36,44 @@ pub fn run<R: Threads + Wait + Sync, D: Disk + Send, S: Source, K: Sink, G: Gate
 ) -> Outcome<D>
     // What stands with each status of a command.
     ensures ends { IsTrue S.told → IsTrue D.told → IsTrue K.told → (word : TheWord) → word_of (map (λ w. w.now) words.now) ≡ Some word
-        → Ends word result.status (occasion (S.left script.old) (D.view disk) (D.view result.disk) (K.taken out.old) (K.taken out.new)) (Rose (D.faults disk) (D.faults result.disk)) }
+        → Ends word result.status (invocation (S.left script.old) (D.view disk) (D.view result.disk) (K.taken out.old) (K.taken out.new))
+        (Rose (D.faults disk) (D.faults result.disk)) }
     ensures refusal { IsTrue K.told → IsRefusal result.status → (text : List ℕ) → refusal_line result.status ≡ Some text
         → Prints (K.taken out.old) (K.taken out.new) text (Rose (K.faults out.old) (K.faults out.new)) }
     ensures leaves_disk { IsTrue D.told → IsRefusal result.status → IsUnchanged (D.view disk) (D.view result.disk) }
     // The images of former moments stay.
     ensures moments { IsTrue D.told → GoesOn (D.view disk) (D.view result.disk) }
+    // Only a command that takes a script reads the source.
+    ensures leaves_source { TakesNoScript (word_of (map (λ w. w.now) words.now)) → script.new ≡ script.old }
 
     // Which status comes only where. Want of memory is free.
     ensures usage_only { result.status ≡ Status.Usage → word_of (map (λ w. w.now) words.now) ≡ None }
-    ensures script_only { IsTrue S.told → (word : TheWord) → word_of (map (λ w. w.now) words.now) ≡ Some word → IsScriptFault result.status (IsWrongAt word (S.left script.old)) }
+    ensures script_only { IsTrue S.told → (word : TheWord) → word_of (map (λ w. w.now) words.now) ≡ Some word
+        → IsScriptFault result.status (IsWrongAt word (S.left script.old)) }
     ensures source_cause { result.status ≡ Status.SourceFault → Rose (S.faults script.old) (S.faults script.new) }
     ensures disk_cause { result.status ≡ Status.DiskFault → Rose (D.faults disk) (D.faults result.disk) }
     ensures sink_cause { result.status ≡ Status.SinkFault → Rose (K.faults out.old) (K.faults out.new) }
-    ensures damage_only { IsTrue D.told → (word : TheWord) → word_of (map (λ w. w.now) words.now) ≡ Some word → IsDamageOf result.status (IsDamageFor word (D.view disk).files) }
+    ensures damage_only { IsTrue D.told → (word : TheWord) → word_of (map (λ w. w.now) words.now) ≡ Some word
+        → IsDamageOf result.status (IsDamageFor word (D.view disk).files) }
     ensures not_empty_only { IsTrue D.told → IsNotEmpty result.status (D.view disk).files }
 
     // Which status comes exactly where, unless memory was refused or one that is decided before it came.
     ensures usage { word_of (map (λ w. w.now) words.now) ≡ None → IsOrEarlier result.status Status.Usage [] }
-    ensures script { IsTrue S.told → (word : TheWord) (line : ℕ) (why : Why) → word_of (map (λ w. w.now) words.now) ≡ Some word → IsWrongAt word (S.left script.old) line why
+    ensures script { IsTrue S.told → (word : TheWord) (line : ℕ) (why : Why) → word_of (map (λ w. w.now) words.now) ≡ Some word
+        → IsWrongAt word (S.left script.old) line why
         → IsScriptAt result.status line why ⊎ Contains (Status.Memory ∷ Status.SourceFault ∷ []) result.status }
-    ensures damage { IsTrue D.told → (word : TheWord) (damage : TheDamage) → word_of (map (λ w. w.now) words.now) ≡ Some word → IsDamageFor word (D.view disk).files damage
+    ensures damage { IsTrue D.told → (word : TheWord) (damage : TheDamage) → word_of (map (λ w. w.now) words.now) ≡ Some word
+        → IsDamageFor word (D.view disk).files damage
         → IsOrEarlier result.status (Status.Damaged damage) (Status.DiskFault ∷ []) }
-    ensures not_empty { IsTrue S.told → IsTrue D.told → (word : TheWord) (name : Name) (rest : List Name) → word_of (map (λ w. w.now) words.now) ≡ Some word → WantsEmpty word → HasRightScript word (S.left script.old)
+    ensures not_empty { IsTrue S.told → IsTrue D.told → (word : TheWord) (name : Name) (rest : List Name)
+        → word_of (map (λ w. w.now) words.now) ≡ Some word → WantsEmpty word → HasRightScript word (S.left script.old)
         → keys (D.view disk).files ≡ name ∷ rest → IsOrEarlier result.status (Status.NotEmpty name) (Status.SourceFault ∷ Status.DiskFault ∷ []) }
 
     // With a command, a script and a store as it wants them, and no fault, it is done or memory was refused.
-    ensures complete { IsTrue S.told → IsTrue D.told → (word : TheWord) → word_of (map (λ w. w.now) words.now) ≡ Some word → IsReady word (S.left script.old) (D.view disk).files
-        → (Rose (S.faults script.old) (S.faults script.new) → ⊥) → (Rose (D.faults disk) (D.faults result.disk) → ⊥) → (Rose (K.faults out.old) (K.faults out.new) → ⊥) → IsComplete result.status }
+    ensures complete { IsTrue S.told → IsTrue D.told → (word : TheWord) → word_of (map (λ w. w.now) words.now) ≡ Some word
+        → IsReady word (S.left script.old) (D.view disk).files
+        → (Rose (S.faults script.old) (S.faults script.new) → ⊥) → (Rose (D.faults disk) (D.faults result.disk) → ⊥)
+        → (Rose (K.faults out.old) (K.faults out.new) → ⊥) → IsComplete result.status }
 {
     let mut disk = disk;
     match read_words(words) {
@@ -72,6 +83,10 @@ pub fn run<R: Threads + Wait + Sync, D: Disk + Send, S: Source, K: Sink, G: Gate
         },
         Some(Word::Show) => Outcome {
             status: show(alloc, &mut disk, out),
+            disk,
+        },
+        Some(Word::Dump { number }) => Outcome {
+            status: dump(alloc, number, &mut disk, out),
             disk,
         },
         None => Outcome {

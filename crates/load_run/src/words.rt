@@ -4,6 +4,8 @@ ghost use Rattle.std.specs.Prelude.{◌≡◌, [], ◌∷◌, map};
 ghost use Rattle.std.specs.Option.{option_map};
 ghost use Rattle.load_run.specs.Words.{word_of, meaning_of};
 
+use script_text::number;
+
 /// A command.
 #[derive(Clone, Copy, Debug, PartialEq, Eq)]
 pub enum Word {
@@ -11,6 +13,8 @@ pub enum Word {
     Log,
     /// Prints what a log holds.
     Show,
+    /// Prints the entries of the log of this number as they stand in its file.
+    Dump { number: u64 },
 }
 
 /// The command that the words name.
@@ -19,6 +23,7 @@ pub fn read_words(words: &[&str]) -> Option<Word>
 {
     match words {
         [word] => read_word(word),
+        [word, operand] => read_pair(word, operand),
         _ => None,
     }
 }
@@ -33,4 +38,16 @@ fn read_word(word: &str) -> Option<Word>
         return Some(Word::Show);
     }
     None
+}
+
+fn read_pair(word: &str, operand: &str) -> Option<Word>
+    ensures { option_map meaning_of result ≡ word_of (word.now ∷ operand.now ∷ []) }
+{
+    if word != "dump" {
+        return None;
+    }
+    match number(operand.as_bytes()) {
+        Some(number) => Some(Word::Dump { number }),
+        None => None,
+    }
 }

@@ -1,4 +1,3 @@
-pub mod Answers
 pub mod Refusals
 pub mod Texts
 pub mod Reading

@@ -4,9 +4,9 @@ ghost use Rattle.std.specs.Prelude.{◌≡◌, ◌++◌, OnOk, codes};
 ghost use Rattle.std.specs.List.{flat_map};
 ghost use Rattle.script_model.specs.Report.{edit_text, outcome_name, region_text};
 
-use crate::report_lines::{EditLine, RegionLine};
 use crate::words::{append, append_number, append_numbers};
 use kv_cell::NoMemory;
+use script_calls::{EditLine, RegionLine};
 
 /// The end of an edit's line.
 fn outcome(done: bool) -> &'static [u8]

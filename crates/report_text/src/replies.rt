@@ -3,15 +3,14 @@
 ghost use Rattle.std.specs.Prelude.{◌≡◌, ◌≤◌, ◌+◌, [], ◌++◌, IfOk, OnOk, length, take, vec_len};
 ghost use Rattle.std.specs.List.{flat_map};
 ghost use Rattle.script_model.specs.Report.{cell_line, cells_told, end_line, replies_text, reply_text};
-ghost use Rattle.report_text.specs.Answers.{answer_of};
+ghost use Rattle.script_calls.specs.Answers.{answer_of};
 ghost use Rattle.report_text.specs.Texts.{answer_text, reply_head};
 
-use crate::answer::Answer;
 use crate::cells::append_cells;
-use crate::reply::{ReplyLine, ReplyLines};
 use crate::short_line::Line;
 use crate::words::append;
 use kv_cell::{NoMemory, Octets};
+use script_calls::{Answer, ReplyLine, ReplyLines};
 use std::alloc::Global;
 
 /// Adds the words of an answer.

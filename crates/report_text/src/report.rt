@@ -6,9 +6,9 @@ ghost use Rattle.script_model.specs.Report.{report_text, region_text};
 
 use crate::edits::append_journal;
 use crate::replies::append_replies;
-use crate::report_lines::{RegionLine, Report};
 use crate::words::append;
 use kv_cell::{NoMemory, Octets};
+use script_calls::{RegionLine, Report};
 use std::alloc::Global;
 
 fn append_regions(out: &mut Vec<u8>, regions: &[RegionLine]) -> Result<(), NoMemory>

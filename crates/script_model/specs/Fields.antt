@@ -1,8 +1,10 @@
 -- The causes for which a script is refused, and the fields of a line with the checks of each.
-use Rattle.std.specs.Prelude.{ℕ, ◌+◌, ◌-◌, ◌^◌, Bool, ◌&&◌, ◌||◌, ◌==◌, not, nat_lt, nat_le, nat_eq, if◌then◌else◌, List, [], ◌∷◌, ◌++◌, length, Option, Some, None, is_none, unwrap_or, codes}
+use Rattle.std.specs.Prelude.{ℕ, ◌+◌, ◌-◌, ◌^◌, Bool, true, false, ◌&&◌, ◌||◌, ◌==◌, not, nat_lt, nat_le, nat_eq, if◌then◌else◌, List, [], ◌∷◌, ◌++◌, length, Option, Some, None, is_none, unwrap_or, codes}
 use Rattle.std.specs.Cmp.Lexicographic.{pointwise}
 use Rattle.cell_model.specs.Cell.{Cell, is_kind, spelling_length}
 use Rattle.script_model.specs.Text.{is_number, number_of, token_of}
+use Rattle.script_model.specs.declared.command.Command.{Command}
+use Rattle.script_model.specs.declared.command.Command.TheVariants.{Log, Run}
 
 -- the causes: word 1, number 2, token 3, region 4, handler 5, count 6, too-long 7, a cell's 8 with its number,
 -- not-here 9, entry-length 10
@@ -65,8 +67,8 @@ cell_of time row family qualifier ts kind value =
 -- ---- what is wrong with a field
 
 -- a number from low to high: one out of range has its own cause
-unfoldable pub number_fault : (low high cause : ℕ) → List ℕ → Option Why
-number_fault low high cause word = first_why ((not (is_number word), why 2) ∷ (is_out low high (number_of word), why cause) ∷ [])
+unfoldable pub number_fault : (low high : ℕ) (out : Why) → List ℕ → Option Why
+number_fault low high out word = first_why ((not (is_number word), why 2) ∷ (is_out low high (number_of word), out) ∷ [])
 
 unfoldable pub token_fault : List ℕ → Option Why
 token_fault word = first_why ((has_no_token word, why 3) ∷ [])
@@ -90,18 +92,22 @@ mode_fault word = first_why ((not (is word (codes "sync") || is word (codes "asy
 
 -- ---- what `log` does not take
 
+abbrev pub is_log : Command → Bool
+is_log Log = true
+is_log Run = false
+
 -- any call but a put
-unfoldable pub here_fault : (log : Bool) → Option Why
-here_fault log = first_why ((log, why 9) ∷ [])
+unfoldable pub here_fault : Command → Option Why
+here_fault command = first_why ((is_log command, why 9) ∷ [])
 
 -- more than one region or handler
-unfoldable pub one_here_fault : (log : Bool) → List ℕ → Option Why
-one_here_fault log word = first_why ((log && not (number_of word == 1), why 9) ∷ [])
+unfoldable pub one_here_fault : Command → ℕ → Option Why
+one_here_fault command count = first_why ((is_log command && not (count == 1), why 9) ∷ [])
 
 -- a put that does not wait
-unfoldable pub mode_here_fault : (log : Bool) → List ℕ → Option Why
-mode_here_fault log word = first_why ((log && not (is word (codes "sync")), why 9) ∷ [])
+unfoldable pub mode_here_fault : Command → List ℕ → Option Why
+mode_here_fault command word = first_why ((is_log command && not (is word (codes "sync")), why 9) ∷ [])
 
 -- a cell that deletes
-unfoldable pub kind_here_fault : (log : Bool) → List ℕ → Option Why
-kind_here_fault log word = first_why ((log && not (code_of word == 4), why 9) ∷ [])
+unfoldable pub kind_here_fault : Command → List ℕ → Option Why
+kind_here_fault command word = first_why ((is_log command && not (code_of word == 4), why 9) ∷ [])

@@ -1,4 +1,3 @@
 pub mod FewLaws
 pub mod GroupLaws
-pub mod ReadingLaws
 pub mod TextLaws

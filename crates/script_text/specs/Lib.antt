@@ -1,6 +1,4 @@
-pub mod Calls
 pub mod Grouping
-pub mod Laws
 pub mod Spoken
 pub mod State
 pub mod Why

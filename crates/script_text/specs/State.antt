@@ -3,7 +3,7 @@ use Rattle.std.specs.Prelude.{◌≡◌, ℕ, ◌+◌, ◌-◌, ◌^◌, ◌<◌
 use Rattle.cell_model.specs.Cell.{Cell}
 use Rattle.cell_model.specs.Batch.{body_length}
 use Rattle.region_model.specs.Calls.{Call}
-use Rattle.script_text.specs.Calls.{call_of}
+use Rattle.script_calls.specs.Calls.{call_of}
 use Rattle.script_text.specs.Spoken.{IsCallOf}
 use Rattle.script_text.specs.declared.state.HandlerCall.{HandlerCall}
 

@@ -1,9 +1,9 @@
 //! Head lines and lines of calls.
 
-ghost use Rattle.std.specs.Prelude.{◌≡◌, ◌≤◌, IfOk, Some, codes, map};
+ghost use Rattle.std.specs.Prelude.{◌≡◌, ◌≤◌, [], ◌∷◌, IfOk, Some, codes, map};
 ghost use Rattle.region_model.specs.Calls.{Scan};
 ghost use Rattle.script_model.specs.Fields.{bytes_of, is};
-ghost use Rattle.script_model.specs.Tables.{Calls, Opens, call_fault, handler_fault, head_fault, put_fault, region_fault, scan_fault, second_number, spoken_of};
+ghost use Rattle.script_model.specs.Tables.{Calls, Opens, call_fault, counted_fault, handler_fault, head_fault, put_fault, region_fault, scan_fault, second_number, spoken_of};
 ghost use Rattle.script_model.specs.Text.{number_of};
 ghost use Rattle.script_text.specs.Spoken.{InRange, spoken};
 ghost use Rattle.script_text.specs.Why.{Tells};
@@ -11,8 +11,9 @@ ghost use Rattle.script_text.specs.Why.{Tells};
 use crate::faults::{LineError, ScriptWhy};
 use crate::fields::{any_token, mode, ranged};
 use crate::here::{here, mode_here, one_here};
-use crate::script::Call;
 use kv_cell::{Durability, Octets};
+use script_calls::Call;
+use script_model::Command;
 use std::alloc::Global;
 
 /// What a line of calls says: a call of a handler, or a put whose cells follow.
@@ -31,14 +32,8 @@ pub enum Spoken {
 }
 
 /// The number of a head line.
-pub fn head_line(
-    log: bool,
-    words: &[&[u8]],
-    name: &[u8],
-    low: u64,
-    high: u64,
-) -> Result<u64, LineError>
-    ensures exact { Tells result (head_fault log name.now low high (map (λ w. w.now) words.now)) }
+pub fn head_line(words: &[&[u8]], name: &[u8], low: u64, high: u64) -> Result<u64, LineError>
+    ensures exact { Tells result (head_fault name.now low high (map (λ w. w.now) words.now)) }
     ensures value { IfOk result (λ n. n ≡ second_number (map (λ w. w.now) words.now)) }
     ensures within { IfOk result (λ n. (low ≤ n) × (n ≤ high)) }
 {
@@ -47,12 +42,26 @@ pub fn head_line(
             if *first != name {
                 return Err(LineError::Wrong(ScriptWhy::Word));
             }
-            let n = ranged(word, low, high, ScriptWhy::Number, 2)?;
-            one_here(log, n, word)?;
-            Ok(n)
+            ranged(word, low, high, ScriptWhy::Number)
         }
         _ => Err(LineError::Wrong(ScriptWhy::Word)),
     }
+}
+
+/// The number of a head line that counts from 1: `log` takes 1 alone.
+pub fn counted_line(
+    command: Command,
+    words: &[&[u8]],
+    name: &[u8],
+    high: u64,
+) -> Result<u64, LineError>
+    ensures exact { Tells result (counted_fault command name.now high (map (λ w. w.now) words.now)) }
+    ensures value { IfOk result (λ n. n ≡ second_number (map (λ w. w.now) words.now)) }
+    ensures within { IfOk result (λ n. (1 ≤ n) × (n ≤ high)) }
+{
+    let n = head_line(words, name, 1, high)?;
+    one_here(command, n)?;
+    Ok(n)
 }
 
 /// The number of a handler.
@@ -61,7 +70,7 @@ fn handler_of(word: &[u8], handlers: u64) -> Result<u64, LineError>
     ensures within { IfOk result (λ n. (1 ≤ n) × (n ≤ handlers)) }
     ensures exact { Tells result (handler_fault handlers word.now) }
 {
-    ranged(word, 1, handlers, ScriptWhy::Handler, 5)
+    ranged(word, 1, handlers, ScriptWhy::Handler)
 }
 
 /// The number of a region.
@@ -70,62 +79,106 @@ fn region_of(word: &[u8], regions: u32) -> Result<u32, LineError>
     ensures within { IfOk result (λ n. (1 ≤ n) × (n ≤ regions)) }
     ensures exact { Tells result (region_fault regions word.now) }
 {
-    let n = ranged(word, 1, regions as u64, ScriptWhy::Region, 4)?;
+    let n = ranged(word, 1, regions as u64, ScriptWhy::Region)?;
     Ok(n as u32)
 }
 
 /// What a line of calls says, behind head lines that gave so many handlers and regions.
 pub fn call_line(
     alloc: Global,
-    log: bool,
+    command: Command,
     handlers: u64,
     regions: u32,
     words: &[&[u8]],
 ) -> Result<Spoken, LineError>
-    ensures exact { Tells result (call_fault log handlers regions (map (λ w. w.now) words.now)) }
+    ensures exact { Tells result (call_fault command handlers regions (map (λ w. w.now) words.now)) }
     ensures value { IfOk result (λ s. spoken_of (map (λ w. w.now) words.now) ≡ Some (spoken s)) }
     ensures within { IfOk result (λ s. InRange handlers regions s) }
 {
     match words {
-        [name, h] => {
-            if *name != b"roll".as_slice() {
-                return Err(LineError::Wrong(ScriptWhy::Word));
-            }
-            let handler = handler_of(h, handlers)?;
-            here(log)?;
-            Ok(Spoken::Calls {
-                handler,
-                call: Call::Roll,
-            })
-        }
-        [name, h, r] => {
-            if *name != b"flush".as_slice() {
-                return Err(LineError::Wrong(ScriptWhy::Word));
-            }
-            let handler = handler_of(h, handlers)?;
-            let region = region_of(r, regions)?;
-            here(log)?;
-            Ok(Spoken::Calls {
-                handler,
-                call: Call::Flush { region },
-            })
-        }
-        [name, h, r, x, y] => {
-            if *name == b"put".as_slice() {
-                return put_line(log, handlers, regions, h, r, x, y);
-            }
-            if *name != b"scan".as_slice() {
-                return Err(LineError::Wrong(ScriptWhy::Word));
-            }
-            scan_line(alloc, log, handlers, regions, h, r, x, y)
-        }
+        [name, h] => roll_line(command, handlers, regions, name, h),
+        [name, h, r] => flush_line(command, handlers, regions, name, h, r),
+        [name, h, r, x, y] => put_or_scan(alloc, command, handlers, regions, name, h, r, x, y),
         _ => Err(LineError::Wrong(ScriptWhy::Word)),
     }
 }
 
+/// A roll.
+fn roll_line(
+    command: Command,
+    handlers: u64,
+    regions: u32,
+    name: &[u8],
+    h: &[u8],
+) -> Result<Spoken, LineError>
+    ensures exact { Tells result (call_fault command handlers regions (name.now ∷ h.now ∷ [])) }
+    ensures value { IfOk result (λ s. spoken_of (name.now ∷ h.now ∷ []) ≡ Some (spoken s)) }
+    ensures within { IfOk result (λ s. InRange handlers regions s) }
+{
+    if name != b"roll".as_slice() {
+        return Err(LineError::Wrong(ScriptWhy::Word));
+    }
+    let handler = handler_of(h, handlers)?;
+    here(command)?;
+    Ok(Spoken::Calls {
+        handler,
+        call: Call::Roll,
+    })
+}
+
+/// A flush of a region.
+fn flush_line(
+    command: Command,
+    handlers: u64,
+    regions: u32,
+    name: &[u8],
+    h: &[u8],
+    r: &[u8],
+) -> Result<Spoken, LineError>
+    ensures exact { Tells result (call_fault command handlers regions (name.now ∷ h.now ∷ r.now ∷ [])) }
+    ensures value { IfOk result (λ s. spoken_of (name.now ∷ h.now ∷ r.now ∷ []) ≡ Some (spoken s)) }
+    ensures within { IfOk result (λ s. InRange handlers regions s) }
+{
+    if name != b"flush".as_slice() {
+        return Err(LineError::Wrong(ScriptWhy::Word));
+    }
+    let handler = handler_of(h, handlers)?;
+    let region = region_of(r, regions)?;
+    here(command)?;
+    Ok(Spoken::Calls {
+        handler,
+        call: Call::Flush { region },
+    })
+}
+
+/// A put or a scan.
+fn put_or_scan(
+    alloc: Global,
+    command: Command,
+    handlers: u64,
+    regions: u32,
+    name: &[u8],
+    h: &[u8],
+    r: &[u8],
+    x: &[u8],
+    y: &[u8],
+) -> Result<Spoken, LineError>
+    ensures exact { Tells result (call_fault command handlers regions (name.now ∷ h.now ∷ r.now ∷ x.now ∷ y.now ∷ [])) }
+    ensures value { IfOk result (λ s. spoken_of (name.now ∷ h.now ∷ r.now ∷ x.now ∷ y.now ∷ []) ≡ Some (spoken s)) }
+    ensures within { IfOk result (λ s. InRange handlers regions s) }
+{
+    if name == b"put".as_slice() {
+        return put_line(command, handlers, regions, h, r, x, y);
+    }
+    if name != b"scan".as_slice() {
+        return Err(LineError::Wrong(ScriptWhy::Word));
+    }
+    scan_line(alloc, command, handlers, regions, h, r, x, y)
+}
+
 /// A put whose cells follow.
 fn put_line(
-    log: bool,
+    command: Command,
     handlers: u64,
     regions: u32,
     h: &[u8],
@@ -133,15 +186,15 @@ fn put_line(
     word: &[u8],
     count: &[u8],
 ) -> Result<Spoken, LineError>
-    ensures exact { Tells result (put_fault log handlers regions h.now r.now word.now count.now) }
+    ensures exact { Tells result (put_fault command handlers regions h.now r.now word.now count.now) }
     ensures value { IfOk result (λ s. spoken s ≡ Opens (number_of h.now) (number_of r.now) (is word.now (codes "sync")) (number_of count.now)) }
     ensures within { IfOk result (λ s. InRange handlers regions s) }
 {
     let handler = handler_of(h, handlers)?;
     let region = region_of(r, regions)?;
     let durability = mode(word)?;
-    let count = ranged(count, 1, 1024, ScriptWhy::Count, 6)?;
-    mode_here(log, durability, word)?;
+    let count = ranged(count, 1, 1024, ScriptWhy::Count)?;
+    mode_here(command, durability, word)?;
     Ok(Spoken::Opens {
         handler,
         region,
@@ -153,7 +206,7 @@ fn put_line(
 /// A scan of the rows between two tokens.
 fn scan_line(
     alloc: Global,
-    log: bool,
+    command: Command,
     handlers: u64,
     regions: u32,
     h: &[u8],
@@ -161,7 +214,7 @@ fn scan_line(
     from: &[u8],
     to: &[u8],
 ) -> Result<Spoken, LineError>
-    ensures exact { Tells result (scan_fault log handlers regions h.now r.now from.now to.now) }
+    ensures exact { Tells result (scan_fault command handlers regions h.now r.now from.now to.now) }
     ensures value { IfOk result (λ s. spoken s ≡ Calls (number_of h.now) (Scan (number_of r.now) (bytes_of from.now) (bytes_of to.now))) }
     ensures within { IfOk result (λ s. InRange handlers regions s) }
 {
@@ -169,7 +222,7 @@ fn scan_line(
     let region = region_of(r, regions)?;
     let from = any_token(alloc, from)?;
     let to = any_token(alloc, to)?;
-    here(log)?;
+    here(command)?;
     Ok(Spoken::Calls {
         handler,
         call: Call::Scan {

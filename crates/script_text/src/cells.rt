@@ -10,6 +10,7 @@ use crate::faults::{CellField, LineError, ScriptWhy};
 use crate::fields::{kind, sized, stamp};
 use crate::here::kind_here;
 use kv_cell::{Cell, Octets};
+use script_model::Command;
 use std::alloc::Global;
 
 /// Whether the cell has room in the body of its entry, which has so many bytes without it.
@@ -28,7 +29,7 @@ fn room(body: usize, cell: &Cell) -> Result<(), LineError>
 /// The cell of these words, where the body of its entry has so many bytes without it.
 pub fn cell_line(
     alloc: Global,
-    log: bool,
+    command: Command,
     time: u64,
     body: usize,
     row: &[u8],
@@ -42,7 +43,7 @@ pub fn cell_line(
     requires body { body ≤ 1048576 }
     ensures room { IfOk result (λ cell. body + spelling_length cell ≤ 1048576) }
     ensures value { IfOk result (λ cell. cell ≡ cell_of time row.now family.now qualifier.now ts.now name.now value.now) }
-    ensures exact { Tells result (cell_fault log time body row.now family.now qualifier.now ts.now name.now value.now) }
+    ensures exact { Tells result (cell_fault command time body row.now family.now qualifier.now ts.now name.now value.now) }
 {
     let row = sized(alloc, row, 1, 32_767, CellField::Row)?;
     let family = sized(alloc, family, 1, 127, CellField::Family)?;
@@ -59,14 +60,14 @@ pub fn cell_line(
         value: Octets::of(value),
     };
     room(body, &cell)?;
-    kind_here(log, kind, name)?;
+    kind_here(command, kind, name)?;
     Ok(cell)
 }
 
 /// The cell of a line where one is due.
 pub fn due_line(
     alloc: Global,
-    log: bool,
+    command: Command,
     time: u64,
     body: usize,
     words: &[&[u8]],
@@ -75,7 +76,7 @@ pub fn due_line(
     requires body { body ≤ 1048576 }
     ensures room { IfOk result (λ cell. body + spelling_length cell ≤ 1048576) }
     ensures value { IfOk result (λ cell. cell_in time (map (λ w. w.now) words.now) ≡ Some cell) }
-    ensures exact { Tells result (due_fault log time body (map (λ w. w.now) words.now)) }
+    ensures exact { Tells result (due_fault command time body (map (λ w. w.now) words.now)) }
 {
     match words {
         [name, row, family, qualifier, ts, kind, value] => {
@@ -83,7 +84,7 @@ pub fn due_line(
                 return Err(LineError::Wrong(ScriptWhy::Count));
             }
             cell_line(
-                alloc, log, time, body, row, family, qualifier, ts, kind, value,
+                alloc, command, time, body, row, family, qualifier, ts, kind, value,
             )
         }
         [name, ..] => {

@@ -6,7 +6,7 @@ ghost use Rattle.kv_cell.specs.Kind.{code_of as kind_code};
 ghost use Rattle.script_model.specs.Fields.{bytes_of, code_of, is, kind_fault, mode_fault, number_fault, sized_fault, token_fault, ts_fault};
 ghost use Rattle.script_model.specs.Fields.{ts_of};
 ghost use Rattle.script_model.specs.Text.{number_of};
-ghost use Rattle.script_text.specs.Calls.{is_sync};
+ghost use Rattle.script_calls.specs.Calls.{is_sync};
 ghost use Rattle.script_model.specs.Why.{limit_of, why_of};
 ghost use Rattle.script_text.specs.Why.{Tells};
 
@@ -18,11 +18,10 @@ use std::alloc::Global;
 
 /// A number from `low` to `high`, refused for `out` where it is one and out of this range.
 #[tactic(auto, using(std::proofs::lemmas::Bool::Decides::nat_tests), unfolding(script_model::specs::Fields::number_fault))]
-pub fn ranged(word: &[u8], low: u64, high: u64, out: ScriptWhy, cause: u8) -> Result<u64, LineError>
-    requires { why_of out ≡ record { cause = cause; limit = 0 } }
+pub fn ranged(word: &[u8], low: u64, high: u64, out: ScriptWhy) -> Result<u64, LineError>
     ensures value { IfOk result (λ n. n ≡ number_of word.now) }
     ensures within { IfOk result (λ n. (low ≤ n) × (n ≤ high)) }
-    ensures exact { Tells result (number_fault low high cause word.now) }
+    ensures exact { Tells result (number_fault low high (why_of out) word.now) }
 {
     let Some(n) = number(word) else {
         return Err(LineError::Wrong(ScriptWhy::Number));

@@ -3,56 +3,61 @@
 ghost use Rattle.std.specs.Prelude.{◌≡◌, codes};
 ghost use Rattle.kv_cell.specs.Kind.{code_of as kind_code};
 ghost use Rattle.script_model.specs.Fields.{code_of, here_fault, is, kind_here_fault, mode_here_fault, one_here_fault};
-ghost use Rattle.script_model.specs.Text.{number_of};
-ghost use Rattle.script_text.specs.Calls.{is_sync};
+ghost use Rattle.script_calls.specs.Calls.{is_sync};
 ghost use Rattle.script_text.specs.Why.{Tells};
 
 use crate::faults::{LineError, ScriptWhy};
 use kv_cell::{Durability, Kind};
+use script_model::Command;
 
 /// No call but a put.
 #[tactic(auto, unfolding(script_model::specs::Fields::here_fault))]
-pub fn here(log: bool) -> Result<(), LineError>
-    ensures exact { Tells result (here_fault log) }
+pub fn here(command: Command) -> Result<(), LineError>
+    ensures exact { Tells result (here_fault command) }
 {
-    if log {
-        return Err(LineError::Wrong(ScriptWhy::NotHere));
+    match command {
+        Command::Log => Err(LineError::Wrong(ScriptWhy::NotHere)),
+        Command::Run => Ok(()),
     }
-    Ok(())
 }
 
 /// One region and one handler.
 #[tactic(auto, using(std::proofs::lemmas::Bool::Decides::nat_tests), unfolding(script_model::specs::Fields::one_here_fault))]
-pub fn one_here(log: bool, n: u64, word: &[u8]) -> Result<(), LineError>
-    requires { n ≡ number_of word.now }
-    ensures exact { Tells result (one_here_fault log word.now) }
+pub fn one_here(command: Command, count: u64) -> Result<(), LineError>
+    ensures exact { Tells result (one_here_fault command count) }
 {
-    if log && n != 1 {
-        return Err(LineError::Wrong(ScriptWhy::NotHere));
+    match command {
+        Command::Log if count != 1 => Err(LineError::Wrong(ScriptWhy::NotHere)),
+        _ => Ok(()),
     }
-    Ok(())
 }
 
 /// Puts that wait.
 #[tactic(auto, unfolding(script_model::specs::Fields::mode_here_fault))]
-pub fn mode_here(log: bool, durability: Durability, word: &[u8]) -> Result<(), LineError>
+pub fn mode_here(command: Command, durability: Durability, word: &[u8]) -> Result<(), LineError>
     requires { is_sync durability ≡ is word.now (codes "sync") }
-    ensures exact { Tells result (mode_here_fault log word.now) }
+    ensures exact { Tells result (mode_here_fault command word.now) }
 {
-    match durability {
-        Durability::Async if log => Err(LineError::Wrong(ScriptWhy::NotHere)),
-        _ => Ok(()),
+    match command {
+        Command::Log => match durability {
+            Durability::Sync => Ok(()),
+            Durability::Async => Err(LineError::Wrong(ScriptWhy::NotHere)),
+        },
+        Command::Run => Ok(()),
     }
 }
 
 /// Cells that put.
 #[tactic(auto, using(std::proofs::lemmas::Bool::Decides::nat_tests), unfolding(script_model::specs::Fields::kind_here_fault))]
-pub fn kind_here(log: bool, kind: Kind, word: &[u8]) -> Result<(), LineError>
+pub fn kind_here(command: Command, kind: Kind, word: &[u8]) -> Result<(), LineError>
     requires { kind_code kind ≡ code_of word.now }
-    ensures exact { Tells result (kind_here_fault log word.now) }
+    ensures exact { Tells result (kind_here_fault command word.now) }
 {
-    if log && kind.code() != 4 {
-        return Err(LineError::Wrong(ScriptWhy::NotHere));
+    match command {
+        Command::Log => match kind {
+            Kind::Put => Ok(()),
+            _ => Err(LineError::Wrong(ScriptWhy::NotHere)),
+        },
+        Command::Run => Ok(()),
     }
-    Ok(())
 }

@@ -9,20 +9,18 @@ mod faults;
 mod fields;
 mod grouping;
 mod here;
-mod laws;
 mod numbers;
 mod parse;
 mod pieces;
 mod saying;
-mod script;
 mod state;
 mod tokens;
 mod walk;
 
 pub use faults::{CellField, ParseRefusal, ScriptWhy};
-pub use laws::one_reading;
+pub use numbers::number;
 pub use parse::parse_script;
-pub use script::{Call, CallList, HandlerList, Script};
+pub use script_calls::{Call, CallList, HandlerList, Script};
 pub use script_model::Command;
 
 #[cfg(test)]

@@ -2,13 +2,13 @@
 
 ghost use Rattle.std.specs.Prelude.{◌≡◌, IfErr, IfOk};
 ghost use Rattle.script_model.specs.Calls.{IsScript, Says};
-ghost use Rattle.script_model.specs.Script.{is_log, script_fault};
+ghost use Rattle.script_model.specs.Script.{script_fault};
 ghost use Rattle.script_text.specs.Why.{IsLineFault};
 
 use crate::faults::{ParseRefusal, ScriptWhy};
-use crate::script::Script;
 use crate::state::State;
 use crate::walk::all_lines;
+use script_calls::Script;
 use script_model::Command;
 use std::alloc::Global;
 
@@ -27,12 +27,6 @@ pub fn parse_script(alloc: Global, bytes: &[u8], command: Command) -> Result<Scr
         });
     }
     let mut state = State::new(alloc);
-    all_lines(&mut state, alloc, is_log(command), bytes)?;
+    all_lines(&mut state, alloc, command, bytes)?;
     Ok(state.into_script(alloc)?)
-}
-
-fn is_log(command: Command) -> bool
-    ensures { result ≡ is_log command }
-{
-    matches!(command, Command::Log)
 }

@@ -10,6 +10,7 @@ use crate::calls::{Spoken, call_line};
 use crate::cells::due_line;
 use crate::faults::{LineError, ScriptWhy};
 use crate::state::State;
+use script_model::Command;
 use std::alloc::Global;
 
 impl State {
@@ -17,17 +18,17 @@ impl State {
     fn say_due(
         &mut self,
         alloc: Global,
-        log: bool,
+        command: Command,
         time: u64,
         words: &[&[u8]],
     ) -> Result<(), LineError>
         requires due { 0 < self.old.due }
         requires time { time < 9223372036854775808 }
-        ensures exact { Tells result (due_fault log time (body_length self.old.cells) (map (λ w. w.now) words.now)) }
+        ensures exact { Tells result (due_fault command time (body_length self.old.cells) (map (λ w. w.now) words.now)) }
         ensures said { OnOk result (self.new ≡ after_cell self.old (cell_in time (map (λ w. w.now) words.now))) }
     {
         let body = self.body();
-        let cell = due_line(alloc, log, time, body, words)?;
+        let cell = due_line(alloc, command, time, body, words)?;
         self.add_cell(alloc, cell)?;
         Ok(())
     }
@@ -36,7 +37,7 @@ impl State {
     fn say_call(
         &mut self,
         alloc: Global,
-        log: bool,
+        command: Command,
         handlers: u64,
         regions: u32,
         words: &[&[u8]],
@@ -44,42 +45,42 @@ impl State {
         requires none { self.old.due ≡ 0 }
         requires handlers { self.old.handlers ≡ Some handlers }
         requires regions { self.old.regions ≡ Some regions }
-        ensures exact { Tells result (call_fault log handlers regions (map (λ w. w.now) words.now)) }
+        ensures exact { Tells result (call_fault command handlers regions (map (λ w. w.now) words.now)) }
         ensures said { OnOk result (self.new ≡ after_spoken self.old (spoken_of (map (λ w. w.now) words.now))) }
     {
-        match call_line(alloc, log, handlers, regions, words)? {
+        match call_line(alloc, command, handlers, regions, words)? {
             Spoken::Calls { handler, call } => self.add_call(handler, call)?,
             Spoken::Opens {
                 handler,
                 region,
                 durability,
                 count,
-            } => self.open(handler, region, durability, count),
+            } => self.open(alloc, handler, region, durability, count)?,
         }
         Ok(())
     }
 
-    /// Says a line with words, for the command `log` or for `run`.
-    pub fn say(&mut self, alloc: Global, log: bool, words: &[&[u8]]) -> Result<(), LineError>
-        ensures exact { Tells result (words_fault log self.old (map (λ w. w.now) words.now)) }
+    /// Says a line with words.
+    pub fn say(&mut self, alloc: Global, command: Command, words: &[&[u8]]) -> Result<(), LineError>
+        ensures exact { Tells result (words_fault command self.old (map (λ w. w.now) words.now)) }
         ensures said { OnOk result (self.new ≡ say self.old (map (λ w. w.now) words.now)) }
     {
         let Some(time) = self.time() else {
             return self.say_time(words);
         };
         let Some(regions) = self.regions() else {
-            return self.say_regions(log, words);
+            return self.say_regions(command, words);
         };
         let Some(handlers) = self.handlers() else {
-            return self.say_handlers(log, words);
+            return self.say_handlers(command, words);
         };
         if self.due() > 0 {
-            return self.say_due(alloc, log, time, words);
+            return self.say_due(alloc, command, time, words);
         }
         if begins_with(b"cell", words) {
             return Err(LineError::Wrong(ScriptWhy::Count));
         }
-        self.say_call(alloc, log, handlers, regions, words)
+        self.say_call(alloc, command, handlers, regions, words)
     }
 
     /// Whether the text may end here.

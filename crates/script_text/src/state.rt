@@ -1,21 +1,22 @@
 //! What the lines so far have said.
 
-ghost use Rattle.std.specs.Prelude.{◌≡◌, ◌+◌, ◌-◌, ◌^◌, ◌<◌, ◌≤◌, ◌∷◌, [], ◌++◌, All, IfNone, IfOk, IfSome, None, OnOk, Some, length, map, unwrap_or, false, codes};
+ghost use Rattle.std.specs.Prelude.{◌≡◌, ◌+◌, ◌-◌, ◌^◌, ◌<◌, ◌≤◌, ◌∷◌, [], ◌++◌, All, IfNone, IfOk, IfSome, None, OnOk, Some, length, map, unwrap_or, codes};
 ghost use Rattle.cell_model.specs.Batch.{body_length};
 ghost use Rattle.cell_model.specs.Cell.{spelling_length};
 ghost use Rattle.script_model.specs.Calls.{IsScript, by_handler, script_of};
 ghost use Rattle.script_model.specs.Script.{end_fault, nothing_said, with_call, with_cell};
-ghost use Rattle.script_model.specs.Tables.{head_fault, second_number};
-ghost use Rattle.script_text.specs.Calls.{call_of, is_sync};
+ghost use Rattle.script_model.specs.Tables.{counted_fault, head_fault, second_number};
+ghost use Rattle.script_calls.specs.Calls.{call_of, is_sync};
 ghost use Rattle.script_text.specs.Spoken.{IsCallOf};
 ghost use Rattle.script_text.specs.State.{InScript, handler_call};
 ghost use Rattle.script_text.specs.Why.{Tells};
 
-use crate::calls::head_line;
+use crate::calls::{counted_line, head_line};
 use crate::faults::LineError;
 use crate::grouping::group;
-use crate::script::{Call, Script};
 use kv_cell::{Batch, Cell, Durability, NoMemory};
+use script_calls::{Call, Script};
+use script_model::Command;
 use std::alloc::Global;
 use std::marker::Model;
 
@@ -47,7 +48,7 @@ impl Model for State {
 
     ghost Value = { Said };
 
-    ghost use Rattle.script_text.specs.Calls.{is_sync};
+    ghost use Rattle.script_calls.specs.Calls.{is_sync};
     ghost use Rattle.script_text.specs.State.{IsBehindHead, IsFilling, IsHead, IsOpen, handler_call};
 
     ghost view = { λ s. record { time = s.time; regions = s.regions; handlers = s.handlers; calls = map handler_call s.calls.items; open_put = (s.handler, s.region, is_sync s.durability); cells = s.cells.items; due = s.due } };
@@ -111,31 +112,35 @@ impl State {
     }
 
     pub(crate) fn say_time(&mut self, words: &[&[u8]]) -> Result<(), LineError>
-        ensures exact { Tells result (head_fault false (codes "time") 0 (2 ^ 63 - 2) (map (λ w. w.now) words.now)) }
+        ensures exact { Tells result (head_fault (codes "time") 0 (2 ^ 63 - 2) (map (λ w. w.now) words.now)) }
         ensures said { OnOk result (self.new ≡ record self.old { time = Some (second_number (map (λ w. w.now) words.now)) }) }
     {
-        let time = head_line(false, words, b"time", 0, 0x7FFF_FFFF_FFFF_FFFE)?;
+        let time = head_line(words, b"time", 0, 0x7FFF_FFFF_FFFF_FFFE)?;
         self.time = Some(time);
         Ok(())
     }
 
-    pub(crate) fn say_regions(&mut self, log: bool, words: &[&[u8]]) -> Result<(), LineError>
+    pub(crate) fn say_regions(&mut self, command: Command, words: &[&[u8]]) -> Result<(), LineError>
         requires { self.old.regions ≡ None }
-        ensures exact { Tells result (head_fault log (codes "regions") 1 64 (map (λ w. w.now) words.now)) }
+        ensures exact { Tells result (counted_fault command (codes "regions") 64 (map (λ w. w.now) words.now)) }
         ensures said { OnOk result (self.new ≡ record self.old { regions = Some (second_number (map (λ w. w.now) words.now)) }) }
     {
-        let regions = head_line(log, words, b"regions", 1, 64)?;
+        let regions = counted_line(command, words, b"regions", 64)?;
         self.regions = Some(regions as u32);
         Ok(())
     }
 
-    pub(crate) fn say_handlers(&mut self, log: bool, words: &[&[u8]]) -> Result<(), LineError>
+    pub(crate) fn say_handlers(
+        &mut self,
+        command: Command,
+        words: &[&[u8]],
+    ) -> Result<(), LineError>
         requires first { self.old.handlers ≡ None }
         requires behind { self.old.regions ≡ None → ⊥ }
-        ensures exact { Tells result (head_fault log (codes "handlers") 1 16 (map (λ w. w.now) words.now)) }
+        ensures exact { Tells result (counted_fault command (codes "handlers") 16 (map (λ w. w.now) words.now)) }
         ensures said { OnOk result (self.new ≡ record self.old { handlers = Some (second_number (map (λ w. w.now) words.now)) }) }
     {
-        let handlers = head_line(log, words, b"handlers", 1, 16)?;
+        let handlers = counted_line(command, words, b"handlers", 16)?;
         self.handlers = Some(handlers);
         Ok(())
     }
@@ -149,19 +154,28 @@ impl State {
         Ok(())
     }
 
-    /// Says a put whose cells follow.
-    pub(crate) fn open(&mut self, handler: u64, region: u32, durability: Durability, count: u64)
+    /// Says a put whose cells follow. Room is taken for exactly these.
+    pub(crate) fn open(
+        &mut self,
+        alloc: Global,
+        handler: u64,
+        region: u32,
+        durability: Durability,
+        count: u64,
+    ) -> Result<(), NoMemory>
         requires none { self.old.due ≡ 0 }
         requires behind { self.old.handlers ≡ None → ⊥ }
         requires handler { (1 ≤ handler) × (handler ≤ unwrap_or self.old.handlers 0) }
         requires region { (1 ≤ region) × (region ≤ unwrap_or self.old.regions 0) }
         requires count { count ≤ 1024 }
-        ensures { self.new ≡ record self.old { open_put = (handler, region, is_sync durability); due = count } }
+        ensures { OnOk result (self.new ≡ record self.old { open_put = (handler, region, is_sync durability); due = count }) }
     {
+        self.cells = Vec::with_capacity(alloc, count as usize)?;
         self.handler = handler;
         self.region = region;
         self.durability = durability;
         self.due = count;
+        Ok(())
     }
 
     /// Says a cell of the open put, and with the last of them the put.

@@ -8,11 +8,17 @@ ghost use Rattle.script_text.specs.Why.{Tells, TellsLine};
 use crate::faults::{LineError, ParseRefusal, ScriptWhy};
 use crate::pieces::{next_line, words};
 use crate::state::State;
+use script_model::Command;
 use std::alloc::Global;
 
 /// Says a line, unless it is skipped.
-fn one_line(state: &mut State, alloc: Global, log: bool, line: &[u8]) -> Result<(), LineError>
-    ensures exact { Tells result (line_fault log state.old line.now) }
+fn one_line(
+    state: &mut State,
+    alloc: Global,
+    command: Command,
+    line: &[u8],
+) -> Result<(), LineError>
+    ensures exact { Tells result (line_fault command state.old line.now) }
     ensures said { OnOk result (state.new ≡ after_line state.old line.now) }
 {
     if line.len() > 524_288 {
@@ -25,18 +31,18 @@ fn one_line(state: &mut State, alloc: Global, log: bool, line: &[u8]) -> Result<
     if words.is_empty() {
         return Ok(());
     }
-    state.say(alloc, log, words.as_slice())
+    state.say(alloc, command, words.as_slice())
 }
 
 /// Says each line of a text, up to the first wrong one.
 pub fn all_lines(
     state: &mut State,
     alloc: Global,
-    log: bool,
+    command: Command,
     text: &[u8],
 ) -> Result<(), ParseRefusal>
     requires { length text.now ≤ 16777216 }
-    ensures exact { TellsLine result (first_wrong log 1 state.old (lines_of text.now)) }
+    ensures exact { TellsLine result (first_wrong command 1 state.old (lines_of text.now)) }
     ensures said { OnOk result (state.new ≡ said_by state.old (lines_of text.now)) }
     ensures ended { OnOk result (end_fault state.new ≡ None) }
 {
@@ -44,7 +50,7 @@ pub fn all_lines(
     let mut rest = text;
     while !rest.is_empty() {
         let (line, behind) = next_line(rest);
-        match one_line(state, alloc, log, line) {
+        match one_line(state, alloc, command, line) {
             Ok(()) => {}
             Err(LineError::Memory) => return Err(ParseRefusal::Memory),
             Err(LineError::Wrong(why)) => return Err(ParseRefusal::Fault { line: n, why }),

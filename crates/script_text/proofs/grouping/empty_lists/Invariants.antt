@@ -1,5 +1,5 @@
 use Rattle.std.proofs.Common.{◌≡◌, [], replicate}
 use Rattle.script_text.proofs.grouping.empty_lists.Given as goal
 
-abbrev pub invariant-loop : goal.invariant-loop
-invariant-loop l = l.lists.items ≡ replicate l.counter []
+abbrev pub invariant-loop-i : goal.invariant-loop-i
+invariant-loop-i l = l.lists.items ≡ replicate l.i []

@@ -1,0 +1,5 @@
+pub mod Going
+pub mod Pieces
+pub mod ReadScript
+pub mod Endings
+pub mod Readers

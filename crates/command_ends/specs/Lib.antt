@@ -1,0 +1,5 @@
+pub mod Invocation
+pub mod Prints
+pub mod LogFiles
+pub mod Status
+pub mod Ends

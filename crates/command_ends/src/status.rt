@@ -1,0 +1,63 @@
+//! How a call of the program ends.
+
+ghost use Rattle.std.specs.Prelude.{◌≡◌};
+ghost use Rattle.command_ends.specs.Status.{exit_status};
+
+use disk_images::Name;
+use script_text::ScriptWhy;
+
+/// What is wrong with a store as it was found.
+#[derive(Clone, Copy, Debug, PartialEq, Eq)]
+pub enum Damage {
+    /// The file is in none of its grammars, which shows at this offset.
+    Bytes { name: Name, at: u64 },
+}
+
+/// How a command ended.
+#[derive(Clone, Copy, Debug, PartialEq, Eq)]
+pub enum Status {
+    /// It did its work.
+    Done,
+    /// Memory was refused.
+    Memory,
+    /// The words are no command's.
+    Usage,
+    /// This line of the script is the first wrong one; line 0 where the script is too long.
+    Script { line: u64, why: ScriptWhy },
+    /// A read of the script failed.
+    SourceFault,
+    /// A call of the disk failed.
+    DiskFault,
+    /// A write of the output failed.
+    SinkFault,
+    /// The store as found is damaged.
+    Damaged(Damage),
+    /// The store isn't empty, and the command wants an empty one. The name is the first one there.
+    NotEmpty { name: Name },
+}
+
+impl Status {
+    /// The exit status of the program.
+    pub fn number(self) -> u8
+        ensures { result ≡ exit_status self }
+    {
+        match self {
+            Status::Done => 0,
+            Status::Memory => 1,
+            Status::Usage => 2,
+            Status::Script { .. } => 3,
+            Status::SourceFault => 4,
+            Status::DiskFault => 5,
+            Status::SinkFault => 6,
+            Status::Damaged(_) => 7,
+            Status::NotEmpty { .. } => 9,
+        }
+    }
+}
+
+/// How a command ended, and the disk that it left.
+#[derive(Drop)]
+pub struct Outcome<D> {
+    pub status: Status,
+    pub disk: D,
+}

@@ -1,0 +1,51 @@
+use Rattle.std.proofs.Math.Logic.{∥∥₁_map}
+use Rattle.std.proofs.Common.{◌≡◌, ◌∙◌, sym, ap, subst, arith, take, length, List}
+use Rattle.std.proofs.lemmas.List.{length-map}
+use Rattle.log_model.specs.Entry.{Entry, entry_frame}
+use Rattle.log_file.specs.Open.{IsOpen}
+use Rattle.command_ends.proofs.Endings.{goes_on}
+use Rattle.log_command.proofs.Committing.{frame_at, step_to}
+use Rattle.log_command.proofs.writing.commit_each.Goals as goal
+
+pub commit_one-requires-clause-begun : goal.commit_one-requires-clause-begun
+commit_one-requires-clause-begun g c told =
+    ∥∥₁_map c.requires.entries (λ r. (take c.loop-done.done r.0, c.loop-done.invariant.opened told r.0 r.1 r.2))
+
+pub commit_one-requires-clause-entry : goal.commit_one-requires-clause-entry
+commit_one-requires-clause-entry g c =
+    ∥∥₁_map c.requires.entries (λ r.
+    let at = frame_at c.args.frames.now r.0 c.loop-done.done c.index-frames-done.result c.index-frames-done.result r.1 (omega (arith, c.loop-done-test.true)) r.2 c.index-frames-done.is in
+    (at.0, at.3, at.2))
+
+pub returns-in-Err-clause-stopped : goal.returns-in-Err-clause-stopped
+returns-in-Err-clause-stopped g c told es is each =
+    let at = frame_at c.args.frames.now es c.loop-done.done c.index-frames-done.result c.index-frames-done.result is (omega (arith, c.loop-done-test.true)) each c.index-frames-done.is in
+    let lens : _ ≡ _ = ap length is ∙ length-map es entry_frame in (
+      omega (arith, lens, c.loop-done-test.true),
+      step_to es (take c.loop-done.done es) at.0 c.loop-done.done at.1
+          (c.commit_one.ensures.any_moment told (take c.loop-done.done es) at.0 (c.loop-done.invariant.opened told es is each) at.3 at.2),
+    )
+
+pub returns-in-Err-clause-moments : goal.returns-in-Err-clause-moments
+returns-in-Err-clause-moments g c told es is each =
+    let at = frame_at c.args.frames.now es c.loop-done.done c.index-frames-done.result c.index-frames-done.result is (omega (arith, c.loop-done-test.true)) each c.index-frames-done.is in
+    goes_on _ _ _ (c.loop-done.invariant.time told es is each)
+    (c.commit_one.ensures.moments told (take c.loop-done.done es) at.0 (c.loop-done.invariant.opened told es is each) at.3 at.2)
+
+pub loop-done-preserved : goal.loop-done-preserved
+loop-done-preserved g c =
+    let was = c.loop-done.invariant in
+    record {
+      opened = λ told es is each.
+          let at = frame_at c.args.frames.now es c.loop-done.done c.index-frames-done.result c.index-frames-done.result is (omega (arith, c.loop-done-test.true)) each c.index-frames-done.is in
+          subst (λ (xs : List Entry). IsOpen c.commit_one.new.log (g.D.Disk.view c.commit_one.new.disk) xs) (sym at.1)
+          (c.in-Ok.ensures.committed told (take c.loop-done.done es) at.0 (was.opened told es is each) at.3 at.2);
+      time = λ told es is each.
+          let at = frame_at c.args.frames.now es c.loop-done.done c.index-frames-done.result c.index-frames-done.result is (omega (arith, c.loop-done-test.true)) each c.index-frames-done.is in
+          goes_on _ _ _ (was.time told es is each)
+          (c.commit_one.ensures.moments told (take c.loop-done.done es) at.0 (was.opened told es is each) at.3 at.2);
+      empty = c.in-Ok.ensures.empty;
+      named = c.commit_one.ensures.name ∙ was.named;
+      same = c.commit_one.ensures.name ∙ was.same;
+      later = omega (arith, was.later, c.commit_one.ensures.later);
+    }

@@ -1,0 +1,84 @@
+-- The command that writes a log.
+use Rattle.std.specs.Prelude.{◌≡◌, ℕ, zero, suc, ◌+◌, ◌-◌, ◌<◌, ◌⊎◌, List, [], ◌∷◌, ◌++◌, length, take, Some, None, codes}
+use Rattle.std.specs.List.{flat_map}
+use Rattle.log_model.specs.Entry.{Entry}
+use Rattle.log_model.specs.Files.{Files, content}
+use Rattle.region_model.specs.Calls.{Call, Put, Scan, Flush, Roll, Answer, PutOk, PutFault}
+use Rattle.script_model.specs.Calls.{Script, Says}
+use Rattle.script_model.specs.Report.{ReplyLine, replies_text}
+use Rattle.script_model.specs.declared.command.Command.TheVariants.{Log}
+use Rattle.disk_images.specs.Crash.{IsImageNow}
+use Rattle.recovery.specs.Change.{HasText, HasEntries}
+use Rattle.command_ends.specs.Invocation.{Invocation, IsImageAtEntry, IsUnchanged, IsRefused}
+use Rattle.command_ends.specs.LogFiles.{log_name}
+use Rattle.command_ends.specs.Ends.{Effects, EndsAs}
+use Rattle.command_ends.specs.declared.status.Status.{Status}
+
+-- the entries of puts, numbered from n
+abbrev pub entries_from : ℕ → ℕ → List Call → List Entry
+entries_from time n [] = []
+entries_from time n (Put r sync cells ∷ calls) = record { region = r; number = n; time = time; cells = cells } ∷ entries_from time (n + 1) calls
+entries_from time n (Scan r from to ∷ calls) = entries_from time n calls
+entries_from time n (Flush r ∷ calls) = entries_from time n calls
+entries_from time n (Roll ∷ calls) = entries_from time n calls
+
+-- the calls of all handlers, one handler after the other
+abbrev pub calls_in : Script → List Call
+calls_in s = flat_map (λ calls. calls) s.handlers
+
+abbrev pub entries_in : Script → List Entry
+entries_in s = entries_from s.time 1 (calls_in s)
+
+-- the files have log 1 with these entries, and no end frame
+abbrev pub LogHolds : Files → List Entry → Type 0
+LogHolds files es = HasText (log_name 1) es None (content files (log_name 1))
+
+abbrev pub put_reply : ℕ → Answer → ReplyLine
+put_reply call answer = record { handler = 1; call = call; answer = answer }
+
+-- so many puts from call n on, each answered ok with its number
+abbrev pub oks : ℕ → ℕ → List ReplyLine
+oks n zero = []
+oks n (suc count) = put_reply n (PutOk n) ∷ oks (n + 1) count
+
+-- so many puts from call n on, each refused without a number
+abbrev pub faults : ℕ → ℕ → List ReplyLine
+faults n zero = []
+faults n (suc count) = put_reply n (PutFault None) ∷ faults (n + 1) count
+
+-- of so many puts the first ones answer ok, the next one a fault with its number, and those behind it a fault
+abbrev pub stopped_replies : ℕ → ℕ → List ReplyLine
+stopped_replies count done = oks 1 done ++ put_reply (done + 1) (PutFault (Some (done + 1))) ∷ faults (done + 2) (count - (done + 1))
+
+-- Log 1 holds the script's puts in order with the numbers 1, 2 and so on, every crash leaves them, and each was answered.
+pub record LogDone (o : Invocation) (text : List ℕ) : Type 0 where
+  pub script : Script
+  pub says : Says Log o.script script
+  pub reads : LogHolds o.after.files (entries_in script)
+  pub images : (J : Files) → IsImageNow o.after J → LogHolds J (entries_in script)
+  pub is : text ≡ replies_text (oks 1 (length (entries_in script))) 0
+
+-- A fault ended the log in the put behind the first ones: these are in each image, and that put may be.
+pub record LogFailed (o : Invocation) (text : List ℕ) : Type 0 where
+  pub script : Script
+  pub says : Says Log o.script script
+  pub done : ℕ
+  pub fewer : done < length (entries_in script)
+  pub images : (J : Files) → IsImageNow o.after J → LogHolds J (take done (entries_in script)) ⊎ LogHolds J (take (done + 1) (entries_in script))
+  pub is : text ≡ replies_text (stopped_replies (length (entries_in script)) done) 5
+
+-- nothing was begun, or log 1 is absent or has no entry
+abbrev pub NoLogBegun : Invocation → Type 0
+NoLogBegun o = (J : Files) → IsImageNow o.after J → IsImageAtEntry o J ⊎ HasEntries (log_name 1) [] (content J (log_name 1))
+
+-- what stands with a text that the command printed
+abbrev pub logs : Invocation → Effects
+logs o = record {
+  done = λ text. LogDone o text;
+  stopped = λ text. IsRefused (codes "memory" ∷ []) text × IsUnchanged o.before o.after;
+  failed = λ text. LogFailed o text ⊎ (IsRefused (codes "disk" ∷ []) text × NoLogBegun o);
+}
+
+-- what stands with each status of the command
+abbrev pub EndsLog : Status → Invocation → Type 0 → Type 0
+EndsLog status o rose = EndsAs (logs o) status rose o.taken
