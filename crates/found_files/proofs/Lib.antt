@@ -1,0 +1,13 @@
+pub mod Ordered
+pub mod Agreement
+pub mod OldNames
+pub mod Watched
+pub mod OneStore
+pub mod Placing
+pub mod ReadSteps
+pub mod NameOrder
+pub mod Whole
+pub mod Told
+pub mod Files
+pub mod Disagreeing
+pub mod Sound

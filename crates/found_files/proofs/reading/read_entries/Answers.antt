@@ -1,0 +1,35 @@
+use Rattle.std.proofs.Common.{refl}
+use Rattle.disk_images.proofs.Reading.{reads_some}
+use Rattle.log_model.specs.Damage.HasDamage.{Logged}
+use Rattle.found_files.proofs.Watched.{watched}
+use Rattle.found_files.proofs.reading.read_entries.Goals as goal
+
+pub returns-in_err-add_entries-in-Ok-clause-watches : goal.returns-in_err-add_entries-in-Ok-clause-watches
+returns-in_err-add_entries-in-Ok-clause-watches g c told = watched (g.D.Disk.view c.args.disk.now) (g.D.Disk.view c.read_log.new.disk) c.args.name (c.requires.there told) (c.read_log.ensures.looks told)
+
+pub returns-in_ok-add_entries-in-Ok-clause-watches : goal.returns-in_ok-add_entries-in-Ok-clause-watches
+returns-in_ok-add_entries-in-Ok-clause-watches g c told = watched (g.D.Disk.view c.args.disk.now) (g.D.Disk.view c.read_log.new.disk) c.args.name (c.requires.there told) (c.read_log.ensures.looks told)
+
+pub returns-in-Err-Memory-clause-watches : goal.returns-in-Err-Memory-clause-watches
+returns-in-Err-Memory-clause-watches g c told = watched (g.D.Disk.view c.args.disk.now) (g.D.Disk.view c.read_log.new.disk) c.args.name (c.requires.there told) (c.read_log.ensures.looks told)
+
+pub returns-in-Err-DiskFault-clause-watches : goal.returns-in-Err-DiskFault-clause-watches
+returns-in-Err-DiskFault-clause-watches g c told = watched (g.D.Disk.view c.args.disk.now) (g.D.Disk.view c.read_log.new.disk) c.args.name (c.requires.there told) (c.read_log.ensures.looks told)
+
+pub returns-in-Err-Damaged-clause-watches : goal.returns-in-Err-Damaged-clause-watches
+returns-in-Err-Damaged-clause-watches g c told = watched (g.D.Disk.view c.args.disk.now) (g.D.Disk.view c.read_log.new.disk) c.args.name (c.requires.there told) (c.read_log.ensures.looks told)
+
+pub returns-in-Err-Damaged-clause-damaged : goal.returns-in-Err-Damaged-clause-damaged
+returns-in-Err-Damaged-clause-damaged g c told =
+    let r = reads_some (g.D.Disk.view c.args.disk.now).files c.args.name (c.requires.there told) in
+    (c.in-Err-Damaged.at, refl, Logged r.0 r.1 c.requires.kind (rw c.in-Err-Damaged.field-0-is at (c.in-Err-Damaged.ensures.damaged told r.0 r.1)))
+
+pub returns-in_ok-add_entries-in-Ok-clause-read : goal.returns-in_ok-add_entries-in-Ok-clause-read
+returns-in_ok-add_entries-in-Ok-clause-read g c = record {
+  entries = c.into_vec.result.items;
+  added = c.in_ok-add_entries-in-Ok.ensures;
+  file = λ told.
+      let r = reads_some (g.D.Disk.view c.args.disk.now).files c.args.name (c.requires.there told) in
+      let text = c.in-Ok.ensures.text told r.0 r.1 in
+      record { kind = c.requires.kind; bytes = r.0; there = r.1; ended = c.in-Ok.text.ended; text = rw c.into_vec.ensures text };
+}

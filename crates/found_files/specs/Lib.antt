@@ -1,0 +1,6 @@
+pub mod Refusal
+pub mod Watching
+pub mod Names
+pub mod Found
+pub mod Checked
+pub mod Sorted

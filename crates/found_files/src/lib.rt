@@ -1,0 +1,17 @@
+//! The files of a store as an opening finds them: each log, edits and store file is read once and checked, before anything
+//! is written. What was read is handed on, with the entries in the order of regions and numbers; what is wrong is told at
+//! its first place.
+#![tactic(auto)]
+
+mod agreeing;
+mod checking;
+mod finding;
+mod found;
+mod names;
+mod reading;
+mod refusal;
+
+pub use finding::find_files;
+pub use found::{Finding, FoundEntry, FoundFiles, FoundStore};
+pub use log_model::Damage;
+pub use refusal::SplitRefusal;

@@ -1,0 +1,9 @@
+pub mod Cutting
+pub mod Sorting
+pub mod Cleaning
+pub mod Leaving
+pub mod Joining
+pub mod Showing
+pub mod Finding
+pub mod Passing
+pub mod InTurn

@@ -1,0 +1,34 @@
+use Rattle.std.proofs.Common.{◌+◌}
+use Rattle.disk_images.proofs.Moments.{joined}
+use Rattle.recovery.specs.Alike.{AllAlike}
+use Rattle.disk_images.proofs.Moments.{at_end}
+use Rattle.region_replay.proofs.InTurn.{none_logged, ready}
+use Rattle.region_replay.proofs.whole.replay_all.Goals as goal
+
+pub returns-in-Ok-clause-any_moment : goal.returns-in-Ok-clause-any_moment
+returns-in-Ok-clause-any_moment g c told base held found =
+    let one = c.replay_regions.ensures.any_moment told base held found.found in
+    let two = c.clear.ensures.any_moment told base (c.in_ok-replayed.ensures.held told base held found.found) in
+    (one.0 + 1, joined (AllAlike base) one.0 1 (g.D.Disk.view c.args.disk.now) (g.D.Disk.view c.replay_regions.new.disk) (g.D.Disk.view c.clear.new.disk) one.1 two)
+
+pub returns-in-Err-clause-any_moment : goal.returns-in-Err-clause-any_moment
+returns-in-Err-clause-any_moment g c told base held found =
+    let one = c.replay_regions.ensures.any_moment told base held found.found in
+    let two = c.clear.ensures.any_moment told base (c.in_ok-replayed.ensures.held told base held found.found) in
+    (one.0 + 1, joined (AllAlike base) one.0 1 (g.D.Disk.view c.args.disk.now) (g.D.Disk.view c.replay_regions.new.disk) (g.D.Disk.view c.clear.new.disk) one.1 two)
+
+pub returns-in-Ok-clause-alike : goal.returns-in-Ok-clause-alike
+returns-in-Ok-clause-alike g c told base held found =
+    let w = g.D.Disk.view c.clear.new.disk in
+    at_end (AllAlike base) 1 (g.D.Disk.view c.replay_regions.new.disk) w (c.clear.ensures.any_moment told base (c.in_ok-replayed.ensures.held told base held found.found)) w.files (g.met.D.Disk.is_true c.clear.new.disk told).reads
+
+pub returns-in-Ok-clause-ready : goal.returns-in-Ok-clause-ready
+returns-in-Ok-clause-ready g c told base held found =
+    let u = g.D.Disk.view c.args.disk.now in
+    let v = g.D.Disk.view c.replay_regions.new.disk in
+    let w = g.D.Disk.view c.clear.new.disk in
+    let xs = c.args.regions.items in
+    let none = c.in_ok-replayed.ensures.no_edits told base held found.found in
+    let names = c.in_ok-replayed.ensures.names told base held found.found in
+    ready base u v w xs c.requires.order found none names (c.clear.ensures.files told)
+    (c.in-Ok.ensures.cleared told base (c.in_ok-replayed.ensures.held told base held found.found) (none_logged base u v w xs c.requires.order found none names))

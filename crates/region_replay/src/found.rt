@@ -1,0 +1,47 @@
+//! What an opening finds of a region, and what it makes of it.
+
+use disk_images::Name;
+use entry_frame::Entry;
+use kv_cell::NumberedCells;
+use mem_segments::Base;
+use std::marker::Model;
+
+/// What stands in the files of one region, once the logs were split.
+#[derive(Drop)]
+pub struct RegionFiles {
+    /// 1 to 64.
+    pub region: u32,
+    /// The cells of its store files, in the order of the files' numbers.
+    pub stored: NumberedCells,
+    /// The entries above the flushed sequence id, each once, in the order of their sequence ids.
+    pub unflushed: Vec<Entry>,
+    /// The last flushed sequence id, 0 where there is no store file.
+    pub flushed: u64,
+    /// A number above those of all its store files.
+    pub next_store: u64,
+    /// The names of its edits files.
+    pub edits: Vec<Name>,
+}
+
+/// A region as it was recovered.
+#[derive(Drop)]
+pub struct Replayed {
+    /// Its cells, and the last sequence id that was seen.
+    pub base: Base,
+    /// The last flushed sequence id: the last one seen.
+    pub flushed: u64,
+    /// A number above those of all its store files, at most 2^63+1.
+    pub next_store: u64,
+}
+
+impl Model for Replayed {
+    ghost use Rattle.region_replay.specs.Ready.{Found, IsWithin, coded_found};
+
+    ghost Value = { Found };
+
+    ghost coded = { coded_found };
+
+    ghost view = { λ x. record { base = x.base; flushed = x.flushed; next_store = x.next_store } };
+
+    ghost invariant = { λ x. IsWithin (record { base = x.base; flushed = x.flushed; next_store = x.next_store }) };
+}

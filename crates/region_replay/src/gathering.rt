@@ -1,0 +1,84 @@
+//! The cells of a region.
+
+ghost use Rattle.std.specs.Prelude.{◌≡◌, ◌++◌, IfOk, OnOk};
+ghost use Rattle.std.specs.FinMap.{empty};
+ghost use Rattle.cell_model.specs.Merge.{at_number, put_numbered};
+ghost use Rattle.region_replay.specs.Bases.{entries_cells};
+ghost use Rattle.region_replay.specs.Regions.{IsTop, AreInTurn};
+
+use entry_frame::Entry;
+use kv_cell::{Cell, NoMemory, NumberedCells};
+use mem_segments::{Base, Segment};
+use std::alloc::Global;
+use std::sync::Arc;
+
+/// The cells of these entries, each with its entry's sequence id. No byte is copied.
+pub(crate) fn entry_cells(alloc: Global, entries: Vec<Entry>) -> Result<NumberedCells, NoMemory>
+    ensures { IfOk result (λ cells. cells ≡ entries_cells entries.items) }
+{
+    let mut cells = NumberedCells::new(alloc);
+    for entry in entries {
+        add_cells(&mut cells, entry)?;
+    }
+    Ok(cells)
+}
+
+/// Adds the cells of an entry.
+fn add_cells(cells: &mut NumberedCells, entry: Entry) -> Result<(), NoMemory>
+    ensures { OnOk result (cells.new ≡ cells.old ++ at_number entry.number entry.cells) }
+{
+    let number = entry.number;
+    push_all(cells, number, entry.batch.into_vec())
+}
+
+/// Adds cells with this sequence id.
+fn push_all(cells: &mut NumberedCells, number: u64, more: Vec<Cell>) -> Result<(), NoMemory>
+    ensures { OnOk result (cells.new ≡ cells.old ++ at_number number more.items) }
+{
+    for cell in more {
+        cells.push(number, cell)?;
+    }
+    Ok(())
+}
+
+/// Adds copies of these cells.
+fn append_copies(
+    alloc: Global,
+    cells: &mut NumberedCells,
+    more: &[(u64, Cell)],
+) -> Result<(), NoMemory>
+    ensures { OnOk result (cells.new ≡ cells.old ++ more.now) }
+{
+    for x in more {
+        cells.push(x.0, x.1.copy(alloc)?)?;
+    }
+    Ok(())
+}
+
+/// What a region is opened with: the stored cells with these behind them, the later of two equal ones kept.
+pub(crate) fn base_of(
+    alloc: Global,
+    stored: NumberedCells,
+    cut: &NumberedCells,
+    last: u64,
+) -> Result<Base, NoMemory>
+    ensures { IfOk result (λ base. (base.content ≡ put_numbered empty (stored ++ cut.now)) × (base.last ≡ last)) }
+{
+    let mut cells = stored;
+    append_copies(alloc, &mut cells, cut.as_slice())?;
+    let cells = Arc::new(alloc, Segment::of_cells(alloc, cells)?)?;
+    Ok(Base { cells, last })
+}
+
+/// The last one's sequence id of entries in the order of their sequence ids, and this one where there is none.
+pub(crate) fn last_number(entries: &[Entry], none: u64) -> u64
+    requires { AreInTurn entries.now }
+    ensures { IsTop entries.now none result }
+{
+    let len = entries.len();
+    if len == 0 {
+        return none;
+    }
+    let last = &entries[len - 1];
+    last.number
+}

@@ -1,0 +1,24 @@
+//! Replaying the edits files of a store whose logs were split. What no store has of a region goes into its next store, its
+//! edits files go, and the region's cells are put in order for whoever opens it. What stands in the files was read before.
+#![tactic(auto)]
+
+mod clearing;
+mod found;
+mod gathering;
+mod laws;
+mod region;
+mod regions;
+mod removing;
+mod replaying;
+mod storing;
+mod whole;
+
+pub use clearing::clear;
+pub use found::{RegionFiles, Replayed};
+pub use laws::one_sort_gives_the_base;
+pub use region::replay_region;
+pub use regions::replay_regions;
+pub use removing::remove_all;
+pub use replaying::replay_found;
+pub use storing::store_unflushed;
+pub use whole::replay_all;

@@ -1,0 +1,138 @@
+//! The replay of one region whose files were read.
+
+ghost use Rattle.std.specs.Prelude.{◌≡◌, ◌≢◌, ◌⊎◌, ◌≤◌, ◌<◌, ◌+◌, ◌^◌, ℕ, List, [], Contains, IsTrue, IfOk, OnOk, IsErrOf};
+ghost use Rattle.log_model.specs.declared.name.Name.{Name as TheName};
+ghost use Rattle.log_model.specs.declared.name.NameKind.TheVariants as kinds;
+ghost use Rattle.log_model.specs.Files.{Files, Reads, IsAbsent, content};
+ghost use Rattle.disk_images.specs.Calls.{HasCause};
+ghost use Rattle.recovery.specs.Alike.{AllAlike};
+ghost use Rattle.wal_split.specs.Held.{IsHeld};
+ghost use Rattle.wal_split.specs.Moments.{During};
+ghost use Rattle.region_replay.specs.Names.{store_name};
+ghost use Rattle.region_replay.specs.Ready.{IsOf};
+ghost use Rattle.region_replay.specs.Regions.{IsInOrder, IsFound};
+
+use crate::found::{RegionFiles, Replayed};
+use crate::gathering::{base_of, entry_cells, last_number};
+use crate::removing::remove_all;
+use crate::replaying::replay_found;
+use disk_images::{Disk, Name, NameKind};
+use kv_cell::NumberedCells;
+use log_file::FileRefusal;
+use std::alloc::Global;
+
+/// Writes what is unflushed of a region as its next store, and removes its edits files. Where nothing is unflushed, no store
+/// is written. Memory for the region's cells is taken before anything is written.
+pub fn replay_region<D: Disk>(
+    alloc: Global,
+    disk: &mut D,
+    found: RegionFiles,
+) -> Result<Replayed, FileRefusal>
+    requires order { IsInOrder found }
+    requires absent { IsTrue D.told → IsAbsent (D.view disk.old).files (store_name found.region found.next_store)
+        × (¬ (D.view disk.old).gone (store_name found.region found.next_store)) }
+    requires there { IsTrue D.told → (m : TheName) → Contains found.edits.items m → ∥ ((c : List ℕ)
+        × Reads (D.view disk.old).files m c) ∥₁ }
+
+    ensures any_moment { IsTrue D.told → (base : Files) → IsHeld base (D.view disk.old)
+        → IsFound (D.view disk.old).files found → During (AllAlike base) (D.view disk.old) (D.view disk.new) }
+    ensures held { IsTrue D.told → (base : Files) → IsHeld base (D.view disk.old)
+        → IsFound (D.view disk.old).files found → OnOk result (IsHeld base (D.view disk.new)) }
+    ensures replayed { IsTrue D.told → (base : Files) → IsHeld base (D.view disk.old)
+        → IsFound (D.view disk.old).files found
+        → IfOk result (λ x. IsOf (D.view disk.old).files (D.view disk.new).files found.region x) }
+    ensures no_edits { IsTrue D.told → OnOk result ((m : TheName) → Contains found.edits.items m
+        → IsAbsent (D.view disk.new).files m) }
+    ensures others { IsTrue D.told → OnOk result ((m : TheName) → m ≢ store_name found.region found.next_store
+        → ((n : TheName) → Contains found.edits.items n → m ≢ n)
+        → content (D.view disk.new).files m ≡ content (D.view disk.old).files m) }
+    ensures cause { HasCause (D.faults disk.old) (D.faults disk.new) (IsErrOf result FileRefusal.DiskFault) }
+{
+    if found.unflushed.is_empty() {
+        return drop_edits(alloc, disk, found);
+    }
+    store_region(alloc, disk, found)
+}
+
+/// The same where nothing is unflushed: the edits files go.
+fn drop_edits<D: Disk>(
+    alloc: Global,
+    disk: &mut D,
+    found: RegionFiles,
+) -> Result<Replayed, FileRefusal>
+    requires order { IsInOrder found }
+    requires none { found.unflushed.items ≡ [] }
+    requires there { IsTrue D.told → (m : TheName) → Contains found.edits.items m → ∥ ((c : List ℕ)
+        × Reads (D.view disk.old).files m c) ∥₁ }
+
+    ensures any_moment { IsTrue D.told → (base : Files) → IsHeld base (D.view disk.old)
+        → IsFound (D.view disk.old).files found → During (AllAlike base) (D.view disk.old) (D.view disk.new) }
+    ensures held { IsTrue D.told → (base : Files) → IsHeld base (D.view disk.old)
+        → IsFound (D.view disk.old).files found → OnOk result (IsHeld base (D.view disk.new)) }
+    ensures replayed { IsTrue D.told → (base : Files) → IsHeld base (D.view disk.old)
+        → IsFound (D.view disk.old).files found
+        → IfOk result (λ x. IsOf (D.view disk.old).files (D.view disk.new).files found.region x) }
+    ensures no_edits { IsTrue D.told → OnOk result ((m : TheName) → Contains found.edits.items m
+        → IsAbsent (D.view disk.new).files m) }
+    ensures others { IsTrue D.told → OnOk result ((m : TheName) → m ≢ store_name found.region found.next_store
+        → ((n : TheName) → Contains found.edits.items n → m ≢ n)
+        → content (D.view disk.new).files m ≡ content (D.view disk.old).files m) }
+    ensures cause { HasCause (D.faults disk.old) (D.faults disk.new) (IsErrOf result FileRefusal.DiskFault) }
+{
+    let cut = NumberedCells::new(alloc);
+    let base = base_of(alloc, found.stored, &cut, found.flushed)?;
+    let replayed = Replayed {
+        base,
+        flushed: found.flushed,
+        next_store: found.next_store,
+    };
+    match remove_all(disk, &found.edits) {
+        Ok(()) => Ok(replayed),
+        Err(_) => Err(FileRefusal::DiskFault),
+    }
+}
+
+/// The same where some entries are unflushed: they go into a store first.
+fn store_region<D: Disk>(
+    alloc: Global,
+    disk: &mut D,
+    found: RegionFiles,
+) -> Result<Replayed, FileRefusal>
+    requires order { IsInOrder found }
+    requires some { found.unflushed.items ≢ [] }
+    requires absent { IsTrue D.told → IsAbsent (D.view disk.old).files (store_name found.region found.next_store)
+        × (¬ (D.view disk.old).gone (store_name found.region found.next_store)) }
+    requires there { IsTrue D.told → (m : TheName) → Contains found.edits.items m → ∥ ((c : List ℕ)
+        × Reads (D.view disk.old).files m c) ∥₁ }
+
+    ensures any_moment { IsTrue D.told → (base : Files) → IsHeld base (D.view disk.old)
+        → IsFound (D.view disk.old).files found → During (AllAlike base) (D.view disk.old) (D.view disk.new) }
+    ensures held { IsTrue D.told → (base : Files) → IsHeld base (D.view disk.old)
+        → IsFound (D.view disk.old).files found → OnOk result (IsHeld base (D.view disk.new)) }
+    ensures replayed { IsTrue D.told → (base : Files) → IsHeld base (D.view disk.old)
+        → IsFound (D.view disk.old).files found
+        → IfOk result (λ x. IsOf (D.view disk.old).files (D.view disk.new).files found.region x) }
+    ensures no_edits { IsTrue D.told → OnOk result ((m : TheName) → Contains found.edits.items m
+        → IsAbsent (D.view disk.new).files m) }
+    ensures others { IsTrue D.told → OnOk result ((m : TheName) → m ≢ store_name found.region found.next_store
+        → ((n : TheName) → Contains found.edits.items n → m ≢ n)
+        → content (D.view disk.new).files m ≡ content (D.view disk.old).files m) }
+    ensures cause { HasCause (D.faults disk.old) (D.faults disk.new) (IsErrOf result FileRefusal.DiskFault) }
+{
+    let from = found.flushed + 1;
+    let to = last_number(&found.unflushed, found.flushed);
+    let cut = entry_cells(alloc, found.unflushed)?;
+    let base = base_of(alloc, found.stored, &cut, to)?;
+    let replayed = Replayed {
+        base,
+        flushed: to,
+        next_store: found.next_store + 1,
+    };
+    let name = Name {
+        kind: NameKind::Store,
+        region: found.region,
+        number: found.next_store,
+    };
+    replay_found(alloc, disk, name, from, to, cut, &found.edits)?;
+    Ok(replayed)
+}

@@ -1,0 +1,59 @@
+//! The steps of a replay that change files.
+
+ghost use Rattle.std.specs.Prelude.{◌≡◌, ◌≢◌, ◌≤◌, ◌<◌, ◌+◌, ◌^◌, ℕ, List, Contains, IsTrue, OnOk, IsErrOf};
+ghost use Rattle.log_model.specs.declared.name.Name.{Name as TheName};
+ghost use Rattle.log_model.specs.declared.name.NameKind.TheVariants as kinds;
+ghost use Rattle.log_model.specs.Files.{Files, Reads, IsAbsent, content};
+ghost use Rattle.log_model.specs.Recovered.{FlushesTo};
+ghost use Rattle.disk_images.specs.Crash.{Throughout};
+ghost use Rattle.disk_images.specs.Calls.{HasCause};
+ghost use Rattle.flush_snapshot.specs.Cut.{IsWithin};
+ghost use Rattle.recovery.specs.Alike.{AllAlike};
+ghost use Rattle.wal_split.specs.Held.{IsHeld};
+ghost use Rattle.region_replay.specs.Cuts.{IsUnflushedCut, AreEdits, EditsUpTo};
+
+use crate::removing::remove_all;
+use crate::storing::store_unflushed;
+use disk_images::{Disk, Name};
+use kv_cell::NumberedCells;
+use log_file::FileRefusal;
+use std::alloc::Global;
+
+/// Writes the region's unflushed cells as a store, and removes its edits files.
+pub fn replay_found<D: Disk>(
+    alloc: Global,
+    disk: &mut D,
+    name: Name,
+    from: u64,
+    to: u64,
+    cut: NumberedCells,
+    names: &[Name],
+) -> Result<(), FileRefusal>
+    requires absent { IsTrue D.told → IsAbsent (D.view disk.old).files name × (¬ (D.view disk.old).gone name) }
+    requires kind { name.kind ≡ kinds.Store }
+    requires range { (1 ≤ from) × (from ≤ to) × (to < 2 ^ 48) }
+    requires within { IsWithin from to cut }
+    requires edits { AreEdits names.now }
+    requires there { IsTrue D.told → (m : TheName) → Contains names.now m → ∥ ((c : List ℕ)
+        × Reads (D.view disk.old).files m c) ∥₁ }
+
+    ensures any_moment { IsTrue D.told → (base : Files) → IsHeld base (D.view disk.old)
+        → IsUnflushedCut (D.view disk.old).files name.region to cut
+        → EditsUpTo (D.view disk.old).files name.region to names.now → (by : ℕ)
+        × Throughout (AllAlike base) by (D.view disk.old) (D.view disk.new) }
+    ensures held { IsTrue D.told → (base : Files) → IsHeld base (D.view disk.old)
+        → IsUnflushedCut (D.view disk.old).files name.region to cut
+        → EditsUpTo (D.view disk.old).files name.region to names.now → OnOk result (IsHeld base (D.view disk.new)) }
+    ensures flushed { IsTrue D.told → OnOk result (FlushesTo (D.view disk.new).files name.region to) }
+    ensures gone { IsTrue D.told → OnOk result ((m : TheName) → Contains names.now m
+        → IsAbsent (D.view disk.new).files m) }
+    ensures others { IsTrue D.told → OnOk result ((m : TheName) → m ≢ name → ((n : TheName) → Contains names.now n
+        → m ≢ n) → content (D.view disk.new).files m ≡ content (D.view disk.old).files m) }
+    ensures cause { HasCause (D.faults disk.old) (D.faults disk.new) (IsErrOf result FileRefusal.DiskFault) }
+{
+    store_unflushed(alloc, disk, name, from, to, cut)?;
+    match remove_all(disk, names) {
+        Ok(()) => Ok(()),
+        Err(_) => Err(FileRefusal::DiskFault),
+    }
+}

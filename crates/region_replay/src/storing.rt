@@ -1,0 +1,50 @@
+//! What is unflushed of a region goes into a store file.
+
+ghost use Rattle.std.specs.Prelude.{◌≡◌, ◌≤◌, ◌<◌, ◌+◌, ◌^◌, ℕ, length, IsTrue, IfOk, OnOk, IsErrOf};
+ghost use Rattle.log_model.specs.declared.name.NameKind.TheVariants as kinds;
+ghost use Rattle.log_model.specs.Files.{Files, IsAbsent};
+ghost use Rattle.log_model.specs.Recovered.{FlushesTo};
+ghost use Rattle.disk_images.specs.Crash.{Throughout};
+ghost use Rattle.disk_images.specs.OneFile.{Touches};
+ghost use Rattle.disk_images.specs.Calls.{HasCause};
+ghost use Rattle.flush_snapshot.specs.Cut.{IsWithin};
+ghost use Rattle.recovery.specs.Alike.{AllAlike};
+ghost use Rattle.wal_split.specs.Held.{IsHeld};
+ghost use Rattle.region_replay.specs.Cuts.{IsUnflushedCut};
+
+use disk_images::{Disk, Name};
+use flush_snapshot::write_cut;
+use kv_cell::NumberedCells;
+use log_file::FileRefusal;
+use std::alloc::Global;
+
+/// Writes the region's unflushed cells as its next store file. Each image recovers as before.
+pub fn store_unflushed<D: Disk>(
+    alloc: Global,
+    disk: &mut D,
+    name: Name,
+    from: u64,
+    to: u64,
+    cut: NumberedCells,
+) -> Result<u64, FileRefusal>
+    requires absent { IsTrue D.told → IsAbsent (D.view disk.old).files name × (¬ (D.view disk.old).gone name) }
+    requires kind { name.kind ≡ kinds.Store }
+    requires range { (1 ≤ from) × (from ≤ to) × (to < 2 ^ 48) }
+    requires within { IsWithin from to cut }
+
+    ensures any_moment { IsTrue D.told → (base : Files) → IsHeld base (D.view disk.old)
+        → IsUnflushedCut (D.view disk.old).files name.region to cut → (by : ℕ)
+        × Throughout (AllAlike base) by (D.view disk.old) (D.view disk.new) }
+    ensures held { IsTrue D.told → (base : Files) → IsHeld base (D.view disk.old)
+        → IsUnflushedCut (D.view disk.old).files name.region to cut → OnOk result (IsHeld base (D.view disk.new)) }
+    ensures flushed { IsTrue D.told → OnOk result (FlushesTo (D.view disk.new).files name.region to) }
+    ensures memory { IsErrOf result FileRefusal.Memory → disk.new ≡ disk.old }
+    ensures touches { IsTrue D.told → Touches name (D.view disk.old) (D.view disk.new) }
+    ensures cause { HasCause (D.faults disk.old) (D.faults disk.new) (IsErrOf result FileRefusal.DiskFault) }
+{
+    match write_cut(alloc, disk, name, from, to, cut) {
+        Ok(count) => Ok(count),
+        Err(FileRefusal::Memory) => Err(FileRefusal::Memory),
+        Err(FileRefusal::DiskFault) => Err(FileRefusal::DiskFault),
+    }
+}

@@ -1,0 +1,75 @@
+-- Entries go to the edits files of their regions.
+use Rattle.std.proofs.Common.{◌≡◌, ◌≢◌, inl, inr, ℕ, ◌+◌, ◌-◌, ◌<◌, ◌≤◌, List, [], ◌∷◌, ◌++◌, length, get_or, Contains, slice_set, refl, sym, ap, ◌∙◌, subst, arith, length-append, get_or-set_other, get_or-set_same}
+use Rattle.std.proofs.Math.ListN.{length-set}
+use Rattle.std.proofs.lemmas.Bool.{cases_eq, cases_lt}
+use Rattle.std.proofs.lemmas.List.{get_or_append_left}
+use Rattle.std.proofs.Math.Seq.{get_or-append_seam}
+use Rattle.std.proofs.lemmas.List.Elements.{Contains-append_left, Contains-push, Contains-push_cases}
+use Rattle.log_model.specs.Entry.{Entry, IsEntry}
+use Rattle.found_files.proofs.Placing.{none_in}
+use Rattle.wal_split.specs.declared.job.EditsJob.{EditsJob}
+use Rattle.wal_split.specs.Grouped.{edits_name, AreEmptyJobs, AreJobsOf, AddsTo}
+
+pub none_made : (number : ℕ) → AreEmptyJobs number 0 []
+none_made number = record { long = refl; names = λ k d lt. absurd (omega (arith, lt)); none = λ k d lt. absurd (omega (arith, lt)) }
+
+pub one_made : (number count : ℕ) (jobs new : List EditsJob) (job : EditsJob) → AreEmptyJobs number count jobs → new ≡ jobs ++ job ∷ [] → job.name ≡ edits_name (count + 1) number → job.entries.items ≡ [] → AreEmptyJobs number (count + 1) new
+one_made number count jobs new job made is named empty = subst (λ (l : List EditsJob). AreEmptyJobs number (count + 1) l) (sym is) (record {
+  long = omega (arith, length-append jobs (job ∷ []), made.long);
+  names = λ k d lt. elim (cases_lt k count) as (λ _. (get_or (jobs ++ job ∷ []) k d).name ≡ edits_name (k + 1) number) [
+    | inl early ↦ ap (λ (j : EditsJob). j.name) (get_or_append_left jobs (job ∷ []) d k (omega (arith, early, made.long))) ∙ made.names k d early
+    | inr late ↦ (let at : k ≡ length jobs = omega (arith, lt, late, made.long) in ap (λ (i : ℕ). (get_or (jobs ++ job ∷ []) i d).name) at ∙ ap (λ (j : EditsJob). j.name) (get_or-append_seam jobs job [] d) ∙ named ∙ ap (λ (i : ℕ). edits_name (i + 1) number) (sym made.long ∙ sym at))
+  ];
+  none = λ k d lt. elim (cases_lt k count) as (λ _. (get_or (jobs ++ job ∷ []) k d).entries.items ≡ []) [
+    | inl early ↦ ap (λ (j : EditsJob). j.entries.items) (get_or_append_left jobs (job ∷ []) d k (omega (arith, early, made.long))) ∙ made.none k d early
+    | inr late ↦ (let at : k ≡ length jobs = omega (arith, lt, late, made.long) in ap (λ (i : ℕ). (get_or (jobs ++ job ∷ []) i d).entries.items) at ∙ ap (λ (j : EditsJob). j.entries.items) (get_or-append_seam jobs job [] d) ∙ empty)
+  ];
+})
+
+pub none_grouped : (number : ℕ) (jobs : List EditsJob) → AreEmptyJobs number 64 jobs → AreJobsOf [] number jobs
+none_grouped number jobs made = record {
+  long = made.long;
+  names = made.names;
+  each = λ k d e lt has. absurd (none_in e (subst (λ (l : List Entry). Contains l e) (made.none k d lt) has));
+  all = λ e has. absurd (none_in e has);
+}
+
+module _ (entries : List Entry) (number : ℕ) (old new : List EditsJob) (entry : Entry) (are : AreJobsOf entries number old) (given : 1 ≤ entry.region) (low : entry.region ≤ 64) (valid : IsEntry entry) (adds : AddsTo entry old new) where
+  abbrev at : ℕ
+  at = entry.region - 1
+
+  abbrev now : List EditsJob
+  now = slice_set old at adds.0
+
+  here : (k : ℕ) (d : EditsJob) → k ≡ at → get_or now k d ≡ adds.0
+  here k d is = ap (λ (i : ℕ). get_or now i d) is ∙ get_or-set_same old at adds.0 d (omega (arith, given, low, are.long))
+
+  elsewhere : (k : ℕ) (d : EditsJob) → k ≢ at → get_or now k d ≡ get_or old k d
+  elsewhere k d other = get_or-set_other old at k adds.0 d other
+
+  pub one_grouped : AreJobsOf (entries ++ entry ∷ []) number new
+  one_grouped = subst (λ (l : List EditsJob). AreJobsOf (entries ++ entry ∷ []) number l) (sym adds.1) (record {
+    long = length-set old at adds.0 ∙ are.long;
+    names = λ k d lt. elim (cases_eq k at) as (λ _. (get_or now k d).name ≡ edits_name (k + 1) number) [
+      | inl is ↦ ap (λ (j : EditsJob). j.name) (here k d is) ∙ (adds.2 d).0 ∙ ap (λ (i : ℕ). (get_or old i d).name) (sym is) ∙ are.names k d lt
+      | inr other ↦ ap (λ (j : EditsJob). j.name) (elsewhere k d other) ∙ are.names k d lt
+    ];
+    each = λ k d e lt has. elim (cases_eq k at) as (λ _. Contains (entries ++ entry ∷ []) e × (e.region ≡ k + 1) × IsEntry e) [
+      | inl is ↦ elim (Contains-push_cases (get_or old at d).entries.items entry e (subst (λ (l : List Entry). Contains l e) (ap (λ (j : EditsJob). j.entries.items) (here k d is) ∙ (adds.2 d).1) has)) as (λ _. Contains (entries ++ entry ∷ []) e × (e.region ≡ k + 1) × IsEntry e) [
+        | inl before ↦ (let r = are.each k d e lt (subst (λ (i : ℕ). Contains (get_or old i d).entries.items e) (sym is) before) in (Contains-append_left entries (entry ∷ []) e r.0, r.1, r.2))
+        | inr this ↦ subst (λ (x : Entry). Contains (entries ++ entry ∷ []) x × (x.region ≡ k + 1) × IsEntry x) this (Contains-push entries entry, omega (arith, is, given), valid)
+      ]
+      | inr other ↦ (let r = are.each k d e lt (subst (λ (j : EditsJob). Contains j.entries.items e) (elsewhere k d other) has) in (Contains-append_left entries (entry ∷ []) e r.0, r.1, r.2))
+    ];
+    all = λ e has. elim (Contains-push_cases entries entry e has) as (λ _. (k : ℕ) × (k < 64) × ((d : EditsJob) → Contains (get_or now k d).entries.items e)) [
+      | inl before ↦ (let r = are.all e before in (
+        r.0,
+        r.1,
+        λ d. elim (cases_eq r.0 at) as (λ _. Contains (get_or now r.0 d).entries.items e) [
+          | inl is ↦ subst (λ (l : List Entry). Contains l e) (sym (ap (λ (j : EditsJob). j.entries.items) (here r.0 d is) ∙ (adds.2 d).1)) (Contains-append_left (get_or old at d).entries.items (entry ∷ []) e (subst (λ (i : ℕ). Contains (get_or old i d).entries.items e) is (r.2 d)))
+          | inr other ↦ subst (λ (j : EditsJob). Contains j.entries.items e) (sym (elsewhere r.0 d other)) (r.2 d)
+        ],
+      ))
+      | inr this ↦ (at, omega (arith, given, low), λ d. subst (λ (l : List Entry). Contains l e) (sym (ap (λ (j : EditsJob). j.entries.items) (here at d refl) ∙ (adds.2 d).1)) (subst (λ (x : Entry). Contains ((get_or old at d).entries.items ++ entry ∷ []) x) this (Contains-push (get_or old at d).entries.items entry)))
+    ];
+  })

@@ -1,0 +1,11 @@
+pub mod Holding
+pub mod Moving
+pub mod Copies
+pub mod Turning
+pub mod Writing
+pub mod Covering
+pub mod Gathering
+pub mod Grouped
+pub mod Raising
+pub mod LogNumbers
+pub mod Plans

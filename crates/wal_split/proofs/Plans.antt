@@ -1,0 +1,264 @@
+-- What a plan gives the steps that change files.
+use Rattle.std.proofs.Common.{◌≡◌, ◌≢◌, ◌⊎◌, inl, inr, ℕ, ◌+◌, ◌<◌, ◌≤◌, ◌^◌, List, [], ◌∷◌, length, take, get_or, Contains, Some, None, is_some, refl, sym, ap, ◌∙◌, subst, arith}
+use Rattle.std.specs.FinMap.{keys}
+use Rattle.std.proofs.lemmas.Bool.{cases_lt}
+use Rattle.std.proofs.lemmas.List.{get_or-take, length-take}
+use Rattle.std.proofs.lemmas.List.Elements.{Contains-get_or, recursion_from_All, All-from_recursion, All-contains}
+use Rattle.log_model.specs.declared.name.Name.{Name}
+use Rattle.log_model.specs.declared.name.NameKind.TheVariants as kinds
+use Rattle.log_model.specs.Entry.{Entry, IsEntry}
+use Rattle.log_model.specs.StoreText.{Store, IsStoreText}
+use Rattle.log_model.specs.LogText.{IsEntryOf, IsLogText}
+use Rattle.log_model.specs.Files.{Files, content, Reads, IsAbsent, IsPresent, IsLogFile, IsLogged, IsStoreFile, key_of}
+use Rattle.log_model.specs.Recovered.{FlushesTo}
+use Rattle.disk_images.specs.Crash.{DiskView}
+use Rattle.disk_images.specs.Calls.{IsTrueDisk}
+use Rattle.disk_images.specs.Settled.{IsSettled}
+use Rattle.disk_images.proofs.Settled.{among_names, there_of, present_cases, read_of}
+use Rattle.recovery.specs.Alike.{AllAlike, StoresStand}
+use Rattle.recovery.proofs.OneStore.{one_store}
+use Rattle.found_files.specs.declared.found.FoundEntry.{FoundEntry}
+use Rattle.found_files.specs.declared.found.FoundStore.{FoundStore}
+use Rattle.found_files.specs.Found.{AreRead, store_of, place_in}
+use Rattle.found_files.proofs.Files.{one_list}
+use Rattle.found_files.proofs.Placing.{none_in}
+use Rattle.wal_split.specs.declared.job.EditsJob.{EditsJob}
+use Rattle.wal_split.specs.declared.planning.Plan.{Plan}
+use Rattle.wal_split.specs.Unflushed.{IsAbove, IsBefore}
+use Rattle.wal_split.specs.Grouped.{edits_name}
+use Rattle.wal_split.specs.Jobs.{AreJobs, AreFreeNames, AllLogged}
+use Rattle.wal_split.specs.Logs.{AreFree, AreRising, IsOther, log_name, old_name}
+use Rattle.wal_split.specs.Covered.{LogsCovered}
+use Rattle.wal_split.specs.Planned.{IsPlan}
+use Rattle.wal_split.specs.Held.{IsHeld}
+use Rattle.wal_split.specs.Told.{Counts}
+use Rattle.wal_split.proofs.LogNumbers.{log_of, has_log, logs_rise}
+
+module _ (names : List Name) (xs : List FoundEntry) (ss : List FoundStore) (p : Plan) (plan : IsPlan names xs ss p) where
+  abbrev jobs : List EditsJob
+  jobs = p.jobs.items
+
+  place : (j : EditsJob) → Contains jobs j → (k : ℕ) × (k < 64) × (get_or jobs k j ≡ j)
+  place j has = (has.0, omega (arith, has.1, plan.jobs.long), has.2)
+
+  name_at : (j : EditsJob) (k : ℕ) → k < 64 → get_or jobs k j ≡ j → j.name ≡ edits_name (k + 1) plan.number
+  name_at j k lt is = sym (ap (λ (x : EditsJob). x.name) is) ∙ plan.jobs.names k j lt
+
+  entry_at : (j : EditsJob) (k : ℕ) (e : Entry) → k < 64 → get_or jobs k j ≡ j → Contains j.entries.items e → Contains plan.logged e × (e.region ≡ k + 1) × IsEntry e
+  entry_at j k e lt is has = plan.jobs.each k j e lt (subst (λ (x : EditsJob). Contains x.entries.items e) (sym is) has)
+
+  pub kind_of : (j : EditsJob) → Contains jobs j → j.name.kind ≡ kinds.Edits
+  kind_of j has = (let q = place j has in ap (λ (n : Name). n.kind) (name_at j q.0 q.1 q.2))
+
+  pub number_of : (j : EditsJob) → Contains jobs j → j.name.number ≡ plan.number
+  number_of j has = (let q = place j has in ap (λ (n : Name). n.number) (name_at j q.0 q.1 q.2))
+
+  pub are_jobs : AreJobs jobs
+  are_jobs = record {
+    kind = kind_of;
+    each = λ j has.
+        let q = place j has in
+        let region : j.name.region ≡ q.0 + 1 = ap (λ (n : Name). n.region) (name_at j q.0 q.1 q.2) in
+        recursion_from_All (IsEntryOf (key_of j.name)) j.entries.items (λ i d lt.
+        let r = entry_at j q.0 (get_or j.entries.items i d) q.1 q.2 (Contains-get_or j.entries.items i d lt) in
+        record { entry = r.2; region = λ given. r.1 ∙ sym region });
+    apart = λ i x j lt has same.
+        let within : has.0 < i = omega (arith, has.1, take_short i) in
+        let here : get_or jobs has.0 j ≡ j = sym (get_or-take i jobs has.0 j within) ∙ has.2 in
+        let one : j.name ≡ edits_name (has.0 + 1) plan.number = name_at j has.0 (omega (arith, within, lt, plan.jobs.long)) here in
+        let other : (get_or jobs i x).name ≡ edits_name (i + 1) plan.number = plan.jobs.names i x (omega (arith, lt, plan.jobs.long)) in
+        omega (arith, within, ap (λ (n : Name). n.region) (sym other ∙ same ∙ one));
+  }
+    where
+      take_short : (i : ℕ) → length (take i jobs) ≤ i
+      take_short i = omega (arith, length-take i jobs)
+
+valid_entry : (files : Files) (name : Name) (l : List Entry) (e : Entry) → IsLogFile files name l → Contains l e → IsEntry e
+valid_entry files name l e file member = go file.text
+  where
+    go : IsLogText (key_of name) file.bytes l file.ended → IsEntry e
+    go (inl short) = absurd (none_in e (subst (λ (k : List Entry). Contains k e) short.1 member))
+    go (inr (rest, begins, ends)) = (All-contains (IsEntryOf (key_of name)) l e (All-from_recursion (IsEntryOf (key_of name)) l begins.each) member).entry
+
+module _ (told : Type 0) (is_told : told) (v : DiskView) (true_disk : IsTrueDisk v) (settled : IsSettled v) (xs : List FoundEntry) (ss : List FoundStore) (p : Plan)
+    (read : AreRead told v.files (keys v.files) (keys v.files) xs ss) (plan : IsPlan (keys v.files) xs ss p) where
+  small : (m : Name) → IsPresent v.files m → m.number ≤ 2 ^ 62
+  small m here = elim (cases_lt (2 ^ 62) m.number) as (λ _. m.number ≤ 2 ^ 62) [ inl high ↦ absurd (read.good m (among_names v.files m here) (inl high)) | inr low ↦ low ]
+
+  is_some_there : (m : Name) (c : List ℕ) → Reads v.files m c → IsPresent v.files m
+  is_some_there m c reads none = absurd (cc (sym none ∙ reads))
+
+  log_named : (m : Name) → Contains (keys v.files) m → m.kind ≡ kinds.Log → m ≡ log_name m.number
+  log_named m has log =
+      let r = read_of v.files m has in
+      let region : m.region ≡ 0 = true_disk.named m (ap is_some r.1) (inl log) in
+      λ i. record { kind = log i; region = region i; number = m.number }
+
+  pub are_free_names : AreFreeNames v p.jobs.items
+  are_free_names j has = (
+    elim (present_cases v.files j.name) as (λ _. IsAbsent v.files j.name) [
+      | inl none ↦ none
+      | inr some ↦ absurd (omega (arith, plan.above j.name (among_names v.files j.name (is_some_there j.name some.0 some.1)) (λ store. absurd (cc (sym store ∙ kind_of (keys v.files) xs ss p plan j has))), number_of (keys v.files) xs ss p plan j has))
+    ],
+    settled.none_gone j.name,
+  )
+
+  log_there : (n : ℕ) → Contains p.logs.items n → Contains (keys v.files) (log_name n)
+  log_there n has =
+      let r = log_of (keys v.files) n (subst (λ (l : List ℕ). Contains l n) plan.logs has) in
+      subst (λ (m : Name). Contains (keys v.files) m) (log_named r.0 r.1 r.2 ∙ ap log_name r.3) r.1
+
+  pub are_free : AreFree v p.logs.items
+  are_free = record {
+    there = λ n has. read_of v.files (log_name n) (log_there n has);
+    old = λ n has. (
+      elim (present_cases v.files (old_name n)) as (λ _. IsAbsent v.files (old_name n)) [
+        | inl none ↦ none
+        | inr some ↦ absurd (read.good (log_name n) (log_there n has) (inr (inr (refl, (old_name n, among_names v.files (old_name n) (is_some_there (old_name n) some.0 some.1), refl, refl)))))
+      ],
+      settled.none_gone (old_name n),
+    );
+  }
+
+  pub are_rising : AreRising p.logs.items
+  are_rising = subst AreRising (sym plan.logs) (logs_rise v.files log_named)
+
+  logged_from : (x : FoundEntry) → Contains xs x → IsLogged v.files x.entry
+  logged_from x has = (let r = read.from_logs is_told x has in record { name = x.name; entries = r.0; file = r.1; member = r.2 })
+
+  pub all_logged : AllLogged v.files p.jobs.items
+  all_logged j e has member =
+      let q = place (keys v.files) xs ss p plan j has in
+      let r = plan.parts.from_logs e (entry_at (keys v.files) xs ss p plan j q.0 e q.1 q.2 member).0 in
+      subst (λ (d : Entry). IsLogged v.files d) r.2 (logged_from r.0 r.1)
+
+  -- what is not above the flushed numbers is flushed
+  flushed_low : (e : Entry) → IsEntry e → ¬ IsAbove plan.upto e → (m : ℕ) × FlushesTo v.files e.region m × (e.number ≤ m)
+  flushed_low e valid not =
+      let g = plan.are_flushed.each e.region (omega (arith, valid.region)) in
+      let low : e.number ≤ get_or plan.upto e.region 0 = elim (cases_lt (get_or plan.upto e.region 0) e.number) as (λ _. e.number ≤ get_or plan.upto e.region 0) [ inl above ↦ absurd (not above) | inr le ↦ le ] in
+      elim g.reached as (λ _. (m : ℕ) × FlushesTo v.files e.region m × (e.number ≤ m)) [
+        | inl (x, has, region, to) ↦ (get_or plan.upto e.region 0, (x.name, store_of x, subst (λ (r : ℕ). IsStoreFile v.files r x.name (store_of x)) region (read.from_stores is_told x has), to), low)
+        | inr none ↦ absurd (omega (arith, none, low, valid.number_given))
+      ]
+
+  flushed_bound : (r m : ℕ) → r ≤ 64 → FlushesTo v.files r m → m ≤ get_or plan.upto r 0
+  flushed_bound r m low (name, s, file, to) =
+      let x = read.stores is_told name file.bytes (among_names v.files name (is_some_there name file.bytes file.there)) file.kind file.there file.gate in
+      let one : s ≡ store_of x.0 = one_store name.region file.bytes s (store_of x.0) (subst (λ (k : ℕ). IsStoreText k file.bytes s) (sym file.of) file.text) (subst (λ (b : List ℕ). IsStoreText name.region b (store_of x.0)) (same_bytes x.3.bytes file.bytes (sym x.3.there ∙ file.there)) x.3.text) in
+      (plan.are_flushed.each r (omega (arith, low))).bound m (x.0, x.1, ap (λ (n : Name). n.region) x.2 ∙ file.of, sym (ap (λ (t : Store). t.to) one) ∙ to)
+    where
+      same_bytes : (a b : List ℕ) → Some a ≡ Some b → a ≡ b
+      same_bytes a b e = cc e
+
+  first_job : (js : List EditsJob) → 0 < length js → EditsJob
+  first_job [] lt = absurd (omega (arith, lt))
+  first_job (j ∷ js) lt = j
+
+  abbrev some_job : EditsJob
+  some_job = first_job p.jobs.items (omega (arith, plan.jobs.long))
+
+  pub logs_covered : LogsCovered v.files p.jobs.items p.logs.items
+  logs_covered n has =
+      let r = read.logs is_told (log_name n) (log_there n has) (inl refl) in
+      (r.0, r.1.ended, record { bytes = r.1.bytes; there = r.1.there; text = r.1.text }, λ e member. one r.0 r.1 r.2 e member)
+    where
+      one : (l : List Entry) → IsLogFile v.files (log_name n) l → ((e : Entry) → Contains l e → Contains xs (place_in (log_name n) e)) → (e : Entry) → Contains l e
+          → ((j : EditsJob) × Contains p.jobs.items j × Contains j.entries.items e) ⊎ ((m : ℕ) × FlushesTo v.files e.region m × (e.number ≤ m))
+      one l file all e member = elim (cases_lt (get_or plan.upto e.region 0) e.number) as (λ _. ((j : EditsJob) × Contains p.jobs.items j × Contains j.entries.items e) ⊎ ((m : ℕ) × FlushesTo v.files e.region m × (e.number ≤ m))) [
+        | inl above ↦
+            let q = plan.jobs.all e (plan.parts.all_logged (place_in (log_name n) e) (all e member) refl above) in
+            inl (get_or p.jobs.items q.0 some_job, Contains-get_or p.jobs.items q.0 some_job (omega (arith, q.1, plan.jobs.long)), q.2 some_job)
+        | inr low ↦ inr (flushed_low e (valid_entry v.files (log_name n) l e file member) (λ above. omega (arith, above, low)))
+      ]
+
+  pub counted : Counts v.files p.entries
+  counted = record {
+    entries = plan.logged;
+    count = sym plan.count;
+    apart = λ i j d less lt same. apart_by (get_or plan.logged i d) (get_or plan.logged j d) (plan.parts.logged_rise i j d less lt) same;
+    each = λ e has.
+        let r = plan.parts.from_logs e has in
+        let f = read.from_logs is_told r.0 r.1 in
+        let member : Contains f.0 e = subst (λ (d : Entry). Contains f.0 d) r.2 f.2 in
+        let valid = valid_entry v.files r.0.name f.0 e f.1 member in
+        ((r.0.name, f.0, r.3, f.1, member), λ m flushes. (let b = flushed_bound e.region m valid.region flushes in omega (arith, b, r.4)));
+    all = λ e name l log file member above.
+        let valid = valid_entry v.files name l e file member in
+        let r = read.logs is_told name (among_names v.files name (is_some_there name file.bytes file.there)) file.kind in
+        let there = r.2 e (subst (λ (k : List Entry). Contains k e) (one_list v.files name l r.0 file r.1) member) in
+        plan.parts.all_logged (place_in name e) there log (is_above e valid above);
+  }
+    where
+      apart_by : (d e : Entry) → IsBefore d e → d ≡ e → ⊥
+      apart_by d e (inl less) same = omega (arith, less, ap (λ (x : Entry). x.region) same)
+      apart_by d e (inr (region, less)) same = omega (arith, less, ap (λ (x : Entry). x.number) same)
+
+      is_above : (e : Entry) → IsEntry e → ((m : ℕ) → FlushesTo v.files e.region m → m < e.number) → IsAbove plan.upto e
+      is_above e valid above =
+          let g = plan.are_flushed.each e.region (omega (arith, valid.region)) in
+          elim g.reached as (λ _. IsAbove plan.upto e) [
+            | inl (x, has, region, to) ↦ above (get_or plan.upto e.region 0) (x.name, store_of x, subst (λ (r : ℕ). IsStoreFile v.files r x.name (store_of x)) region (read.from_stores is_told x has), to)
+            | inr none ↦ omega (arith, none, valid.number_given)
+          ]
+
+  module _ (w : DiskView) (others : (m : Name) → ((j : EditsJob) → Contains p.jobs.items j → m ≢ j.name) → IsOther p.logs.items m → content w.files m ≡ content v.files m)
+      (gone : (n : ℕ) → Contains p.logs.items n → IsAbsent w.files (log_name n)) where
+    pub no_log_left : (m : Name) → m.kind ≡ kinds.Log → content w.files m ≡ None
+    no_log_left m log = elim (present_cases v.files m) as (λ _. content w.files m ≡ None) [
+      | inl none ↦ others m (λ j has is. absurd (cc (sym log ∙ ap (λ (x : Name). x.kind) is ∙ kind_of (keys v.files) xs ss p plan j has)))
+          (λ n has. ((λ is. there_of v.files (log_name n) (log_there n has) (ap (λ (x : Name). content v.files x) (sym is) ∙ none)), λ is. absurd (cc (sym log ∙ ap (λ (x : Name). x.kind) is)))) ∙ none
+      | inr some ↦
+          let has = among_names v.files m (is_some_there m some.0 some.1) in
+          ap (λ (x : Name). content w.files x) (log_named m has log) ∙ gone m.number (subst (λ (l : List ℕ). Contains l m.number) (sym plan.logs) (has_log (keys v.files) m has log))
+    ]
+
+    pub small_left : (m : Name) → IsPresent w.files m → m.number ≤ 2 ^ 63
+    small_left m here = elim (cases_lt (2 ^ 63) m.number) as (λ _. m.number ≤ 2 ^ 63) [
+      | inr low ↦ low
+      | inl high ↦ absurd (big high)
+    ]
+      where
+        log_small : (n : ℕ) → Contains p.logs.items n → n ≤ 2 ^ 62
+        log_small n has = small (log_name n) (there_of v.files (log_name n) (log_there n has))
+
+        big : 2 ^ 63 < m.number → ⊥
+        big high =
+            let same = others m (λ j has is. (let n = number_of (keys v.files) xs ss p plan j has in let k : m.number ≡ j.name.number = ap (λ (x : Name). x.number) is in omega (arith, high, n, k, plan.low)))
+            (λ n has. ((λ is. (let k : m.number ≡ n = ap (λ (x : Name). x.number) is in let l = log_small n has in omega (arith, high, k, l))), λ is. (let k : m.number ≡ n = ap (λ (x : Name). x.number) is in let l = log_small n has in omega (arith, high, k, l)))) in
+            elim (present_cases v.files m) as (λ _. ⊥) [
+              | inl none ↦ here (same ∙ none)
+              | inr some ↦ (let l = small m (is_some_there m some.0 some.1) in omega (arith, high, l))
+            ]
+
+    pub stores_left : StoresStand v.files w.files
+    stores_left m store =
+        others m (λ j has is. absurd (cc (sym store ∙ ap (λ (x : Name). x.kind) is ∙ kind_of (keys v.files) xs ss p plan j has)))
+        (λ n has. ((λ is. absurd (cc (sym store ∙ ap (λ (x : Name). x.kind) is))), λ is. absurd (cc (sym store ∙ ap (λ (x : Name). x.kind) is))))
+
+-- files that recover to what one base does recover alike
+pub alike_between : (base I J : Files) → AllAlike base I → AllAlike base J → AllAlike I J
+alike_between base I J first second r = record {
+  fit = (second r).fit;
+  content = λ v p. (λ h. ((second r).content v p).0 (((first r).content v p).1 h), λ h. ((first r).content v p).0 (((second r).content v p).1 h));
+  last = λ n. (λ h. ((second r).last n).0 (((first r).last n).1 h), λ h. ((first r).last n).0 (((second r).last n).1 h));
+}
+
+pub held_here : (base : Files) (w : DiskView) → IsTrueDisk w → IsHeld base w → IsHeld w.files w
+held_here base w true_disk held = record {
+  stores = held.stores;
+  there = held.there;
+  alike = λ J now. alike_between base w.files J (held.alike w.files true_disk.reads) (held.alike J now);
+  unmoved = held.unmoved;
+  gone = held.gone;
+}
+
+module _ (told : Type 0) (files : Files) (all : List Name) (xs : List FoundEntry) (ss : List FoundStore) (read : AreRead told files all all xs ss) where
+  pub numbers_low : (m : Name) → Contains all m → m.number ≤ 2 ^ 62
+  numbers_low m has = elim (cases_lt (2 ^ 62) m.number) as (λ _. m.number ≤ 2 ^ 62) [ inl high ↦ absurd (read.good m has (inl high)) | inr low ↦ low ]
+
+  pub regions_low : (x : FoundStore) → Contains ss x → x.name.region ≤ 64
+  regions_low x has = elim (cases_lt 64 x.name.region) as (λ _. x.name.region ≤ 64) [
+    | inl high ↦ (let r = (read.each x has).1 in absurd (read.good r.0 r.1 (inr (inl (inl r.3, inr (subst (λ (n : Name). 64 < n.region) r.2 high))))))
+    | inr low ↦ low
+  ]

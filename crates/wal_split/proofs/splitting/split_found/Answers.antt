@@ -1,0 +1,36 @@
+use Rattle.std.proofs.Common.{length, ◌∙◌}
+use Rattle.std.proofs.Math.Logic.{∥∥₁_map}
+use Rattle.wal_split.proofs.Covering.{still_free, now_kept, then_both}
+use Rattle.wal_split.proofs.splitting.split_found.Goals as goal
+
+pub rename_logs-requires-clause-free : goal.rename_logs-requires-clause-free
+rename_logs-requires-clause-free g c told =
+    let v = g.D.Disk.view c.args.disk.now in
+    let w = g.D.Disk.view c.write_all.new.disk in
+    ∥∥₁_map (c.requires.logs told) (λ free. still_free v w c.args.jobs.now c.requires.jobs (c.in_ok-write_all.ensures.others told) (c.in_ok-write_all.ensures.gone told) c.args.logs.now free)
+
+pub returns-in-Ok-clause-any_moment : goal.returns-in-Ok-clause-any_moment
+returns-in-Ok-clause-any_moment g c told base held logged covered =
+    let u = g.D.Disk.view c.args.disk.now in
+    let v = g.D.Disk.view c.write_all.new.disk in
+    then_both base u v (g.D.Disk.view c.rename_logs.new.disk) (length c.args.logs.now) (c.write_all.ensures.any_moment told base held logged)
+    (c.rename_logs.ensures.any_moment told base (c.in_ok-write_all.ensures.held told base held logged)
+    (now_kept u v c.args.jobs.now c.requires.jobs (c.in_ok-write_all.ensures.others told) (c.in_ok-write_all.ensures.written told) c.args.logs.now covered))
+
+pub returns-in-Err-clause-any_moment : goal.returns-in-Err-clause-any_moment
+returns-in-Err-clause-any_moment g c told base held logged covered =
+    let u = g.D.Disk.view c.args.disk.now in
+    let v = g.D.Disk.view c.write_all.new.disk in
+    then_both base u v (g.D.Disk.view c.rename_logs.new.disk) (length c.args.logs.now) (c.write_all.ensures.any_moment told base held logged)
+    (c.rename_logs.ensures.any_moment told base (c.in_ok-write_all.ensures.held told base held logged)
+    (now_kept u v c.args.jobs.now c.requires.jobs (c.in_ok-write_all.ensures.others told) (c.in_ok-write_all.ensures.written told) c.args.logs.now covered))
+
+pub returns-in-Ok-clause-held : goal.returns-in-Ok-clause-held
+returns-in-Ok-clause-held g c told base held logged covered =
+    let u = g.D.Disk.view c.args.disk.now in
+    let v = g.D.Disk.view c.write_all.new.disk in
+    c.in-Ok.ensures.held told base (c.in_ok-write_all.ensures.held told base held logged)
+    (now_kept u v c.args.jobs.now c.requires.jobs (c.in_ok-write_all.ensures.others told) (c.in_ok-write_all.ensures.written told) c.args.logs.now covered)
+
+pub returns-in-Ok-clause-others : goal.returns-in-Ok-clause-others
+returns-in-Ok-clause-others g c told m no_job other = c.in-Ok.ensures.others told m other ∙ c.in_ok-write_all.ensures.others told m no_job

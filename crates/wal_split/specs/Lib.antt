@@ -1,0 +1,13 @@
+pub mod Copied
+pub mod Logs
+pub mod Jobs
+pub mod Covered
+pub mod Held
+pub mod Some
+pub mod Unflushed
+pub mod Grouped
+pub mod Flushed
+pub mod Numbers
+pub mod Moments
+pub mod Planned
+pub mod Told

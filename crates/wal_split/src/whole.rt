@@ -1,0 +1,91 @@
+//! The split of a store.
+
+ghost use Rattle.std.specs.Prelude.{◌≡◌, ℕ, length, Contains, IsTrue, IfOk, OnOk, IsErrOf};
+ghost use Rattle.std.specs.FinMap.{keys};
+ghost use Rattle.log_model.specs.Files.{Files, IsFit, IsSound};
+ghost use Rattle.log_model.specs.Damage.{IsDamage};
+ghost use Rattle.disk_images.specs.Crash.{Throughout};
+ghost use Rattle.disk_images.specs.Calls.{HasCause};
+ghost use Rattle.disk_images.specs.Settled.{IsSettled};
+ghost use Rattle.recovery.specs.Alike.{AllAlike, StoresStand};
+ghost use Rattle.found_files.specs.Found.{AreRead};
+ghost use Rattle.found_files.specs.Sorted.{AreOrdered, AllAgree};
+ghost use Rattle.found_files.specs.Refusal.{IfDamage};
+ghost use Rattle.wal_split.specs.Held.{IsSplit};
+ghost use Rattle.wal_split.specs.Moments.{During, WasOrAlike};
+ghost use Rattle.wal_split.specs.Told.{log_count, Counts};
+
+use crate::planning::{Plan, plan_split};
+use crate::splitting::split_found;
+use disk_images::Disk;
+use found_files::{Finding, SplitRefusal, find_files};
+use log_file::FileRefusal;
+use std::alloc::Global;
+
+/// What a split did.
+#[derive(Clone, Copy, Debug, PartialEq, Eq)]
+pub struct SplitReport {
+    /// How many logs were renamed.
+    pub logs: u64,
+    /// How many entries of logs were above what is flushed, each counted once.
+    pub entries: u64,
+}
+
+/// Makes the files durable and checks them, writes what the logs have above the flushed numbers into one edits file for
+/// each region that has any, and renames the logs to old ones. Nothing is written before each file was read and checked.
+/// Memory is taken for all that is read.
+pub fn split<D: Disk>(alloc: Global, disk: &mut D) -> Result<SplitReport, SplitRefusal>
+    // At each moment each image is one of the first moment, or is fit and recovers alike for every region.
+    ensures any_moment { IsTrue D.told → During (WasOrAlike (D.view disk.old)) (D.view disk.old) (D.view disk.new) }
+    ensures split { IsTrue D.told → OnOk result (IsSplit (D.view disk.new)) }
+    ensures alike { IsTrue D.told → OnOk result (AllAlike (D.view disk.old).files (D.view disk.new).files) }
+    ensures stores { IsTrue D.told → OnOk result (StoresStand (D.view disk.old).files (D.view disk.new).files) }
+    ensures report { IsTrue D.told → IfOk result (λ report. (report.logs ≡ log_count (D.view disk.old).files) × Counts (D.view disk.old).files report.entries) }
+    // Damage is told exactly where the files aren't sound.
+    ensures sound { IsTrue D.told → OnOk result (IsSound (D.view disk.old).files) }
+    ensures damaged { IsTrue D.told → IfDamage result (λ damage. IsDamage (D.view disk.old).files damage × ((D.view disk.new).files ≡ (D.view disk.old).files)) }
+    ensures cause { HasCause (D.faults disk.old) (D.faults disk.new) (IsErrOf result SplitRefusal.DiskFault) }
+{
+    match find_files(alloc, disk) {
+        Ok(found) => split_files(alloc, disk, found),
+        Err(e) => Err(e),
+    }
+}
+
+/// Writes the edits files and renames the logs of a store whose files were read.
+fn split_files<D: Disk>(
+    alloc: Global,
+    disk: &mut D,
+    found: Finding,
+) -> Result<SplitReport, SplitRefusal>
+    requires settled { IsTrue D.told → IsSettled (D.view disk.old) }
+    requires fit { IsTrue D.told → IsFit (D.view disk.old).files }
+    requires names { IsTrue D.told → found.names ≡ keys (D.view disk.old).files }
+    requires read { AreRead (IsTrue D.told) (D.view disk.old).files found.names found.names found.files.entries.items found.files.stores.items }
+    requires ordered { AreOrdered found.files.entries.items }
+    requires agree { AllAgree found.files.entries.items }
+
+    ensures any_moment { IsTrue D.told → During (AllAlike (D.view disk.old).files) (D.view disk.old) (D.view disk.new) }
+    ensures split { IsTrue D.told → OnOk result (IsSplit (D.view disk.new)) }
+    ensures alike { IsTrue D.told → OnOk result (AllAlike (D.view disk.old).files (D.view disk.new).files) }
+    ensures stores { IsTrue D.told → OnOk result (StoresStand (D.view disk.old).files (D.view disk.new).files) }
+    ensures report { IsTrue D.told → IfOk result (λ report. (report.logs ≡ log_count (D.view disk.old).files) × Counts (D.view disk.old).files report.entries) }
+    ensures undamaged { IfDamage result (λ damage. ⊥) }
+    ensures cause { HasCause (D.faults disk.old) (D.faults disk.new) (IsErrOf result SplitRefusal.DiskFault) }
+{
+    let Finding { names, files } = found;
+    let Plan {
+        jobs,
+        logs,
+        entries,
+        kept: _,
+    } = plan_split(alloc, names.as_slice(), files)?;
+    match split_found(alloc, disk, &jobs, &logs) {
+        Ok(()) => Ok(SplitReport {
+            logs: logs.len() as u64,
+            entries,
+        }),
+        Err(FileRefusal::Memory) => Err(SplitRefusal::Memory),
+        Err(FileRefusal::DiskFault) => Err(SplitRefusal::DiskFault),
+    }
+}
