@@ -1,7 +1,7 @@
-//! The names of a store's files in a folder: `log-N`, `old-N`, `store-R-N` and `edits-R-N`, with decimals without
-//! leading zeros. Other files in the folder aren't seen.
+//! The files of a store as they lie in its folder. Other files, folders, pipes and names in the folder aren't seen.
 
-use disk_images::{Name, NameKind};
+use crate::spelling::{Spelled, name_of};
+use disk_images::Name;
 use std::alloc::{AllocError, Global};
 use std::rt::Files;
 use std::{fs, io};
@@ -9,25 +9,28 @@ use std::{fs, io};
 /// The folder, in the working directory.
 pub const FOLDER: &str = "hwal-store";
 
-/// The one spelling of a name.
-pub fn spelling_of(alloc: Global, name: Name) -> Result<String, AllocError> {
-    let number = name.number;
-    let region = name.region;
-    match name.kind {
-        NameKind::Log => format!(in alloc; "log-{number}"),
-        NameKind::Old => format!(in alloc; "old-{number}"),
-        NameKind::Store => format!(in alloc; "store-{region}-{number}"),
-        NameKind::Edits => format!(in alloc; "edits-{region}-{number}"),
-    }
-}
+/// Where it lies.
+pub const AROUND: &str = ".";
 
 /// Where the file of this name lies.
 pub fn path_of(alloc: Global, name: Name) -> Result<String, AllocError> {
-    let spelling = spelling_of(alloc, name)?;
-    format!(in alloc; "{FOLDER}/{spelling}")
+    let spelled = Spelled(name);
+    format!(in alloc; "{FOLDER}/{spelled}")
 }
 
-/// All names in the folder, in order. A folder that isn't there has none.
+/// The length of the file of this name in bytes, or None where there is no such file. A link stands for the file that it
+/// leads to; a folder or a pipe is no file.
+pub fn length_of<R: Files>(rt: &R, alloc: Global, name: Name) -> io::Result<Option<u64>> {
+    let path = path_of(alloc, name)?;
+    match fs::metadata(rt, path.as_str()) {
+        Ok(metadata) if metadata.is_file() => Ok(Some(metadata.len())),
+        Ok(_) => Ok(None),
+        Err(e) if e.kind() == io::ErrorKind::NotFound => Ok(None),
+        Err(e) => Err(e),
+    }
+}
+
+/// The names of all files of a store in the folder, in order. A folder that isn't there has none.
 pub fn names_in<R: Files + AllocGlobal + Clone + Drop>(
     rt: &R,
     alloc: Global,
@@ -39,8 +42,7 @@ pub fn names_in<R: Files + AllocGlobal + Clone + Drop>(
         Err(e) => return Err(e),
     };
     for entry in entries {
-        let entry = entry?;
-        if let Some(name) = name_of(alloc, entry.file_name())? {
+        if let Some(name) = named(rt, alloc, entry)? {
             names.push(name)?;
         }
     }
@@ -48,38 +50,21 @@ pub fn names_in<R: Files + AllocGlobal + Clone + Drop>(
     Ok(names)
 }
 
-/// The name that a file's name spells, if it is the one spelling of one.
-fn name_of(alloc: Global, text: &str) -> Result<Option<Name>, AllocError> {
-    let Some(name) = parsed(text) else {
+/// The name of the store's file that an entry of the folder is, if it is one.
+fn named<R: Files + Clone + Drop>(
+    rt: &R,
+    alloc: Global,
+    entry: io::Result<fs::DirEntry<R>>,
+) -> io::Result<Option<Name>> {
+    let entry = match entry {
+        Ok(entry) => entry,
+        // A name that is no text is no file's of a store.
+        Err(e) if e.kind() == io::ErrorKind::InvalidFilename => return Ok(None),
+        Err(e) => return Err(e),
+    };
+    let Some(name) = name_of(entry.file_name()) else {
         return Ok(None);
     };
-    let spelling = spelling_of(alloc, name)?;
-    Ok(if spelling.as_str() == text {
-        Some(name)
-    } else {
-        None
-    })
-}
-
-/// The name with this kind and these numbers, in whatever spelling.
-fn parsed(text: &str) -> Option<Name> {
-    let (kind, numbers) = text.split_once('-')?;
-    let (kind, region, number) = match kind {
-        "log" => (NameKind::Log, "0", numbers),
-        "old" => (NameKind::Old, "0", numbers),
-        "store" => placed(NameKind::Store, numbers)?,
-        "edits" => placed(NameKind::Edits, numbers)?,
-        _ => return None,
-    };
-    Some(Name {
-        kind,
-        region: region.parse().ok()?,
-        number: number.parse().ok()?,
-    })
-}
-
-/// The kind with the region and the number of a file that belongs to a region.
-fn placed(kind: NameKind, numbers: &str) -> Option<(NameKind, &str, &str)> {
-    let (region, number) = numbers.split_once('-')?;
-    Some((kind, region, number))
+    let length = length_of(rt, alloc, name)?;
+    Ok(length.map(|_| name))
 }

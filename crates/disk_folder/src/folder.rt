@@ -1,45 +1,90 @@
-//! The files of a store in a folder.
+//! The files of a store in a folder: what each call does, a call or two of the system.
 
-ghost use Rattle.std.specs.Prelude.{◌≡◌, ◌≤◌, ℕ, length, min, false, OnOk, IfOk, IsErr};
+ghost use Rattle.std.specs.Prelude.{◌≡◌, ◌≤◌, length, IfOk};
 ghost use Rattle.disk_images.specs.Calls.{Rose};
 
-use crate::entries::{FOLDER, names_in, path_of};
+use crate::entries::{AROUND, FOLDER, length_of, names_in, path_of};
 use crate::open_files::OpenFiles;
-use disk_images::{Disk, Failed, Name, NameList, NamesError};
-use std::alloc::{AllocError, Global};
-use std::fs::{self, File, OpenFile, OpenOptions};
+use crate::spelling::Spelled;
+use disk_images::{Failed, Name};
+use std::alloc::Global;
+use std::fs::{self, File, OpenOptions, TryLockError};
 use std::io;
 use std::os::unix::fs::FileExt;
 use std::rt::Files;
 
-/// A file ends below this many bytes.
-const LIMIT: u64 = 1 << 63;
+/// What a program does with a store.
+#[derive(Clone, Copy, Debug, PartialEq, Eq)]
+pub enum Access {
+    /// It reads, beside others that read.
+    Reading,
+    /// It reads and writes, and nobody else does either.
+    Writing,
+}
 
 /// The folder `hwal-store` in the working directory, as a disk that tells nothing. A folder that isn't there reads as
-/// empty, and is made with its first file. Each error of the system, and each write that takes nothing, is a fault.
+/// empty, and is made with its first file. Each error of the system, and each write that takes nothing, is a fault, and
+/// is told in one line on standard error.
+///
+/// The first call that finds the folder locks it until the disk is dropped. Where another program's lock stands against
+/// it, that call fails.
 #[derive(Drop)]
 pub struct FolderDisk<'a, R> {
     rt: &'a R,
     alloc: Global,
+    access: Access,
+    // the folder itself, with its lock
+    held: Option<File>,
     open: OpenFiles,
-    // created or renamed, and not pinned by a sync of the folder since
-    unpinned: Vec<Name>,
+    // whether the folder's own name is durable
+    is_placed: bool,
+    // whether the names of the files in the folder are durable, whoever made them
+    is_settled: bool,
     faults: u64,
 }
 
 impl<'a, R> FolderDisk<'a, R> {
-    pub fn new(rt: &'a R, alloc: Global) -> Self {
+    pub fn new(rt: &'a R, alloc: Global, access: Access) -> Self {
         FolderDisk {
             rt,
             alloc,
+            access,
+            held: None,
             open: OpenFiles::new(alloc),
-            unpinned: Vec::new(alloc),
+            is_placed: false,
+            is_settled: false,
             faults: 0,
         }
     }
 
-    /// Counts a fault.
-    fn fail(&mut self) -> Failed
+    #[cfg(test)]
+    pub(crate) fn faults(&self) -> u64 {
+        self.faults
+    }
+}
+
+impl<R: Eprint> FolderDisk<'_, R> {
+    /// Counts a fault, and tells its cause.
+    pub(crate) fn fail(&mut self, call: &str, name: Name, cause: &io::Error) -> Failed
+        ensures rose { Rose self.old.faults self.new.faults }
+        ensures later { self.old.faults ≤ self.new.faults }
+    {
+        let spelled = Spelled(name);
+        // Where standard error takes nothing, nobody is told.
+        let _ = eprintln!(self.rt; "hwal: {call} {spelled}: {cause}");
+        self.count()
+    }
+
+    /// The same for a call on the folder.
+    pub(crate) fn fail_whole(&mut self, call: &str, cause: &io::Error) -> Failed
+        ensures rose { Rose self.old.faults self.new.faults }
+        ensures later { self.old.faults ≤ self.new.faults }
+    {
+        let _ = eprintln!(self.rt; "hwal: {call} {FOLDER}: {cause}");
+        self.count()
+    }
+
+    fn count(&mut self) -> Failed
         ensures rose { Rose self.old.faults self.new.faults }
         ensures later { self.old.faults ≤ self.new.faults }
     {
@@ -48,217 +93,218 @@ impl<'a, R> FolderDisk<'a, R> {
     }
 }
 
-/// What the calls do, each a call or two of the system. Faults are counted by the caller.
+/// What the calls do. Faults are counted by the caller.
 impl<R: Files<File = File> + AllocGlobal + Clone + Drop> FolderDisk<'_, R> {
-    fn open_file(&mut self, name: Name) -> io::Result<()>
+    pub(crate) fn list_files(&mut self) -> io::Result<Vec<Name>>
         ensures faults { self.new.faults ≡ self.old.faults }
     {
-        if self.open.get(name).is_some() {
-            return Ok(());
-        }
-        let path = path_of(self.alloc, name)?;
-        let file = OpenOptions::new()
-            .read(true)
-            .write(true)
-            .open(self.rt, path.as_str())?;
-        self.open.keep(name, file)?;
-        Ok(())
+        self.hold()?;
+        names_in(self.rt, self.alloc)
     }
 
-    fn size_of(&self, name: Name) -> io::Result<Option<u64>> {
-        let path = path_of(self.alloc, name)?;
-        match fs::metadata(self.rt, path.as_str()) {
-            Ok(metadata) => Ok(Some(metadata.len())),
-            Err(e) if e.kind() == io::ErrorKind::NotFound => Ok(None),
-            Err(e) => Err(e),
-        }
+    pub(crate) fn size_of(&mut self, name: Name) -> io::Result<Option<u64>>
+        ensures faults { self.new.faults ≡ self.old.faults }
+    {
+        self.hold()?;
+        length_of(self.rt, self.alloc, name)
     }
 
-    fn read_file(&mut self, name: Name, at: u64, into: &mut [u8]) -> io::Result<usize>
+    pub(crate) fn read_file(&mut self, name: Name, at: u64, into: &mut [u8]) -> io::Result<usize>
         ensures within { IfOk result (λ n. n ≤ length into.old) }
         ensures faults { self.new.faults ≡ self.old.faults }
     {
-        self.open_file(name)?;
-        match self.open.get(name) {
-            Some(file) => read_from(file, at, into),
-            None => Ok(0),
-        }
+        self.hold()?;
+        self.open_file(name, false)?;
+        let file = self.open.latest()?;
+        read_from(file, at, into)
     }
 
-    fn create_file(&mut self, name: Name) -> io::Result<()>
+    pub(crate) fn create_file(&mut self, name: Name) -> io::Result<()>
         ensures faults { self.new.faults ≡ self.old.faults }
     {
-        make_folder(self.rt)?;
-        self.unpinned.reserve(1)?;
+        self.hold_to_write()?;
+        self.make_folder()?;
+        self.place_folder()?;
+        self.is_settled = false;
         let path = path_of(self.alloc, name)?;
         let file = OpenOptions::new()
             .read(true)
             .write(true)
             .create_new(true)
             .open(self.rt, path.as_str())?;
-        self.unpinned.push(name)?;
-        self.open.keep(name, file)?;
+        self.open.keep(name, file, true)?;
         Ok(())
     }
 
-    fn write_file(&mut self, name: Name, at: u64, bytes: &[u8]) -> io::Result<()>
+    pub(crate) fn write_file(&mut self, name: Name, at: u64, bytes: &[u8]) -> io::Result<()>
         ensures faults { self.new.faults ≡ self.old.faults }
     {
-        self.open_file(name)?;
-        match self.open.get(name) {
-            Some(file) => file.write_all_at(bytes, at),
-            None => Ok(()),
-        }
+        self.hold_to_write()?;
+        self.open_file(name, true)?;
+        let file = self.open.latest()?;
+        file.write_all_at(bytes, at)
     }
 
-    /// Pins what the file holds and, where it was created or renamed since the folder's last sync, its name.
-    fn sync_file(&mut self, name: Name) -> io::Result<()>
+    /// Pins what the file holds and, where any name in the folder may not be durable, all names.
+    pub(crate) fn sync_file(&mut self, name: Name) -> io::Result<()>
         ensures faults { self.new.faults ≡ self.old.faults }
     {
-        self.open_file(name)?;
-        if let Some(file) = self.open.get(name) {
-            file.sync_all()?;
+        self.hold_to_write()?;
+        self.open_file(name, false)?;
+        let file = self.open.latest()?;
+        file.sync_all()?;
+        if self.is_settled {
+            return Ok(());
         }
-        if self.unpinned.iter().any(|n| *n == name) {
-            self.sync_folder()?;
-        }
-        Ok(())
+        self.sync_folder()
     }
 
-    fn rename_file(&mut self, from: Name, to: Name) -> io::Result<()>
+    pub(crate) fn rename_file(&mut self, from: Name, to: Name) -> io::Result<()>
         ensures faults { self.new.faults ≡ self.old.faults }
     {
-        self.unpinned.reserve(1)?;
+        self.hold_to_write()?;
         let (old, new) = (path_of(self.alloc, from)?, path_of(self.alloc, to)?);
         self.open.close(from);
-        fs::rename(self.rt, old.as_str(), new.as_str())?;
-        self.unpinned.push(to)?;
-        Ok(())
+        self.is_settled = false;
+        fs::rename(self.rt, old.as_str(), new.as_str())
     }
 
-    fn remove_file(&mut self, name: Name) -> io::Result<()>
+    pub(crate) fn remove_file(&mut self, name: Name) -> io::Result<()>
         ensures faults { self.new.faults ≡ self.old.faults }
     {
+        self.hold_to_write()?;
         let path = path_of(self.alloc, name)?;
         self.open.close(name);
         fs::remove_file(self.rt, path.as_str())
     }
 
-    /// Pins the names of all files. A folder that isn't there has none.
-    fn sync_folder(&mut self) -> io::Result<()>
+    /// Pins the names of all files, and the folder's own. A folder that isn't there has none.
+    pub(crate) fn sync_folder(&mut self) -> io::Result<()>
         ensures faults { self.new.faults ≡ self.old.faults }
     {
-        match File::open(self.rt, FOLDER) {
-            Ok(folder) => folder.sync_all()?,
-            Err(e) if e.kind() == io::ErrorKind::NotFound => {}
-            Err(e) => return Err(e),
+        self.hold_to_write()?;
+        if let Some(folder) = &self.held {
+            folder.sync_all()?;
+            self.place_folder()?;
+            self.is_settled = true;
         }
-        self.unpinned.clear();
         Ok(())
     }
 }
 
-/// Makes the folder where it isn't there, and pins its name.
-fn make_folder<R: Files<File = File>>(rt: &R) -> io::Result<()> {
-    match fs::create_dir(rt, FOLDER) {
-        Ok(()) => {
-            let around = File::open(rt, ".")?;
-            around.sync_all()
+/// What the calls share.
+impl<R: Files<File = File> + AllocGlobal + Clone + Drop> FolderDisk<'_, R> {
+    /// Opens and locks the folder, if it is there and wasn't locked yet.
+    fn hold(&mut self) -> io::Result<()>
+        ensures faults { self.new.faults ≡ self.old.faults }
+    {
+        if self.held.is_some() {
+            return Ok(());
         }
-        Err(e) if e.kind() == io::ErrorKind::AlreadyExists => Ok(()),
-        Err(e) => Err(e),
+        match File::open(self.rt, FOLDER) {
+            Ok(folder) => {
+                lock(&folder, self.access)?;
+                self.held = Some(folder);
+                Ok(())
+            }
+            Err(e) if e.kind() == io::ErrorKind::NotFound => Ok(()),
+            Err(e) => Err(e),
+        }
+    }
+
+    /// The same in front of a call that changes something.
+    fn hold_to_write(&mut self) -> io::Result<()>
+        ensures faults { self.new.faults ≡ self.old.faults }
+    {
+        if self.access == Access::Reading {
+            let why = "the store is open for reading";
+            return Err(io::Error::new(io::ErrorKind::PermissionDenied, why));
+        }
+        self.hold()
+    }
+
+    /// Makes the folder where it wasn't there. No other program has begun the store since.
+    fn make_folder(&mut self) -> io::Result<()>
+        ensures faults { self.new.faults ≡ self.old.faults }
+    {
+        if self.held.is_some() {
+            return Ok(());
+        }
+        fs::create_dir(self.rt, FOLDER)?;
+        self.hold()?;
+        let names = names_in(self.rt, self.alloc)?;
+        if names.is_empty() {
+            Ok(())
+        } else {
+            Err(in_use())
+        }
+    }
+
+    /// Pins the folder's own name, whoever made it.
+    fn place_folder(&mut self) -> io::Result<()>
+        ensures faults { self.new.faults ≡ self.old.faults }
+    {
+        if !self.is_placed {
+            let around = File::open(self.rt, AROUND)?;
+            around.sync_all()?;
+            self.is_placed = true;
+        }
+        Ok(())
+    }
+
+    /// Opens the file of this name, for writing where that is asked for. It is the one used last then.
+    fn open_file(&mut self, name: Name, for_writing: bool) -> io::Result<()>
+        ensures faults { self.new.faults ≡ self.old.faults }
+    {
+        if self.open.find(name, for_writing) {
+            return Ok(());
+        }
+        let path = path_of(self.alloc, name)?;
+        let file = OpenOptions::new()
+            .read(true)
+            .write(for_writing)
+            .open(self.rt, path.as_str())?;
+        self.open.keep(name, file, for_writing)?;
+        Ok(())
     }
 }
 
-/// Reads from this offset on until the slice is full or the file ends.
+/// Locks the folder, without waiting: for reading beside others that read, for writing alone.
+fn lock(folder: &File, access: Access) -> io::Result<()> {
+    let locked = match access {
+        Access::Reading => folder.try_lock_shared(),
+        Access::Writing => folder.try_lock(),
+    };
+    match locked {
+        Ok(()) => Ok(()),
+        Err(TryLockError::WouldBlock) => Err(in_use()),
+        Err(TryLockError::Error(e)) => Err(e),
+    }
+}
+
+fn in_use() -> io::Error {
+    io::Error::new(
+        io::ErrorKind::ResourceBusy,
+        "another program uses the store",
+    )
+}
+
+/// Reads from this offset on until the slice is full or the file ends, and again where a signal came between.
 fn read_from(file: &File, at: u64, into: &mut [u8]) -> io::Result<usize>
     ensures within { IfOk result (λ n. n ≤ length into.old) }
 {
     let mut filled = 0;
-    while filled < into.len() {
+    for _ in 0..u64::MAX {
+        if filled >= into.len() {
+            return Ok(filled);
+        }
         let place = at.saturating_add(filled as u64);
-        let n = file.read_at(&mut into[filled..], place)?;
-        if n == 0 {
-            break;
+        match file.read_at(&mut into[filled..], place) {
+            Ok(0) => return Ok(filled),
+            Ok(n) => filled += n,
+            Err(e) if e.kind() == io::ErrorKind::Interrupted => {}
+            Err(e) => return Err(e),
         }
-        filled += n;
     }
-    Ok(filled)
-}
-
-impl<R: Files<File = File> + AllocGlobal + Clone + Drop> Disk for FolderDisk<'_, R> {
-    ghost use Rattle.disk_folder.specs.Untold.{no_view, untold};
-
-    ghost told = { false };
-
-    ghost view = { λ _. no_view };
-
-    ghost faults = { λ disk. disk.faults };
-
-    ghost is_true = { λ _ told. untold told };
-
-    fn names(&mut self, alloc: Global) -> Result<NameList, NamesError> {
-        let Ok(names) = names_in(self.rt, alloc) else {
-            let _ = self.fail();
-            return Err(NamesError::Failed);
-        };
-        Ok(NameList::of(names))
-    }
-
-    fn size(&mut self, name: Name) -> Result<Option<u64>, Failed> {
-        let Ok(size) = self.size_of(name) else {
-            return Err(self.fail());
-        };
-        Ok(size)
-    }
-
-    fn read(&mut self, name: Name, at: u64, into: &mut [u8]) -> Result<usize, Failed> {
-        let Ok(n) = self.read_file(name, at, into) else {
-            return Err(self.fail());
-        };
-        Ok(n)
-    }
-
-    fn create(&mut self, name: Name) -> Result<(), Failed> {
-        if self.create_file(name).is_err() {
-            return Err(self.fail());
-        }
-        Ok(())
-    }
-
-    fn write_at(&mut self, name: Name, at: u64, bytes: &[u8]) -> Result<(), Failed> {
-        let fits = at < LIMIT && (bytes.len() as u64) < LIMIT - at;
-        if !fits || self.write_file(name, at, bytes).is_err() {
-            return Err(self.fail());
-        }
-        Ok(())
-    }
-
-    fn sync(&mut self, name: Name) -> Result<(), Failed> {
-        if self.sync_file(name).is_err() {
-            return Err(self.fail());
-        }
-        Ok(())
-    }
-
-    fn rename(&mut self, from: Name, to: Name) -> Result<(), Failed> {
-        if self.rename_file(from, to).is_err() {
-            return Err(self.fail());
-        }
-        Ok(())
-    }
-
-    fn remove(&mut self, name: Name) -> Result<(), Failed> {
-        if self.remove_file(name).is_err() {
-            return Err(self.fail());
-        }
-        Ok(())
-    }
-
-    fn settle(&mut self) -> Result<(), Failed> {
-        if self.sync_folder().is_err() {
-            return Err(self.fail());
-        }
-        Ok(())
-    }
+    Err(io::Error::from(io::ErrorKind::Interrupted))
 }

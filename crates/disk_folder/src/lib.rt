@@ -6,10 +6,20 @@
 //! folder's own sync.
 #![tactic(auto)]
 
+mod disk;
 mod entries;
 mod folder;
+mod laws;
 mod open_files;
+mod spelling;
 mod streams;
 
-pub use folder::FolderDisk;
+pub use folder::{Access, FolderDisk};
+pub use laws::one_name;
+pub use spelling::{Spelled, name_of};
 pub use streams::{ReaderSource, WriterSink};
+
+#[cfg(test)]
+mod folder_tests;
+#[cfg(test)]
+mod stream_tests;

@@ -3,6 +3,7 @@
 use disk_images::Name;
 use std::alloc::{AllocError, Global};
 use std::fs::File;
+use std::io;
 
 /// How many files stay open at the most: a log, and those that a flush or an opening works on.
 const MOST: usize = 16;
@@ -11,6 +12,7 @@ const MOST: usize = 16;
 struct OpenFile {
     name: Name,
     file: File,
+    is_writable: bool,
 }
 
 /// The files that are open, the one used last at the end.
@@ -26,19 +28,38 @@ impl OpenFiles {
         }
     }
 
-    /// The open file of this name.
-    pub fn get(&self, name: Name) -> Option<&File> {
-        let open = self.files.iter().find(|open| open.name == name)?;
-        Some(&open.file)
+    /// Whether the file of this name is open, for writing where that is asked for. It is the one used last then.
+    pub fn find(&mut self, name: Name, for_writing: bool) -> bool {
+        let found = self.files.iter().position(|open| open.name == name
+            && (open.is_writable || !for_writing));
+        let Some(at) = found else {
+            return false;
+        };
+        self.files[at..].rotate_left(1);
+        true
     }
 
-    /// Keeps a file open, and closes the one that has been open longest where there are too many.
-    pub fn keep(&mut self, name: Name, file: File) -> Result<(), AllocError> {
+    /// The file that was used last.
+    pub fn latest(&self) -> io::Result<&File> {
+        match self.files.last() {
+            Some(open) => Ok(&open.file),
+            None => Err(io::Error::from(io::ErrorKind::NotFound)),
+        }
+    }
+
+    /// Keeps a file open in place of an older handle, and closes the one that wasn't used for longest where there are too
+    /// many.
+    pub fn keep(&mut self, name: Name, file: File, is_writable: bool) -> Result<(), AllocError> {
+        self.close(name);
         if self.files.len() >= MOST {
             let oldest = self.files.remove(0);
             drop(oldest);
         }
-        self.files.push(OpenFile { name, file })?;
+        self.files.push(OpenFile {
+            name,
+            file,
+            is_writable,
+        })?;
         Ok(())
     }
 

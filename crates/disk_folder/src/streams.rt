@@ -1,10 +1,10 @@
 //! Standard input and output. What they give and take is not known to any proof.
 
-ghost use Rattle.std.specs.Prelude.{◌≤◌, [], false};
+ghost use Rattle.std.specs.Prelude.{◌≤◌, [], false, length, IfOk};
 ghost use Rattle.disk_images.specs.Calls.{Rose};
 
 use disk_images::{Failed, Sink, Source};
-use std::io::{Read, Write};
+use std::io::{self, ErrorKind, Read, Write};
 
 /// A source of what a reader gives.
 #[derive(Drop)]
@@ -27,7 +27,7 @@ impl<R: Read> Source for ReaderSource<R> {
     ghost faults = { λ source. source.faults };
 
     fn read(&mut self, into: &mut [u8]) -> Result<usize, Failed> {
-        match self.reader.read(into) {
+        match read_some(&mut self.reader, into) {
             Ok(n) => Ok(n),
             Err(_) => {
                 self.faults = self.faults.saturating_add(1);
@@ -58,7 +58,7 @@ impl<W: Write> Sink for WriterSink<W> {
     ghost faults = { λ sink. sink.faults };
 
     fn write(&mut self, bytes: &[u8]) -> Result<usize, Failed> {
-        match self.writer.write(bytes) {
+        match write_some(&mut self.writer, bytes) {
             Ok(n) if n > 0 || bytes.is_empty() => Ok(n),
             _ => {
                 self.faults = self.faults.saturating_add(1);
@@ -66,4 +66,30 @@ impl<W: Write> Sink for WriterSink<W> {
             }
         }
     }
+}
+
+/// Reads, and again where a signal came between.
+fn read_some<R: Read>(reader: &mut R, into: &mut [u8]) -> io::Result<usize>
+    ensures within { IfOk result (λ n. n ≤ length into.old) }
+{
+    for _ in 0..u64::MAX {
+        match reader.read(into) {
+            Err(e) if e.kind() == ErrorKind::Interrupted => {}
+            answer => return answer,
+        }
+    }
+    Err(io::Error::from(ErrorKind::Interrupted))
+}
+
+/// Writes, and again where a signal came between.
+fn write_some<W: Write>(writer: &mut W, bytes: &[u8]) -> io::Result<usize>
+    ensures within { IfOk result (λ n. n ≤ length bytes.now) }
+{
+    for _ in 0..u64::MAX {
+        match writer.write(bytes) {
+            Err(e) if e.kind() == ErrorKind::Interrupted => {}
+            answer => return answer,
+        }
+    }
+    Err(io::Error::from(ErrorKind::Interrupted))
 }

@@ -1,8 +1,5 @@
-use Rattle.std.proofs.Common.{◌≤◌, ◌-◌, length}
+use Rattle.std.proofs.Common.{◌≤◌, length}
 use Rattle.disk_folder.proofs.folder.read_from.Given as goal
 
-abbrev pub invariant-loop-filled : goal.invariant-loop-filled
-invariant-loop-filled l = l.filled ≤ length l.into
-
-abbrev pub decreases-loop-filled : goal.decreases-loop-filled
-decreases-loop-filled l = length l.into - l.filled
+abbrev pub invariant-loop : goal.invariant-loop
+invariant-loop l = l.filled ≤ length l.into
