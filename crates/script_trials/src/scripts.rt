@@ -1,5 +1,5 @@
-use super::*;
 use kv_cell::Cell;
+use script_text::*;
 use std::alloc::Global;
 use std::process::Abort;
 use std::test::*;

@@ -1,5 +1,5 @@
-use super::*;
-use crate::tests::{HEAD, LOG, LOG_PUT, fault};
+use crate::scripts::{HEAD, LOG, LOG_PUT, fault};
+use script_text::*;
 use std::alloc::Global;
 use std::test::*;
 

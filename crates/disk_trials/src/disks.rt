@@ -2,7 +2,7 @@ ghost use Rattle.std.specs.Prelude.{◌<◌, ℕ, List, length, IsTrue};
 ghost use Rattle.log_model.specs.Files.{IsName};
 ghost use Rattle.disk_fakes.specs.Views.{view_of};
 
-use crate::{
+use disk_fakes::{
     CallKind, Fail, MemDisk, MemSink, MemSource, SafeDisk, SafeSink, SafeSource, WatchDisk,
 };
 use disk_images::{Disk, Failed, Name, NameKind, Sink, Source, create_durably};

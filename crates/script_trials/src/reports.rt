@@ -1,6 +1,6 @@
-use super::*;
 use kv_cell::{Cell, NumberedCells};
 use log_model::{Name, NameKind};
+use report_text::*;
 use script_model::{CellField, ScriptWhy};
 use std::alloc::Global;
 use std::test::*;

@@ -4,7 +4,7 @@ ghost use Rattle.std.specs.Prelude.{◌<◌, length, OnOk};
 ghost use Rattle.log_model.specs.Files.{IsName};
 ghost use Rattle.disk_fakes.specs.Views.{view_of};
 
-use crate::MemDisk;
+use disk_fakes::MemDisk;
 use disk_images::{Disk, Failed, Name, NameKind};
 use std::alloc::Global;
 

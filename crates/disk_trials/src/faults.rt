@@ -1,7 +1,7 @@
 // Each call of a run fails in turn. What is read then, and what a crash at each moment leaves, is what the rules allow.
 
-use crate::test_run::{A, B, C, make_calls};
-use crate::{CallKind, Fail, MemDisk};
+use crate::calls::{A, B, C, make_calls};
+use disk_fakes::{CallKind, Fail, MemDisk};
 use std::alloc::Global;
 use std::process::Abort;
 use std::test::Fail as TestFail;
