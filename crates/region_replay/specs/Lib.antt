@@ -5,3 +5,4 @@ pub mod Ready
 pub mod Regions
 pub mod Names
 pub mod Whole
+pub mod Opened
