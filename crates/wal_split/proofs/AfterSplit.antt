@@ -1,5 +1,5 @@
 -- What a split leaves, told from its plan.
-use Rattle.std.proofs.Common.{◌≡◌, ◌≢◌, ◌⊎◌, inl, inr, ℕ, ◌+◌, ◌-◌, ◌<◌, ◌≤◌, ◌^◌, List, [], ◌∷◌, length, get_or, Contains, Some, None, refl, sym, ap, ◌∙◌, subst, arith}
+use Rattle.std.proofs.Common.{◌≡◌, ◌≢◌, ◌⊎◌, inl, inr, ℕ, ◌+◌, ◌-◌, ◌<◌, ◌≤◌, List, [], ◌∷◌, get_or, Contains, Some, None, refl, sym, ap, ◌∙◌, subst, arith}
 use Rattle.std.specs.Prelude.{AllPairs}
 use Rattle.std.specs.FinMap.{keys}
 use Rattle.std.specs.declared.cmp.Ordering.TheVariants.{Less}
@@ -12,7 +12,7 @@ use Rattle.log_model.specs.declared.name.NameKind.TheVariants as kinds
 use Rattle.log_model.specs.Entry.{Entry}
 use Rattle.log_model.specs.StoreText.{Store, IsStoreText}
 use Rattle.log_model.specs.Files.{Files, content, name_cmp, IsPresent, IsLogFile, IsLogged, IsStoreFile}
-use Rattle.log_model.specs.Recovered.{FlushesTo, is_of, entries_of}
+use Rattle.log_model.specs.Recovered.{FlushesTo, is_of}
 use Rattle.disk_images.specs.Crash.{DiskView}
 use Rattle.disk_images.specs.Calls.{IsTrueDisk}
 use Rattle.disk_images.specs.Settled.{IsSettled}
@@ -34,7 +34,7 @@ use Rattle.wal_split.specs.Jobs.{IsNoJob}
 use Rattle.wal_split.specs.Logs.{IsOther, log_name}
 use Rattle.wal_split.specs.Planned.{IsPlan}
 use Rattle.wal_split.specs.Left.{IsInRange, AreLeft, AtMostOneHigher, job_at}
-use Rattle.wal_split.proofs.Plans.{name_at, number_of, valid_entry, small, is_some_there, log_there, some_job, is_above, no_log_left, small_left, stores_left}
+use Rattle.wal_split.proofs.Plans.{name_at, number_of, valid_entry, is_some_there, log_there, some_job, is_above, no_log_left, small_left, stores_left}
 use Rattle.wal_split.proofs.Turning.{edits_other}
 use Rattle.wal_split.proofs.Writing.{list_cases}
 
@@ -48,7 +48,7 @@ in_range told files x xs read plan = record {
   pending = λ k d e lt has. (let r = plan.jobs.each k d e lt has in let f = plan.parts.from_logs e r.0 in (r.1, r.2, f.4));
   kept = λ e has. (let f = plan.parts.from_edits e has in f.4);
   flushed = plan.are_flushed;
-  stores = λ y has. (read.each y has).0;
+  stores = λ y has. (let r = read.each y has in (r.0, subst (λ (n : Name). Contains x.names n) (sym r.1.2) r.1.1, ap (λ (n : Name). n.kind) r.1.2 ∙ r.1.3));
   good = read.good;
 }
 
@@ -124,12 +124,12 @@ module _ (told : Type 0) (is_told : told) (v : DiskView) (true_disk : IsTrueDisk
       elim f.1.kind as (λ _. (m : Name) × (l : List Entry) × (m.kind ≡ kinds.Edits) × IsLogFile w.files m l × Contains l e) [
         | inl log ↦ absurd (r.3 log)
         | inr edits ↦ (
-            r.0.name,
-            f.0,
-            edits,
-            log_now r.0.name f.0 (among_names v.files r.0.name (is_some_there told is_told v true_disk settled xs x.stores.items x.plan read plan r.0.name f.1.bytes f.1.there)) edits f.1,
-            subst (λ (d : Entry). Contains f.0 d) r.2 f.2,
-          )
+          r.0.name,
+          f.0,
+          edits,
+          log_now r.0.name f.0 (among_names v.files r.0.name (is_some_there told is_told v true_disk settled xs x.stores.items x.plan read plan r.0.name f.1.bytes f.1.there)) edits f.1,
+          subst (λ (d : Entry). Contains f.0 d) r.2 f.2,
+        )
       ]
 
   -- an edits file that is new is one of those with entries
@@ -162,9 +162,13 @@ module _ (told : Type 0) (is_told : told) (v : DiskView) (true_disk : IsTrueDisk
                 let at : has.0 ≡ k = omega (arith, a.0, region) in
                 let here_job : get_or jobs k job ≡ j = get_or_default jobs k job j (omega (arith, lt, long)) ∙ ap (λ (i : ℕ). get_or jobs i j) (sym at) ∙ has.2 in
                 some (ap (λ (y : EditsJob). y.entries.items) (sym here_job) ∙ empty))))
-            | inr some ↦ (k, lt, λ d. (
-                let same : get_or jobs k job ≡ get_or jobs k d = get_or_default jobs k job d (omega (arith, lt, long)) in
-                (is ∙ sym (plan.jobs.names k d lt), λ empty. some (ap (λ (y : EditsJob). y.entries.items) same ∙ empty))))
+            | inr some ↦ (
+              k,
+              lt,
+              λ d. (
+                  let same : get_or jobs k job ≡ get_or jobs k d = get_or_default jobs k job d (omega (arith, lt, long)) in
+                  (is ∙ sym (plan.jobs.names k d lt), λ empty. some (ap (λ (y : EditsJob). y.entries.items) same ∙ empty))),
+            )
           ]
 
       go : (m.number ≡ plan.number) ⊎ (m.number ≢ plan.number) → (m.region ≡ 0) ⊎ (m.region ≢ 0) → (64 < m.region) ⊎ (m.region ≤ 64) → Job

@@ -1,5 +1,5 @@
 -- What a plan gives the steps that change files.
-use Rattle.std.proofs.Common.{◌≡◌, ◌≢◌, ◌⊎◌, inl, inr, ℕ, ◌+◌, ◌<◌, ◌≤◌, ◌^◌, List, [], ◌∷◌, length, take, get_or, Contains, Some, None, is_some, refl, sym, ap, ◌∙◌, subst, arith}
+use Rattle.std.proofs.Common.{◌≡◌, ◌⊎◌, inl, inr, ℕ, ◌+◌, ◌<◌, ◌≤◌, ◌^◌, List, [], ◌∷◌, length, take, get_or, Contains, Some, None, is_some, refl, sym, ap, ◌∙◌, subst, arith}
 use Rattle.std.specs.FinMap.{keys}
 use Rattle.std.proofs.lemmas.Bool.{cases_lt}
 use Rattle.std.proofs.lemmas.List.{get_or-take, length-take}
@@ -202,7 +202,6 @@ module _ (told : Type 0) (is_told : told) (v : DiskView) (true_disk : IsTrueDisk
       apart_by : (d e : Entry) → IsBefore d e → d ≡ e → ⊥
       apart_by d e (inl less) same = omega (arith, less, ap (λ (x : Entry). x.region) same)
       apart_by d e (inr (region, less)) same = omega (arith, less, ap (λ (x : Entry). x.number) same)
-
 
   module _ (w : DiskView) (others : (m : Name) → IsNoJob p.jobs.items m → IsOther p.logs.items m → content w.files m ≡ content v.files m)
       (gone : (n : ℕ) → Contains p.logs.items n → IsAbsent w.files (log_name n)) where

@@ -32,7 +32,7 @@ pub record IsInRange (x : SplitFiles) : Type 0 where
   pub pending : (k : ℕ) (d : EditsJob) (e : Entry) → k < 64 → Contains (job_at x k d).entries.items e → (e.region ≡ k + 1) × IsEntry e × IsAbove x.plan.flushed.items e
   pub kept : (e : Entry) → Contains x.plan.kept.items e → IsAbove x.plan.flushed.items e
   pub flushed : AreFlushed x.stores.items x.plan.flushed.items
-  pub stores : (y : FoundStore) → Contains x.stores.items y → IsStore (store_of y)
+  pub stores : (y : FoundStore) → Contains x.stores.items y → IsStore (store_of y) × Contains x.names y.name × (y.name.kind ≡ kinds.Store)
   pub good : (m : Name) → Contains x.names m → ¬ IsBadAmong x.names m
 
 -- What stands in the files: these stores, and in edits files exactly these entries beside such as are flushed. There is no
