@@ -5,3 +5,5 @@ pub mod Ready
 pub mod Regions
 pub mod Names
 pub mod Whole
+pub mod Opened
+pub mod Dealt

@@ -1,5 +1,7 @@
 //! What an opening finds of a region, and what it makes of it.
 
+ghost use Rattle.std.specs.Prelude.{◌≡◌};
+
 use disk_images::Name;
 use entry_frame::Entry;
 use kv_cell::NumberedCells;
@@ -13,7 +15,7 @@ pub struct RegionFiles {
     pub region: u32,
     /// The cells of its store files, in the order of the files' numbers.
     pub stored: NumberedCells,
-    /// The entries above the flushed sequence id, each once, in the order of their sequence ids.
+    /// The entries above the flushed sequence id, each once.
     pub unflushed: Vec<Entry>,
     /// The last flushed sequence id, 0 where there is no store file.
     pub flushed: u64,
@@ -44,4 +46,44 @@ impl Model for Replayed {
     ghost view = { λ x. record { base = x.base; flushed = x.flushed; next_store = x.next_store } };
 
     ghost invariant = { λ x. IsWithin (record { base = x.base; flushed = x.flushed; next_store = x.next_store }) };
+}
+
+/// The regions 1 to 64 in order, as they were recovered.
+#[derive(Drop)]
+pub struct Recovered {
+    regions: Vec<Replayed>,
+}
+
+impl Model for Recovered {
+    ghost use Rattle.std.specs.Prelude.{List};
+    ghost use Rattle.std.specs.Coded.{coded_list};
+    ghost use Rattle.region_replay.specs.Ready.{Found, coded_found};
+
+    ghost Value = { List Found };
+
+    ghost coded = { coded_list coded_found };
+
+    ghost view = { λ x. x.regions.items };
+}
+
+impl Recovered {
+    /// These regions as the whole.
+    pub(crate) fn of(regions: Vec<Replayed>) -> Recovered
+        ensures { result ≡ regions.items }
+    {
+        Recovered { regions }
+    }
+
+    /// The regions in order.
+    pub fn into_regions(self) -> Vec<Replayed>
+        ensures { result.items ≡ self }
+    {
+        self.regions
+    }
+
+    pub fn as_slice(&self) -> &[Replayed]
+        ensures { result.now ≡ self.now }
+    {
+        &self.regions
+    }
 }

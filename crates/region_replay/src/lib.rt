@@ -3,9 +3,12 @@
 #![tactic(auto)]
 
 mod clearing;
+mod dealing;
 mod found;
 mod gathering;
+mod grouping;
 mod laws;
+mod recovering;
 mod region;
 mod regions;
 mod removing;
@@ -14,8 +17,9 @@ mod storing;
 mod whole;
 
 pub use clearing::clear;
-pub use found::{RegionFiles, Replayed};
+pub use found::{Recovered, RegionFiles, Replayed};
 pub use laws::one_sort_gives_the_base;
+pub use recovering::recover_all;
 pub use region::replay_region;
 pub use regions::replay_regions;
 pub use removing::remove_all;

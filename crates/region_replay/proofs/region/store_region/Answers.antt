@@ -17,6 +17,9 @@ returns-in_err-cut-clause-any_moment g c told base held found = none_written bas
 pub returns-in_err-base-clause-any_moment : goal.returns-in_err-base-clause-any_moment
 returns-in_err-base-clause-any_moment g c told base held found = none_written base (g.D.Disk.view c.args.disk.now) held
 
+pub last_number-to-requires : goal.last_number-to-requires
+last_number-to-requires g c e has = c.requires.order.above e (subst (λ (es : List Entry). Contains es e) c.deref.ensures.value has)
+
 pub replay_found-requires-clause-range : goal.replay_found-requires-clause-range
 replay_found-requires-clause-range g c =
     let x = c.args.found in

@@ -6,7 +6,8 @@ use Rattle.disk_images.proofs.Moments.{joined, weaker}
 use Rattle.recovery.specs.Alike.{AllAlike}
 use Rattle.found_files.proofs.Sound.{of_same_files}
 use Rattle.wal_split.specs.Moments.{WasOrAlike}
-use Rattle.wal_split.proofs.whole.split.Goals as goal
+use Rattle.wal_split.specs.Left.{AtMostOneHigher}
+use Rattle.wal_split.proofs.whole.split_read.Goals as goal
 
 pub split_files-requires-clause-read : goal.split_files-requires-clause-read
 split_files-requires-clause-read g c =
@@ -30,3 +31,8 @@ pub returns-in-Ok-clause-alike : goal.returns-in-Ok-clause-alike
 returns-in-Ok-clause-alike g c told =
     let w = g.D.Disk.view c.split_files.new.disk in
     on_ok_weaker c.split_files.result (λ alike. subst (λ (f : Files). AllAlike f w.files) (c.find_files.ensures.watches told).1.files alike) (c.split_files.ensures.alike told)
+
+pub returns-in-Ok-clause-names : goal.returns-in-Ok-clause-names
+returns-in-Ok-clause-names g c told =
+    let w = g.D.Disk.view c.split_files.new.disk in
+    on_ok_weaker c.split_files.result (λ higher. subst (λ (f : Files). AtMostOneHigher f w.files) (c.find_files.ensures.watches told).1.files higher) (c.split_files.ensures.names told)
