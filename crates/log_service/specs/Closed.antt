@@ -59,3 +59,12 @@ pub record Pushed (found : Files) (passes : List (Option (RingPass Item))) (r : 
   pub region : pass.region ≡ r
   pub content : IsContent (IsRecovered found r) c
   pub entries : HasPushedEntries pass pushed
+
+-- What the files hold besides. Each image is sound where the files found were, with numbers that leave room for those given since, and each
+-- region above these recovers as it did. Where the log isn't broken, no log but the last one is wholly flushed.
+pub record LeavesFiles (found : Files) (disk : DiskView) (broken : Bool) (regions : ℕ) : Type 0 where
+  pub sound : (J : Files) → IsImageNow disk J → IsSound found → ((m : Name) → IsPresent found m → m.number ≤ 2 ^ 61 + 1) → IsSound J
+  pub others : (J : Files) (r : ℕ) → IsImageNow disk J → regions < r → RecoversAlike found J r
+  pub archived : broken ≡ false → (name : Name) (entries : List Entry) → IsLogFile disk.files name entries → name.kind ≡ kinds.Log
+      → (IsLastLog disk.files name → ⊥)
+      → (e : Entry) × Contains entries e × ((n : ℕ) → IsFlushed disk.files e.region n → n < e.number)

@@ -7,6 +7,7 @@ ghost use Rattle.recovery.specs.Kept.{IsOrderly};
 ghost use Rattle.log_file.specs.Open.{OpenLog};
 ghost use Rattle.log_trucks.specs.Held.{AreHeld};
 ghost use Rattle.log_ledger.specs.History.{History, committed_in};
+ghost use Rattle.log_device.specs.Bears.{Bears};
 ghost use Rattle.log_device.specs.Leaves.{Leaves};
 ghost use Rattle.log_device.specs.Whole.{IsWhole, IsBroken, IsIdle, disk_of, log_of, books_of};
 ghost use Rattle.log_service.specs.Trucks.{AreSpelled, FollowOn, size_of, come_to};
@@ -27,7 +28,7 @@ fn stage_all<D: Disk>(device: &mut Device<D>, chain: Chain)
 
     ensures whole { IsTrue D.told → (h : History) (es : List Entry) → IsWhole device.old (D.view (disk_of device.old)) h → AreHeld chain es → IsWhole device.new (D.view (disk_of device.new)) (all_staged_in h es) }
     ensures disk { disk_of device.new ≡ disk_of device.old }
-    ensures file { (file : OpenLog) → log_of device.old ≡ Some file → (now : OpenLog) × (log_of device.new ≡ Some now) × (now.staged ≡ file.staged + length chain) }
+    ensures file { (file : OpenLog) → log_of device.old ≡ Some file → (now : OpenLog) × (log_of device.new ≡ Some now) × (now.staged ≡ file.staged + length chain) × (now.name ≡ file.name) }
     ensures drawn { (r : ℕ) → drawn_in (books_of device.new) r ≡ come_to (drawn_in (books_of device.old)) chain r }
     ensures same { SameTold (books_of device.old) (books_of device.new) }
 {
@@ -52,6 +53,7 @@ pub(crate) fn commit_load<D: Disk>(device: &mut Device<D>, load: Load) -> Result
 
     // At each moment each image recovers to the files as they read with a beginning of the load's entries, and none or all of it is committed.
     ensures any_moment { IsTrue D.told → (h : History) (es : List Entry) → IsWhole device.old (D.view (disk_of device.old)) h → h.kept.staged ≡ [] → AreHeld load es → Throughout (Leaves (books_of device.old).stored (books_of device.old).closed (D.view (disk_of device.old)).files es) 4 (D.view (disk_of device.old)) (D.view (disk_of device.new)) }
+    ensures names { IsTrue D.told → (h : History) (es : List Entry) (file : OpenLog) → IsWhole device.old (D.view (disk_of device.old)) h → AreHeld load es → log_of device.old ≡ Some file → Throughout (Bears h.kept.base (books_of device.old).next_store file.name.number) 4 (D.view (disk_of device.old)) (D.view (disk_of device.new)) }
     ensures committed { IsTrue D.told → (h : History) (es : List Entry) → IsWhole device.old (D.view (disk_of device.old)) h → h.kept.staged ≡ [] → AreHeld load es → OnOk result (IsWhole device.new (D.view (disk_of device.new)) (committed_in (all_staged_in h es))) }
     ensures orderly { IsTrue D.told → (h : History) (es : List Entry) → IsWhole device.old (D.view (disk_of device.old)) h → AreHeld load es → IsOrderly (all_staged_in h es).kept }
     ensures count { IfOk result (λ n. n ≡ length load) }

@@ -21,7 +21,7 @@ loop-truck-init g c = record {
   room = c.requires.room;
   whole = λ told h es whole held. ([], es, refl, held, subst (IsWhole c.args.device.now (g.D.Disk.view (disk_of c.args.device.now))) (sym (staged_none h)) whole);
   disk = refl;
-  file = λ file is. (file, is, refl);
+  file = λ file is. (file, is, refl, refl);
   drawn = λ r. refl;
   same = record { synced = refl; stored = refl; closed = refl; next_store = refl };
 }
@@ -73,7 +73,7 @@ loop-truck-preserved g c =
           let w = was.file file is in
           let s = ok.file w.0 w.1 in
           let len = ap length here in
-          (s.now, s.is, omega (arith, s.staged, w.2, len));
+          (s.now, s.is, omega (arith, s.staged, w.2, len), s.name ∙ w.3);
       drawn = λ r. come_same (drawn_in (books_of new)) (onward (drawn_in (books_of old)) lone) drawn next r ∙ (ap (λ (l : List Held). come_to (drawn_in (books_of old)) l r) (sym here) ∙ was.drawn r);
       same = record { synced = ok.synced ∙ was.same.synced; stored = ok.stored ∙ was.same.stored; closed = ok.closed ∙ was.same.closed; next_store = ok.served ∙ was.same.next_store };
     }
