@@ -1,5 +1,5 @@
 -- One load more is committed, or the device fails over it.
-use Rattle.std.proofs.Common.{◌≡◌, ◌≢◌, inl, inr, ℕ, zero, suc, ◌+◌, ◌-◌, ◌^◌, ◌<◌, ◌≤◌, ◌==◌, Bool, true, false, min, List, [], ◌∷◌, ◌++◌, length, take, get_or, Option, Some, None, refl, sym, ap, ◌∙◌, subst, arith, append_assoc, length-append, le_refl}
+use Rattle.std.proofs.Common.{◌≡◌, inl, inr, ℕ, zero, suc, ◌+◌, ◌-◌, ◌<◌, ◌≤◌, ◌==◌, Bool, true, false, List, [], ◌∷◌, ◌++◌, length, take, get_or, refl, sym, ap, ◌∙◌, subst, arith, length-append, le_refl}
 use Rattle.std.specs.Prelude.{if◌then◌else◌, OnOk, OnErr, IsErr, Result, Ok, Err}
 use Rattle.std.proofs.Math.Logic.{∥∥₁_map₂}
 use Rattle.std.proofs.lemmas.List.{take_all}
@@ -8,29 +8,29 @@ use Rattle.std.proofs.lemmas.Bool.Decides.{nat_tests}
 use Rattle.log_berth.specs.Words.{NoMore}
 use Rattle.log_service.specs.Numbers.{told_numbers}
 use Rattle.log_service.proofs.Numbers.{told_synced, told_stored, told_closed, told_past}
-use Rattle.log_model.specs.Entry.{Entry, IsEntry, entry_frame}
+use Rattle.log_model.specs.Entry.{Entry}
 use Rattle.log_model.specs.Files.{Files}
 use Rattle.recovery.specs.Change.{RecoversSome}
-use Rattle.recovery.specs.Kept.{Kept, IsLike, IsOrderly, lasts}
+use Rattle.recovery.specs.Kept.{IsLike, IsOrderly}
 use Rattle.recovery.proofs.Likes.{like_recovers}
 use Rattle.recovery.proofs.Lasts.{like_lasts}
 use Rattle.recovery.proofs.Longer.{longer, from_base}
-use Rattle.disk_images.specs.Crash.{DiskView, IsImageNow, Throughout, Since}
-use Rattle.disk_images.specs.Calls.{IsTrueDisk, Rose, HasCause}
+use Rattle.disk_images.specs.Crash.{DiskView, Throughout, Since}
+use Rattle.disk_images.specs.Calls.{IsTrueDisk, Rose}
 use Rattle.disk_images.proofs.Moments.{since_on, since_weaker, weaker, at_end}
 use Rattle.append_ring.specs.Rules.{base_of, of}
-use Rattle.log_trucks.specs.Held.{Held, IsHeld, AreHeld}
+use Rattle.log_trucks.specs.Held.{Held, AreHeld}
 use Rattle.log_ledger.specs.History.{History, committed_in}
 use Rattle.log_ledger.specs.Books.{Books, IsServed}
 use Rattle.log_device.specs.declared.device.Device.{Device}
 use Rattle.log_device.specs.Bears.{Bears}
 use Rattle.log_device.specs.Leaves.{Leaves}
 use Rattle.log_device.specs.Whole.{IsWhole, NoneFell, books_of}
-use Rattle.log_service.specs.Trucks.{IsSpelled, AreSpelled, FollowOn, FollowFrom, onward, come_to}
+use Rattle.log_service.specs.Trucks.{AreSpelled, FollowOn, FollowFrom, onward, come_to}
 use Rattle.log_service.specs.Loads.{all_trucks, AreInOrder}
 use Rattle.log_service.specs.Commits.{all_staged_in, AreServed}
-use Rattle.log_service.specs.Halves.{BeganWith, BearsFew, Stands, Fell, RecoversHeld}
-use Rattle.log_service.proofs.Chains.{follow_back, come_append}
+use Rattle.log_service.specs.Halves.{BearsFew, Stands, Fell, RecoversHeld}
+use Rattle.log_service.proofs.Chains.{follow_back}
 use Rattle.log_service.proofs.ItemLaws.{all_with}
 use Rattle.log_service.proofs.Tied.{KeepsFew, logs_up_to}
 

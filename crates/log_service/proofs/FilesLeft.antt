@@ -1,5 +1,5 @@
 -- What the files hold besides, once a service is closed.
-use Rattle.std.proofs.Common.{◌≡◌, inl, inr, ℕ, ◌+◌, ◌^◌, ◌<◌, ◌≤◌, Bool, true, false, true≢false, List, [], ◌∷◌, ◌++◌, length, take, drop, get_or, Contains, Some, refl, sym, ap, ◌∙◌, subst, arith, take-append-drop}
+use Rattle.std.proofs.Common.{◌≡◌, inl, inr, ℕ, ◌+◌, ◌^◌, ◌<◌, ◌≤◌, Bool, true, false, true≢false, List, [], ◌∷◌, ◌++◌, length, take, drop, Contains, Some, refl, sym, ap, ◌∙◌, subst, arith, take-append-drop}
 use Rattle.std.specs.Prelude.{◌↔◌}
 use Rattle.std.proofs.Math.Logic.{∥∥₁_map}
 use Rattle.std.proofs.lemmas.Bool.{cases_lt}
@@ -10,8 +10,8 @@ use Rattle.log_model.specs.declared.name.NameKind.TheVariants as kinds
 use Rattle.log_model.specs.Entry.{Entry}
 use Rattle.log_model.specs.Files.{Files, content, IsFit, IsSound, IsPresent, IsLogFile, IsLastLog}
 use Rattle.log_model.specs.Recovered.{IsRecovered, IsLast, IsFlushed, IsWhollyFlushed, RecoversAlike}
-use Rattle.recovery.specs.Change.{RecoversWith, LastsWith, last_of, HasText}
-use Rattle.recovery.specs.Kept.{IsOrderly, lasts}
+use Rattle.recovery.specs.Change.{RecoversWith, LastsWith, last_of}
+use Rattle.recovery.specs.Kept.{IsOrderly}
 use Rattle.recovery.proofs.Lists.{none_in, first_or_later, is_first, is_later}
 use Rattle.recovery.proofs.Logs.{one_list}
 use Rattle.recovery.proofs.Rising.{last_is, last_of-append}
@@ -26,7 +26,7 @@ use Rattle.log_trucks.specs.Held.{Held, AreHeld}
 use Rattle.log_ledger.specs.History.{History, ClosedLog}
 use Rattle.log_device.specs.declared.device.Device.{Device}
 use Rattle.log_device.specs.Keeps.{log_name}
-use Rattle.log_device.specs.Whole.{books_of, IsBroken}
+use Rattle.log_device.specs.Whole.{IsBroken}
 use Rattle.log_device.proofs.Bearing.{sound_by}
 use Rattle.log_service.specs.Trucks.{FollowFrom}
 use Rattle.log_service.specs.Order.{follow_front}

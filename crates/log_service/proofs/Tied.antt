@@ -1,5 +1,5 @@
 -- What ties a device to the loads popped, over a call on a whole device.
-use Rattle.std.proofs.Common.{◌≡◌, ◌⊎◌, ℕ, ◌+◌, ◌<◌, ◌≤◌, List, [], ◌++◌, length, take, get_or, Some, refl, sym, ap, ◌∙◌, subst, arith, ⊎_elim, inl, le_refl}
+use Rattle.std.proofs.Common.{◌≡◌, ◌⊎◌, ℕ, ◌+◌, ◌<◌, ◌≤◌, List, [], ◌++◌, length, get_or, Some, refl, sym, ap, ◌∙◌, subst, arith, ⊎_elim, inl, le_refl}
 use Rattle.std.proofs.lemmas.List.{append-nil, take_all}
 use Rattle.log_model.specs.Entry.{Entry}
 use Rattle.log_model.specs.Files.{Files, IsPresent}
@@ -8,7 +8,7 @@ use Rattle.recovery.specs.Kept.{lasts}
 use Rattle.recovery.proofs.Likes.{like_recovers}
 use Rattle.recovery.proofs.Lasts.{like_lasts}
 use Rattle.recovery.proofs.Longer.{from_base}
-use Rattle.disk_images.specs.Crash.{DiskView, IsImageNow, Throughout, Since}
+use Rattle.disk_images.specs.Crash.{DiskView, Throughout, Since}
 use Rattle.disk_images.specs.Calls.{IsTrueDisk}
 use Rattle.disk_images.proofs.Moments.{since_on, weaker, at_end}
 use Rattle.log_file.specs.Open.{OpenLog}

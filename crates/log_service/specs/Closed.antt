@@ -6,7 +6,6 @@ use Rattle.log_model.specs.Entry.{Entry}
 use Rattle.log_model.specs.declared.name.NameKind.TheVariants as kinds
 use Rattle.log_model.specs.Files.{Files, IsLogFile, IsLastLog, IsFit, IsSound, IsPresent}
 use Rattle.log_model.specs.Recovered.{IsRecovered, IsStored, IsContent, IsLast, IsFlushed, RecoversAlike, put_entries}
-use Rattle.recovery.specs.Change.{RecoversSome}
 use Rattle.disk_images.specs.Crash.{DiskView, IsImageNow, Since}
 use Rattle.append_ring.specs.Rules.{base_of}
 use Rattle.append_ring.specs.declared.pass.RingPass.{RingPass}

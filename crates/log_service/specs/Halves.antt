@@ -1,21 +1,20 @@
 -- What the device's half has made of the loads that were popped.
-use Rattle.std.specs.Prelude.{◌≡◌, ℕ, ◌+◌, ◌<◌, ◌≤◌, List, [], ◌∷◌, ◌++◌, length, take, get_or, Bool, is_none}
+use Rattle.std.specs.Prelude.{◌≡◌, ℕ, ◌+◌, ◌<◌, ◌≤◌, List, [], ◌++◌, length, take, get_or, Bool, is_none}
 use Rattle.log_model.specs.Entry.{Entry}
 use Rattle.log_model.specs.Files.{Files, IsPresent}
 use Rattle.log_model.specs.declared.name.Name.{Name}
 use Rattle.recovery.specs.Change.{RecoversSome}
 use Rattle.recovery.specs.Kept.{IsLike, IsOrderly, lasts}
-use Rattle.disk_images.specs.Crash.{DiskView, IsImageNow, Since}
+use Rattle.disk_images.specs.Crash.{DiskView, IsImageNow}
 use Rattle.append_ring.specs.Rules.{base_of}
 use Rattle.log_trucks.specs.Held.{Held, AreHeld}
 use Rattle.log_ledger.specs.History.{History}
-use Rattle.log_ledger.specs.Books.{Books, IsServed}
+use Rattle.log_ledger.specs.Books.{Books}
 use Rattle.log_ledger.specs.Counted.{NoneMayGo}
 use Rattle.log_device.specs.declared.device.Device.{Device}
 use Rattle.log_device.specs.Bears.{Bears, AreStoresFew}
 use Rattle.log_device.specs.Leaves.{Leaves}
-use Rattle.log_device.specs.Whole.{IsWhole, IsBroken, log_of, books_of}
-use Rattle.log_service.specs.Trucks.{come_to}
+use Rattle.log_device.specs.Whole.{IsWhole, log_of, books_of}
 
 -- the history began with these files and these numbers
 pub record BeganWith (found : Files) (lasts_then : List ℕ) (h : History) : Type 0 where

@@ -1,8 +1,8 @@
-use Rattle.std.proofs.Common.{◌≡◌, ◌<◌, ℕ, List, length, get_or, refl, sym, subst, inr}
+use Rattle.std.proofs.Common.{length, refl, inr}
 use Rattle.std.proofs.Math.Logic.{∥∥₁_map}
-use Rattle.log_ledger.specs.History.{committed_in, closed_in, flushed_in}
+use Rattle.log_ledger.specs.History.{committed_in, flushed_in}
 use Rattle.log_device.specs.Whole.{disk_of, books_of}
-use Rattle.log_service.proofs.Tied.{ties_committed, ties_archived, few_same, one_higher}
+use Rattle.log_service.proofs.Tied.{ties_committed, ties_archived, one_higher}
 use Rattle.log_service.proofs.archived.flush_archived.Goals as goal
 
 pub returns-in-Err-clause-ties : goal.returns-in-Err-clause-ties

@@ -1,17 +1,14 @@
-use Rattle.std.proofs.Common.{◌≡◌, ◌<◌, ◌≤◌, ◌+◌, ℕ, List, [], ◌∷◌, ◌++◌, length, get_or, Some, refl, sym, ap, ◌∙◌, subst, arith}
+use Rattle.std.proofs.Common.{◌≡◌, ℕ, List, [], ◌++◌, length, sym, ap, subst, arith}
 use Rattle.std.proofs.Math.Logic.{∥∥₁_map₂}
 use Rattle.log_model.specs.declared.name.Name.{Name}
 use Rattle.log_model.specs.Entry.{Entry}
 use Rattle.log_model.specs.Files.{Files}
 use Rattle.disk_images.specs.Crash.{DiskView, Throughout}
-use Rattle.log_file.specs.Open.{OpenLog}
 use Rattle.log_trucks.specs.Held.{Held, AreHeld}
-use Rattle.log_ledger.specs.Books.{Books}
 use Rattle.log_device.specs.Bears.{Bears}
 use Rattle.log_device.specs.Leaves.{Leaves}
-use Rattle.log_device.specs.Whole.{IsWhole, disk_of, log_of, books_of}
-use Rattle.log_device.proofs.Whole.{some_file}
-use Rattle.log_service.specs.Trucks.{AreSpelled, FollowOn, size_of, come_to}
+use Rattle.log_device.specs.Whole.{disk_of, books_of}
+use Rattle.log_service.specs.Trucks.{AreSpelled, FollowOn, size_of}
 use Rattle.log_service.specs.Commits.{all_staged_in, AreServed, drawn_in}
 use Rattle.log_service.proofs.Committed.{spelled_entries}
 use Rattle.log_service.proofs.staging.commit_load.Goals as goal

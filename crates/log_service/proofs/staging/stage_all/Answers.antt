@@ -1,13 +1,11 @@
-use Rattle.std.proofs.Common.{◌≡◌, ◌<◌, ◌≤◌, ◌+◌, ℕ, List, [], ◌∷◌, ◌++◌, length, get_or, Some, refl, sym, ap, ◌∙◌, subst, arith, append_assoc}
+use Rattle.std.proofs.Common.{◌≡◌, ℕ, List, [], ◌∷◌, ◌++◌, length, refl, sym, ap, ◌∙◌, subst, arith, append_assoc}
 use Rattle.log_model.specs.Entry.{Entry}
 use Rattle.log_file.specs.Open.{OpenLog}
 use Rattle.log_trucks.specs.Held.{Held, held_of, AreHeld}
-use Rattle.log_ledger.specs.Books.{Books}
-use Rattle.log_ledger.specs.History.{History, staged_in}
-use Rattle.log_device.specs.Whole.{IsWhole, disk_of, log_of, books_of}
+use Rattle.log_device.specs.Whole.{IsWhole, disk_of, books_of}
 use Rattle.log_device.proofs.Whole.{some_file}
 use Rattle.log_device.proofs.Numbering.{same_file}
-use Rattle.log_service.specs.Trucks.{IsSpelled, AreSpelled, FollowOn, onward, size_of, come_to}
+use Rattle.log_service.specs.Trucks.{AreSpelled, FollowOn, onward, size_of, come_to}
 use Rattle.log_service.specs.Commits.{all_staged_in, AreServed, drawn_in}
 use Rattle.log_service.proofs.Staged.{come_same, follow_same, served_still, staged_more, staged_none, held_head}
 use Rattle.log_service.proofs.staging.stage_all.Goals as goal

@@ -1,4 +1,4 @@
-use Rattle.std.proofs.Common.{◌≡◌, ◌≤◌, ◌<◌, ◌+◌, ◌++◌, ℕ, List, length, Some}
+use Rattle.std.proofs.Common.{◌≡◌, ◌≤◌, ◌+◌, ◌++◌, ℕ, List, length, Some}
 use Rattle.std.specs.Prelude.{IsTrue}
 use Rattle.log_model.specs.Entry.{Entry}
 use Rattle.log_file.specs.Open.{OpenLog}

@@ -1,17 +1,13 @@
-use Rattle.std.proofs.Common.{◌≡◌, ◌<◌, ◌≤◌, ◌+◌, ℕ, List, [], ◌∷◌, ◌++◌, length, get_or, Some, refl, sym, ap, ◌∙◌, subst, arith}
-use Rattle.std.specs.Prelude.{IsErr}
+use Rattle.std.proofs.Common.{◌≡◌, ◌<◌, ◌≤◌, ℕ, List, [], ◌∷◌, ◌++◌, length, get_or, sym, ap, ◌∙◌, subst, arith}
 use Rattle.std.proofs.Math.Logic.{∥∥₁_map, ∥∥₁_map₂, ∥∥₁_elim}
 use mathlib.Core.Logic.{∥∥₁_prop}
 use Rattle.crossbeam_queue.specs.Passes.{view}
 use Rattle.append_ring.specs.Rules.{base_of, of}
-use Rattle.log_model.specs.Entry.{Entry}
-use Rattle.disk_images.specs.Crash.{DiskView, Since}
-use Rattle.disk_images.specs.Calls.{HasCause, Rose}
-use Rattle.log_trucks.specs.Held.{Held, AreHeld}
+use Rattle.disk_images.specs.Crash.{Since}
+use Rattle.log_trucks.specs.Held.{Held}
 use Rattle.log_ledger.specs.History.{History, committed_in}
-use Rattle.log_ledger.specs.Books.{Books, IsServed}
-use Rattle.log_device.specs.Whole.{IsWhole, IsBroken, disk_of, log_of, books_of}
-use Rattle.log_service.specs.Trucks.{FollowOn, come_to}
+use Rattle.log_device.specs.Whole.{IsBroken, disk_of, books_of}
+use Rattle.log_service.specs.Trucks.{come_to}
 use Rattle.log_service.specs.Loads.{all_trucks, AreInOrder}
 use Rattle.log_service.specs.Commits.{all_staged_in, drawn_in}
 use Rattle.log_service.specs.Halves.{Stands, Fell, RecoversHeld}

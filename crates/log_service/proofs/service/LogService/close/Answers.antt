@@ -1,4 +1,4 @@
-use Rattle.std.proofs.Common.{Some, ◌≡◌, ◌≤◌, ◌<◌, ◌-◌, ◌∷◌, [], ℕ, List, Bool, true, length, refl, sym, ap, ◌∙◌, subst, arith}
+use Rattle.std.proofs.Common.{Some, ◌≡◌, ◌≤◌, ◌∷◌, [], ℕ, List, Bool, true, length, refl, sym, ap, ◌∙◌, subst, arith}
 use Rattle.std.specs.Prelude.{◌↔◌, Option, None, is_none}
 use Rattle.std.specs.Coded.{le_prop}
 use Rattle.std.proofs.Math.Logic.{∥∥₁_elim}
@@ -10,7 +10,6 @@ use Rattle.append_ring.specs.Rules.{base_of}
 use Rattle.append_ring.specs.Parts.{EachThere, IsCounted, IsEqual}
 use Rattle.append_ring.proofs.Places.{drained_counted}
 use Rattle.disk_images.specs.Calls.{Rose}
-use Rattle.log_berth.specs.Words.{NoMore}
 use Rattle.log_berth.specs.Standing.{Standing, AllSaw}
 use Rattle.log_trucks.specs.Held.{Held}
 use Rattle.log_device.specs.Whole.{IsBroken, disk_of, books_of}
