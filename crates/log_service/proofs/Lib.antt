@@ -11,3 +11,5 @@ pub mod CloseLaws
 pub mod Tied
 pub mod IdlePasses
 pub mod Popped
+pub mod Bounds
+pub mod FilesLeft

@@ -4,7 +4,7 @@ ghost use Rattle.crossbeam_queue.specs.Passes.{view};
 ghost use Rattle.append_ring.specs.Rules.{Follows, HasPushed};
 ghost use Rattle.append_ring.specs.Parts.{last_pushed};
 ghost use Rattle.log_service.specs.Items.{region_of, number_of, IsWholeItem};
-ghost use Rattle.log_service.specs.Moves.{HadItems};
+ghost use Rattle.log_service.specs.Moves.{IsGivenBack};
 
 use crate::committer::DeviceHalf;
 use crate::consumer::ConsumerHalf;
@@ -35,9 +35,18 @@ impl<D: Disk, N: Naming> Model for LogService<D, N> {
 
     ghost Value = { Place };
 
-    ghost view = { λ s. record { ring = s.ring.id; hand = s.hand.id; consumer = s.consumer.id; device = s.device.id; regions = s.regions; seats = s.device.seats } };
+    ghost view = { λ s. record {
+      ring = s.ring.id;
+      hand = s.hand.id;
+      consumer = s.consumer.id;
+      device = s.device.id;
+      regions = s.regions;
+      seats = s.device.seats;
+    } };
 
-    ghost invariant = { λ s. (s.ring.id ≡ N.ring) × (s.hand.id ≡ N.hand) × (s.ring.capacity ≡ 1024) × (s.hand.capacity ≡ 2) × (s.consumer.regions ≡ 1) × (s.device.regions ≡ 3 * s.regions) × (s.regions ≡ length N.lasts) × (s.regions ≤ 64) × (s.consumer.seats ≡ s.device.seats) × (AreNewAfter N.hand N.lasts 0 1 s.idle × (length s.idle ≡ length N.lasts)) };
+    ghost invariant = { λ s. (s.ring.id ≡ N.ring) × (s.hand.id ≡ N.hand) × (s.ring.capacity ≡ 1024) × (s.hand.capacity ≡ 2)
+        × (s.consumer.regions ≡ 1) × (s.device.regions ≡ 3 * s.regions) × (s.regions ≡ length N.lasts) × (s.regions ≤ 64)
+        × (s.consumer.seats ≡ s.device.seats) × (AreNewAfter N.hand N.lasts 0 1 s.idle × (length s.idle ≡ length N.lasts)) };
 }
 
 impl<D: Disk, N: Naming> LogService<D, N> {
@@ -54,7 +63,8 @@ impl<D: Disk, N: Naming> LogService<D, N> {
         requires whole { IsWholeItem item }
         requires follows { Follows number_of (last_pushed number_of pass.old) item }
         ensures same { (pass.new.pass.table_id ≡ pass.old.pass.table_id) × (pass.new.region ≡ pass.old.region) }
-        ensures pushed { MatchResult result (λ _. HasPushed (view pass.old.pass) item (view pass.new.pass)) (λ full. (full.item ≡ item) × (view pass.new.pass ≡ view pass.old.pass) × HadItems 1024 (view pass.old.pass)) }
+        ensures pushed { MatchResult result (λ _. HasPushed (view pass.old.pass) item (view pass.new.pass))
+            (λ full. IsGivenBack pass.old pass.new item full.item) }
     {
         self.ring.push(rt, pass, item)
     }

@@ -51,8 +51,10 @@ impl Rings {
     /// its first drawn one.
     pub fn new(alloc: Global, lasts: &[u64]) -> Result<Rings, NoMemory>
         requires { (0 < length lasts.now) × (length lasts.now ≤ 64) }
-        ensures items { IfOk result (λ r. (r.items.ring.capacity ≡ 1024) × AreNewParts r.items.ring.id lasts.now r.items.consumer.pass.table_id (view r.items.consumer.pass) r.items.passes) }
-        ensures loads { IfOk result (λ r. (r.loads.ring.capacity ≡ 2) × AreNewParts r.loads.ring.id lasts.now r.loads.consumer.pass.table_id (view r.loads.consumer.pass) r.loads.passes) }
+        ensures items { IfOk result (λ r. (r.items.ring.capacity ≡ 1024)
+            × AreNewParts r.items.ring.id lasts.now r.items.consumer.pass.table_id (view r.items.consumer.pass) r.items.passes) }
+        ensures loads { IfOk result (λ r. (r.loads.ring.capacity ≡ 2)
+            × AreNewParts r.loads.ring.id lasts.now r.loads.consumer.pass.table_id (view r.loads.consumer.pass) r.loads.passes) }
     {
         let items = Ring::new(alloc, lasts)?;
         let loads = Ring::of_capacity(alloc, lasts, LOADS)?;
@@ -111,8 +113,10 @@ impl<D: Disk, N: Naming> LogService<D, N> {
     ) -> Result<ServiceParts<D, N>, ServiceRefusal<D>>
         requires seats { 0 < seats }
         requires regions { (regions ≡ length N.lasts) × (0 < regions) × (regions ≤ 64) }
-        requires items { (rings.items.ring.capacity ≡ 1024) × AreParts N.ring N.lasts rings.items.ring.id rings.items.consumer.pass.table_id (view rings.items.consumer.pass) rings.items.passes }
-        requires loads { (rings.loads.ring.capacity ≡ 2) × AreParts N.hand N.lasts rings.loads.ring.id rings.loads.consumer.pass.table_id (view rings.loads.consumer.pass) rings.loads.passes }
+        requires items { (rings.items.ring.capacity ≡ 1024)
+            × AreParts N.ring N.lasts rings.items.ring.id rings.items.consumer.pass.table_id (view rings.items.consumer.pass) rings.items.passes }
+        requires loads { (rings.loads.ring.capacity ≡ 2)
+            × AreParts N.hand N.lasts rings.loads.ring.id rings.loads.consumer.pass.table_id (view rings.loads.consumer.pass) rings.loads.passes }
         requires device { IsFresh N.lasts device }
         requires whole { IsTrue D.told → ∥ ((h : History) × BeginsAs N.base N.lasts device (D.view (disk_of device)) h) ∥₁ }
         requires start { IsTrue D.told → N.start ≡ (D.view (disk_of device)).clock }
@@ -120,8 +124,11 @@ impl<D: Disk, N: Naming> LogService<D, N> {
 
         ensures service { IfOk result (λ p. (p.service.ring ≡ N.ring) × (p.service.regions ≡ regions) × (p.service.seats ≡ seats)) }
         ensures passes { IfOk result (λ p. p.passes ≡ rings.items.passes) }
-        ensures consumers { IfOk result (λ p. (p.seats.consumers.seats ≡ replicate seats (fresh p.service.consumer (starts 1 []))) × (seats ≤ p.seats.consumers.room)) }
-        ensures devices { IfOk result (λ p. (p.seats.devices.seats ≡ replicate seats (fresh p.service.device (starts (3 * regions) (told_numbers regions (books_of device))))) × (seats ≤ p.seats.devices.room)) }
+        ensures consumers { IfOk result (λ p. (p.seats.consumers.seats ≡ replicate seats (fresh p.service.consumer (starts 1 [])))
+            × (seats ≤ p.seats.consumers.room)) }
+        ensures devices { IfOk result (λ p. (p.seats.devices.seats
+            ≡ replicate seats (fresh p.service.device (starts (3 * regions) (told_numbers regions (books_of device)))))
+            × (seats ≤ p.seats.devices.room)) }
         ensures refused { IfErr result (λ r. r.device ≡ device) }
     {
         let Rings { items, loads } = rings;

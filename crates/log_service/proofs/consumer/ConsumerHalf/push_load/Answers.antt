@@ -1,6 +1,5 @@
-use Rattle.std.proofs.Common.{◌≡◌, ℕ, List, [], ◌∷◌, ◌++◌, length, sym, ap, ◌∙◌, subst, arith}
+use Rattle.std.proofs.Common.{◌≡◌, ℕ, List, [], ◌∷◌, ◌++◌, sym, ap, ◌∙◌, subst, arith}
 use Rattle.crossbeam_queue.specs.Passes.{view}
-use Rattle.append_ring.specs.declared.knows.Knows.{Knows}
 use Rattle.log_trucks.specs.Held.{Held}
 use Rattle.log_service.specs.Items.{appended, held_in}
 use Rattle.log_service.specs.Trucks.{AreSpelled}

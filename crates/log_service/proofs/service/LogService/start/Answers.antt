@@ -1,10 +1,6 @@
-use Rattle.std.proofs.Common.{◌≡◌, ◌<◌, ℕ, List, length, sym, ap, ◌∙◌, subst, arith}
-use Rattle.std.specs.Prelude.{Option}
+use Rattle.std.proofs.Common.{length, sym, ap, ◌∙◌, subst, arith}
 use Rattle.std.proofs.lemmas.Option.{same_Some}
-use Rattle.append_ring.specs.declared.pass.RingPass.{RingPass}
 use Rattle.append_ring.specs.Parts.{IsNew, AreNewAfter}
-use Rattle.log_trucks.specs.Held.{Held}
-use Rattle.log_service.specs.declared.load.Load.{Load}
 use Rattle.log_service.proofs.IdlePasses.{first_parted}
 use Rattle.log_service.proofs.service.LogService.start.Goals as goal
 
