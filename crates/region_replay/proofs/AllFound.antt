@@ -120,6 +120,6 @@ module _ (told : Type 0) (x : SplitFiles) (range : IsInRange x) (xs : List Regio
         let number : m.number ≡ y.next_store = ap (λ (k : Name). k.number) is in
         elim one.next as (λ _. m.number ≤ n + 1) [
           | inl first ↦ omega (arith, number, first)
-          | inr (k, member, next) ↦ (let l = low k member in omega (arith, number, next, l))
+          | inr (k, member, store, of, next) ↦ (let l = low k member in omega (arith, number, next, l))
         ])
   ]

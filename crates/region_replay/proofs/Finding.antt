@@ -191,8 +191,9 @@ module _ (files : Files) {told : Type 0} (x : RegionFiles) (order : IsInOrder to
 -- what the region is opened with, once its files are replayed
 pub replayed_of : (base : Files) (u w : DiskView) → IsTrueDisk u → IsTrueDisk w → IsHeld base u → IsHeld base w → {told : Type 0} (x : RegionFiles) (order : IsInOrder told x) (found : IsFound u.files x) (to next : ℕ) → IsTop x.unflushed.items x.flushed to
     → FlushesTo w.files x.region to ⊎ (to ≡ 0) → ((m : Name) → m.kind ≡ kinds.Store → m.region ≡ x.region → IsPresent w.files m → m.number < next)
+    → ((n : ℕ) → ((m : Name) → m.kind ≡ kinds.Store → m.region ≡ x.region → IsPresent w.files m → m.number ≤ n) → next ≤ n + 1 + to)
     → (b : Base) → b.content ≡ put_numbered empty (x.stored ++ entries_cells x.unflushed.items) → b.last ≡ to → IsOf u.files w.files x.region (record { base = b; flushed = to; next_store = next })
-replayed_of base u w true_u true_w held_u held_w x order found to next top flushed below b is last =
+replayed_of base u w true_u true_w held_u held_w x order found to next top flushed below few b is last =
     let now : IsLast u.files x.region to = is_last u.files x order found to top in
     let then : IsLast w.files x.region to = ((alike_between base u.files w.files (held_u.alike u.files true_u.reads) (held_w.alike w.files true_w.reads) x.region).last to).0 now in
     record {
@@ -200,6 +201,7 @@ replayed_of base u w true_u true_w held_u held_w x order found to next top flush
       last = subst (λ (n : ℕ). IsLast u.files x.region n) (sym last) now;
       flushed = record { reached = flushed; bound = λ m f. then.bound m (inl f) };
       next = below;
+      few = few;
     }
 
 -- of a region's stores one alone is new
@@ -213,6 +215,16 @@ next_below u w x order found others m store region here = elim (name_cases m (st
       let low = found.next m store region (λ none. here (same ∙ none)) in
       omega (arith, low)
 ]
+
+-- and so the number of the next one is above it by no more than one
+pub next_few : (u w : DiskView) {told : Type 0} (x : RegionFiles) (order : IsInOrder told x) (found : IsFound u.files x)
+    → ((m : Name) → m ≢ store_name x.region x.next_store → ((n : Name) → Contains x.edits.items n → m ≢ n) → content w.files m ≡ content u.files m)
+    → (n : ℕ) → ((m : Name) → m.kind ≡ kinds.Store → m.region ≡ x.region → IsPresent w.files m → m.number ≤ n) → x.next_store ≤ n + 1
+next_few u w x order found others n bound = found.few n (λ m store region here. bound m store region (λ gone. (
+    let low = found.next m store region here in
+    let other : m ≢ store_name x.region x.next_store = λ is. (let number : m.number ≡ x.next_store = ap (λ (k : Name). k.number) is in omega (arith, low, number)) in
+    let same = others m other (λ k has is. absurd (cc (sym store ∙ ap (λ (i : Name). i.kind) is ∙ order.edits.kind k has))) in
+    here (sym same ∙ gone))))
 
 -- ---- the last sequence id
 
@@ -251,5 +263,9 @@ pub dropped_of : (base : Files) (u w : DiskView) → IsTrueDisk u → IsTrueDisk
 dropped_of base u w true_u true_w held_u held_w x order found none others b is last =
     replayed_of base u w true_u true_w held_u held_w x order found x.flushed x.next_store (none_top x.unflushed.items x.flushed none)
     (elim found.flushed.reached as (λ _. FlushesTo w.files x.region x.flushed ⊎ (x.flushed ≡ 0)) [ inl f ↦ inl (still_flushes u w x.edits.items x.region x.flushed order.edits others f) | inr zero ↦ inr zero ])
-    (λ m store region here. found.next m store region (λ gone. here (others m (λ n has is. absurd (cc (sym store ∙ ap (λ (k : Name). k.kind) is ∙ order.edits.kind n has))) ∙ gone)))
+    (λ m store region here. found.next m store region (λ gone. here (same_store m store ∙ gone)))
+    (λ n bound. (let low = found.few n (λ m store region here. bound m store region (λ gone. here (sym (same_store m store) ∙ gone))) in omega (arith, low)))
     b is last
+  where
+    same_store : (m : Name) → m.kind ≡ kinds.Store → content w.files m ≡ content u.files m
+    same_store m store = others m (λ n has is. absurd (cc (sym store ∙ ap (λ (k : Name). k.kind) is ∙ order.edits.kind n has)))

@@ -88,6 +88,7 @@ found_on I J x same none_i none_j given_i given_j {told} order f = record {
       record { name = d.name; entries = d.entries; file = record { kind = d.file.kind; bytes = d.file.bytes; there = same d.name (inr d.kind) (sym of ∙ region) ∙ d.file.there; ended = d.file.ended; text = d.file.text }; kind = d.kind; member = d.member });
   flushed = flushed_on x.region I J same x.flushed f.flushed;
   next = λ m store region here. f.next m store region (λ gone. here (same m (inl store) region ∙ gone));
+  few = λ n bound. f.few n (λ m store region here. bound m store region (λ gone. here (sym (same m (inl store) region) ∙ gone)));
   texts = λ m has. (
       let t = f.texts m has in
       (t.0, t.1, subst (λ (o : Option (List ℕ)). HasText m t.0 t.1 o) (sym (same m (inr (order.edits.kind m has)) (order.of m has))) t.2, t.3));
@@ -101,6 +102,7 @@ of_on old I J r y same f = record {
   last = f.last;
   flushed = flushed_on r I J same y.flushed f.flushed;
   next = λ m store region here. f.next m store region (λ gone. here (same m (inl store) region ∙ gone));
+  few = λ n bound. f.few n (λ m store region here. bound m store region (λ gone. here (sym (same m (inl store) region) ∙ gone)));
 }
 
 -- files that recover alike give the same
@@ -110,6 +112,7 @@ of_alike old now new r y alike f = record {
   last = ((alike r).last y.base.last).1 f.last;
   flushed = f.flushed;
   next = f.next;
+  few = f.few;
 }
 
 edits_cases : (k : NameKind) → (k ≡ kinds.Edits) ⊎ (k ≢ kinds.Edits)

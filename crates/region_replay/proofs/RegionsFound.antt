@@ -181,10 +181,10 @@ module _ (told : Type 0) (x : SplitFiles) (range : IsInRange x) (k : ℕ) (lt : 
         let bound = (range.flushed.each (k + 1) (omega (arith, lt))).bound s.text.to (s, r.0, r.1, refl) in
         let f = one.flushed in
         ((range.stores s r.0).0, omega (arith, bound, f)))));
-    next_given = elim one.next as (λ _. 1 ≤ y.next_store) [ inl is ↦ omega (arith, is) | inr (m, has, is) ↦ omega (arith, is) ];
+    next_given = elim one.next as (λ _. 1 ≤ y.next_store) [ inl is ↦ omega (arith, is) | inr (m, has, store, of, is) ↦ omega (arith, is) ];
     next = elim one.next as (λ _. y.next_store ≤ 2 ^ 63) [
       | inl is ↦ omega (arith, is)
-      | inr (m, has, is) ↦ (let low = (good_name x.names m (range.good m has)).low in omega (arith, is, low))
+      | inr (m, has, store, of, is) ↦ (let low = (good_name x.names m (range.good m has)).low in omega (arith, is, low))
     ];
     edits = record {
       kind = λ m has. elim (edits_cases m has) as (λ _. m.kind ≡ kinds.Edits) [
@@ -323,6 +323,10 @@ module _ (told : Type 0) (x : SplitFiles) (range : IsInRange x) (k : ℕ) (lt : 
       edited = edited;
       flushed = subst (λ (r : ℕ). IsFlushed files r y.flushed) (sym one.region) (subst (λ (n : ℕ). IsFlushed files (k + 1) n) (sym one.flushed) flushed_is);
       next = λ m store region here. one.above m (left.store_names m store here) store (region ∙ one.region);
+      few = λ n bound. elim one.next as (λ _. y.next_store ≤ n + 1) [
+        | inl is ↦ omega (arith, is)
+        | inr (m, has, store, of, is) ↦ (let low = bound m store (of ∙ sym one.region) (left.stores_stay m store has) in omega (arith, is, low))
+      ];
       texts = texts;
       all = all_edits;
     }

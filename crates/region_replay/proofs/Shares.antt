@@ -1,5 +1,5 @@
 -- What was read and left of a store goes to its regions.
-use Rattle.std.proofs.Common.{◌≡◌, ◌≢◌, ◌⊎◌, inl, inr, ℕ, Bool, true, false, cond, ◌+◌, ◌-◌, ◌<◌, ◌≤◌, ◌^◌, ◌==◌, ◌&&◌, List, [], ◌∷◌, ◌++◌, length, get_or, slice_set, Contains, refl, sym, ap, ◌∙◌, subst, arith, get_or-set_other, get_or-set_same, length-append}
+use Rattle.std.proofs.Common.{◌≡◌, ◌≢◌, ◌⊎◌, inl, inr, ℕ, Bool, true, false, cond, ◌+◌, ◌-◌, ◌<◌, ◌≤◌, ◌^◌, ◌==◌, ◌&&◌, List, [], ◌∷◌, ◌++◌, length, get_or, slice_set, refl, sym, ap, ◌∙◌, subst, arith, get_or-set_other, get_or-set_same, length-append}
 use Rattle.std.proofs.Math.ListN.{length-set}
 use Rattle.std.proofs.lemmas.Bool.{cases_eq, cases_lt, eq-eqb, ne_eqb}
 use Rattle.std.proofs.lemmas.Grind.{flat_map-append}
@@ -18,7 +18,7 @@ use Rattle.wal_split.specs.declared.job.EditsJob.{EditsJob}
 use Rattle.wal_split.specs.Grouped.{edits_name}
 use Rattle.wal_split.proofs.Grouped.{of_more}
 use Rattle.region_replay.specs.declared.found.RegionFiles.{RegionFiles}
-use Rattle.region_replay.specs.Dealt.{stores_of, cells_of, is_edits, edits_of, written_name, IsGood, IsDealt, AreDealt, AreBegun, Deals, DealsName, AddsEdits, RaisesNext, AddsStored, AddsEntry}
+use Rattle.region_replay.specs.Dealt.{IsNext, stores_of, cells_of, is_edits, edits_of, written_name, IsGood, IsDealt, AreDealt, AreBegun, Deals, DealsName, AddsEdits, RaisesNext, AddsStored, AddsEntry}
 use Rattle.region_replay.proofs.Sorting.{none_in}
 
 -- a step of one region leaves the others
@@ -65,9 +65,9 @@ edits_one_more r ns name is = edits_more r ns name ∙ ap (λ (b : Bool). edits_
 -- ---- a name
 
 module _ (job : EditsJob) (r upto : ℕ) (ns : List Name) (ss : List FoundStore) (ks : List Entry) (name : Name) where
-  next_on : (n : ℕ) → (n ≡ 1) ⊎ ((m : Name) × Contains ns m × (n ≡ m.number + 1)) → (n ≡ 1) ⊎ ((m : Name) × Contains (ns ++ name ∷ []) m × (n ≡ m.number + 1))
+  next_on : (n : ℕ) → IsNext r ns n → IsNext r (ns ++ name ∷ []) n
   next_on n (inl one) = inl one
-  next_on n (inr (m, has, is)) = inr (m, Contains-append_left ns (name ∷ []) m has, is)
+  next_on n (inr (m, has, store, region, is)) = inr (m, Contains-append_left ns (name ∷ []) m has, store, region, is)
 
   keep_name : (x : RegionFiles) → is_edits_of r name ≡ false → (name.kind ≡ kinds.Store → name.region ≡ r → ⊥) → IsDealt job r upto ns ss ks x → IsDealt job r upto (ns ++ name ∷ []) ss ks x
   keep_name x not none old = record {
@@ -83,8 +83,8 @@ module _ (job : EditsJob) (r upto : ℕ) (ns : List Name) (ss : List FoundStore)
     next = next_on x.next_store old.next;
   }
 
-  raise_name : (x y : RegionFiles) → name.kind ≡ kinds.Store → RaisesNext name.number x y → IsDealt job r upto ns ss ks x → IsDealt job r upto (ns ++ name ∷ []) ss ks y
-  raise_name x y store step old = record {
+  raise_name : (x y : RegionFiles) → name.kind ≡ kinds.Store → name.region ≡ r → RaisesNext name.number x y → IsDealt job r upto ns ss ks x → IsDealt job r upto (ns ++ name ∷ []) ss ks y
+  raise_name x y store of step old = record {
     region = step.region ∙ old.region;
     stored = step.stored ∙ old.stored;
     unflushed = step.unflushed ∙ old.unflushed;
@@ -94,9 +94,9 @@ module _ (job : EditsJob) (r upto : ℕ) (ns : List Name) (ss : List FoundStore)
       | inl before ↦ (let low = old.above m before is_store region in omega (arith, low, step.next))
       | inr is ↦ (let k : name.number ≡ m.number = ap (λ (n : Name). n.number) is in omega (arith, k, step.next))
     ];
-    next = elim (cases_lt x.next_store (name.number + 1)) as (λ _. (y.next_store ≡ 1) ⊎ ((m : Name) × Contains (ns ++ name ∷ []) m × (y.next_store ≡ m.number + 1))) [
-      | inl higher ↦ inr (name, Contains-push ns name, omega (arith, higher, step.next))
-      | inr lower ↦ (let same : y.next_store ≡ x.next_store = omega (arith, lower, step.next) in subst (λ (n : ℕ). (n ≡ 1) ⊎ ((m : Name) × Contains (ns ++ name ∷ []) m × (n ≡ m.number + 1))) (sym same) (next_on x.next_store old.next))
+    next = elim (cases_lt x.next_store (name.number + 1)) as (λ _. IsNext r (ns ++ name ∷ []) y.next_store) [
+      | inl higher ↦ inr (name, Contains-push ns name, store, of, omega (arith, higher, step.next))
+      | inr lower ↦ (let same : y.next_store ≡ x.next_store = omega (arith, lower, step.next) in subst (λ (n : ℕ). IsNext r (ns ++ name ∷ []) n) (sym same) (next_on x.next_store old.next))
     ];
   }
 
@@ -112,7 +112,7 @@ module _ (job : EditsJob) (r upto : ℕ) (ns : List Name) (ss : List FoundStore)
       | inl before ↦ (let low = old.above m before is_store of in omega (arith, low, step.next))
       | inr is ↦ absurd (cc (sym is_store ∙ ap (λ (n : Name). n.kind) (sym is) ∙ edits))
     ];
-    next = subst (λ (n : ℕ). (n ≡ 1) ⊎ ((m : Name) × Contains (ns ++ name ∷ []) m × (n ≡ m.number + 1))) (sym step.next) (next_on x.next_store old.next);
+    next = subst (λ (n : ℕ). IsNext r (ns ++ name ∷ []) n) (sym step.next) (next_on x.next_store old.next);
   }
 
 pub name_dealt : (jobs : List EditsJob) (flushed : List ℕ) (ns : List Name) (ss : List FoundStore) (ks : List Entry) (old new : List RegionFiles) (name : Name) → IsGood name → DealsName name old new → AreDealt jobs flushed ns ss ks old → AreDealt jobs flushed (ns ++ name ∷ []) ss ks new
@@ -137,7 +137,7 @@ name_dealt jobs flushed ns ss ks old new name good deals are = go name.kind refl
         record {
           long = deals_long name.region (RaisesNext name.number) old new step are.long;
           each = λ k d j lt. elim (deals_cases name.region (RaisesNext name.number) old new step range.0 range.1 are.long k d) as (λ _. IsDealt (get_or jobs k j) (k + 1) (get_or flushed (k + 1) 0) (ns ++ name ∷ []) ss ks (get_or new k d)) [
-            | inl (here, one) ↦ raise_name (get_or jobs k j) (k + 1) (get_or flushed (k + 1) 0) ns ss ks name (get_or old k d) (get_or new k d) is one (are.each k d j lt)
+            | inl (here, one) ↦ raise_name (get_or jobs k j) (k + 1) (get_or flushed (k + 1) 0) ns ss ks name (get_or old k d) (get_or new k d) is (sym here) one (are.each k d j lt)
             | inr (apart, kept) ↦ subst (λ (y : RegionFiles). IsDealt (get_or jobs k j) (k + 1) (get_or flushed (k + 1) 0) (ns ++ name ∷ []) ss ks y) (sym kept)
                 (keep_name (get_or jobs k j) (k + 1) (get_or flushed (k + 1) 0) ns ss ks name (get_or old k d) (false_and (is_edits name.kind) (name.region == (k + 1)) (ap is_edits is)) (λ store region. apart (sym region)) (are.each k d j lt))
           ];
@@ -182,7 +182,7 @@ store_dealt jobs flushed ns ss ks old new s given low deals are = record {
           flushed = step.flushed ∙ o.flushed;
           edits = step.edits ∙ o.edits;
           above = λ m has store region. (let low_before = o.above m has store region in omega (arith, low_before, step.next));
-          next = subst (λ (n : ℕ). (n ≡ 1) ⊎ ((m : Name) × Contains ns m × (n ≡ m.number + 1))) (sym step.next) o.next;
+          next = subst (λ (n : ℕ). IsNext (k + 1) ns n) (sym step.next) o.next;
         })
     | inr (apart, kept) ↦ (
         let o = are.each k d j lt in
@@ -218,7 +218,7 @@ entry_dealt jobs flushed ns ss ks old new e given low valid deals are = record {
           flushed = step.flushed ∙ o.flushed;
           edits = step.edits ∙ o.edits;
           above = λ m has store region. (let low_before = o.above m has store region in omega (arith, low_before, step.next));
-          next = subst (λ (n : ℕ). (n ≡ 1) ⊎ ((m : Name) × Contains ns m × (n ≡ m.number + 1))) (sym step.next) o.next;
+          next = subst (λ (n : ℕ). IsNext (k + 1) ns n) (sym step.next) o.next;
         })
     | inr (apart, kept) ↦ (
         let o = are.each k d j lt in

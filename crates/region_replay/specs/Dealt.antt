@@ -37,6 +37,10 @@ pub record IsGood (m : Name) : Type 0 where
   pub low : m.number ≤ 2 ^ 62
   pub region : (m.kind ≡ kinds.Store) ⊎ (m.kind ≡ kinds.Edits) → (1 ≤ m.region) × (m.region ≤ 64)
 
+-- the number of a region's next store: 1, or one above that of one of its stores among these names
+abbrev pub IsNext : ℕ → List Name → ℕ → Type 0
+IsNext r ns n = (n ≡ 1) ⊎ ((m : Name) × Contains ns m × (m.kind ≡ kinds.Store) × (m.region ≡ r) × (n ≡ m.number + 1))
+
 -- A region has the entries of its edits file that was written, and its part of these names, stores and entries.
 pub record IsDealt (job : EditsJob) (r upto : ℕ) (ns : List Name) (ss : List FoundStore) (ks : List Entry) (x : RegionFiles) : Type 0 where
   pub region : x.region ≡ r
@@ -45,7 +49,7 @@ pub record IsDealt (job : EditsJob) (r upto : ℕ) (ns : List Name) (ss : List F
   pub flushed : x.flushed ≡ upto
   pub edits : x.edits.items ≡ written_name job.entries.items job.name ++ edits_of r ns
   pub above : (m : Name) → Contains ns m → m.kind ≡ kinds.Store → m.region ≡ r → m.number < x.next_store
-  pub next : (x.next_store ≡ 1) ⊎ ((m : Name) × Contains ns m × (x.next_store ≡ m.number + 1))
+  pub next : IsNext r ns x.next_store
 
 -- each has the entries of its edits file and nothing else yet
 pub record AreBegun (jobs : List EditsJob) (flushed : List ℕ) (xs : List RegionFiles) : Type 0 where

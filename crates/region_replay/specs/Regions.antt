@@ -1,5 +1,5 @@
 -- What stands in the files of one region.
-use Rattle.std.specs.Prelude.{◌≡◌, ◌⊎◌, ℕ, ◌<◌, ◌≤◌, ◌^◌, List, [], Contains, Option}
+use Rattle.std.specs.Prelude.{◌≡◌, ◌⊎◌, ℕ, ◌+◌, ◌<◌, ◌≤◌, ◌^◌, List, [], Contains, Option}
 use Rattle.std.specs.List.{AllByRecursion}
 use Rattle.log_model.specs.declared.name.Name.{Name}
 use Rattle.log_model.specs.declared.name.NameKind.TheVariants as kinds
@@ -47,5 +47,6 @@ pub record IsFound (files : Files) (x : RegionFiles) : Type 0 where
   pub edited : (e : Entry) → Contains x.unflushed.items e → IsEdited files e
   pub flushed : IsFlushed files x.region x.flushed
   pub next : (m : Name) → m.kind ≡ kinds.Store → m.region ≡ x.region → IsPresent files m → m.number < x.next_store
+  pub few : (n : ℕ) → ((m : Name) → m.kind ≡ kinds.Store → m.region ≡ x.region → IsPresent files m → m.number ≤ n) → x.next_store ≤ n + 1
   pub texts : (m : Name) → Contains x.edits.items m → (es : List Entry) × (ended : Option ℕ) × HasText m es ended (content files m) × ((e : Entry) → Contains es e → e.region ≡ x.region)
   pub all : (m : Name) → m.kind ≡ kinds.Edits → m.region ≡ x.region → IsPresent files m → Contains x.edits.items m

@@ -218,6 +218,7 @@ module _ (told : Type 0) (is_told : told) (v : DiskView) (true_disk : IsTrueDisk
     all_stores = all_found;
     rising = read.rising is_told;
     store_names = λ m store here. among m (λ none. here (stores_same m store ∙ none));
+    stores_stay = λ m store has none. there_of v.files m (was_there m has) (sym (stores_same m store) ∙ none);
     names_rise = subst (λ (l : List Name). AllPairs (λ a b. name_cmp a b ≡ Less) l) (sym named) (names_rise v.files);
     written = λ k d e lt has. (let long = plan.jobs.long in written (get_or jobs k d) e (Contains-get_or jobs k d (omega (arith, lt, long))) has);
     jobs_rise = λ k d lt. number_rise (k + 1) (get_or jobs k d).entries.items (λ e has. (let r = plan.jobs.each k d e lt has in r.1))

@@ -42,6 +42,7 @@ pub record AreLeft (files : Files) (x : SplitFiles) : Type 0 where
   pub all_stores : (m : Name) (s : Store) → IsStoreFile files m.region m s → (y : FoundStore) × Contains x.stores.items y × (y.name ≡ m) × (s ≡ store_of y)
   pub rising : AreInNameOrder x.stores.items
   pub store_names : (m : Name) → m.kind ≡ kinds.Store → IsPresent files m → Contains x.names m
+  pub stores_stay : (m : Name) → m.kind ≡ kinds.Store → Contains x.names m → IsPresent files m
   pub names_rise : AllPairs (λ a b. name_cmp a b ≡ Less) x.names
   pub written : (k : ℕ) (d : EditsJob) (e : Entry) → k < 64 → Contains (job_at x k d).entries.items e
       → HasText (job_at x k d).name (job_at x k d).entries.items None (content files (job_at x k d).name)
