@@ -1,18 +1,21 @@
--- How the top call ends where it only reads a log.
+-- How the top call ends, by the command that its words name.
 use Rattle.std.proofs.Common.{◌≡◌, ℕ, List, [], ◌∷◌, Option, Some, None, refl, sym, ap, subst, ◌∙◌}
 use Rattle.log_model.specs.declared.name.Name.{Name}
-use Rattle.log_model.specs.Files.{Files}
-use Rattle.load_run.specs.Words.{Word, To_show, To_dump, meaning_of}
+use Rattle.log_model.specs.declared.damage.Damage.{Damage}
+use Rattle.log_model.specs.declared.damage.Damage.TheVariants as damages
+use Rattle.log_model.specs.Files.{Files, IsSound}
+use Rattle.log_model.specs.Damage.{IsDamage}
+use Rattle.log_model.proofs.DamageLaws.{sound_undamaged}
+use Rattle.load_run.specs.Words.{Word, To_log, To_show, To_dump, To_recover, meaning_of}
 use Rattle.load_run.specs.declared.words.Word.{Word as CodeWord}
 use Rattle.load_run.specs.declared.words.Word.TheVariants as code
 use Rattle.command_ends.specs.LogFiles.{log_name, IsDamagedLog, IsLogDamage}
 use Rattle.dump_command.specs.Dumped.{IsDumped, IsDumpDamage}
-use Rattle.load_run.specs.Top.{IsDamageFor, IsReady}
-use Rattle.command_ends.specs.Status.{IsDamageOf, IsOrEarlier, IsComplete, IsReadingEnd}
+use Rattle.recover_command.specs.Recovered.{AreSized}
+use Rattle.load_run.specs.Top.{MustTell, IsReady, NeedsEmpty}
+use Rattle.command_ends.specs.Status.{IfDamaged, IfNotEmpty, IsDamageOf, IsOrEarlier, IsComplete, IsReadingEnd}
 use Rattle.command_ends.specs.declared.status.Status.{Status}
 use Rattle.command_ends.specs.declared.status.Status.TheVariants as ends
-use Rattle.command_ends.specs.declared.status.Damage.{Damage}
-use Rattle.command_ends.specs.declared.status.Damage.TheVariants as damages
 
 abbrev some_or : {A : Type 0} → A → Option A → A
 some_or a None = a
@@ -22,26 +25,85 @@ some_or a (Some b) = b
 pub word_is : (x y : CodeWord) (words : Option Word) (word : Word) → Some (meaning_of x) ≡ words → x ≡ y → words ≡ Some word → word ≡ meaning_of y
 word_is x y words word first same is = ap (some_or word) (sym is ∙ sym first) ∙ ap meaning_of same
 
+pub words_are : (x y : CodeWord) (words : Option Word) → Some (meaning_of x) ≡ words → x ≡ y → words ≡ Some (meaning_of y)
+words_are x y words first same = sym first ∙ ap (λ (w : CodeWord). Some (meaning_of w)) same
+
+-- what holds of each status holds where the store is damaged
+pub if_damaged : (status : Status) (P : Type 0) → P → IfDamaged status P
+if_damaged ends.Done P p = tt
+if_damaged ends.Memory P p = tt
+if_damaged ends.Usage P p = tt
+if_damaged (ends.Script line why) P p = tt
+if_damaged ends.SourceFault P p = tt
+if_damaged ends.DiskFault P p = tt
+if_damaged ends.SinkFault P p = tt
+if_damaged (ends.Damaged damage) P p = p
+if_damaged (ends.NotEmpty name) P p = tt
+
+pub if_damaged_then : (status : Status) (P Q : Type 0) → (P → Q) → IfDamaged status P → IfDamaged status Q
+if_damaged_then ends.Done P Q then p = tt
+if_damaged_then ends.Memory P Q then p = tt
+if_damaged_then ends.Usage P Q then p = tt
+if_damaged_then (ends.Script line why) P Q then p = tt
+if_damaged_then ends.SourceFault P Q then p = tt
+if_damaged_then ends.DiskFault P Q then p = tt
+if_damaged_then ends.SinkFault P Q then p = tt
+if_damaged_then (ends.Damaged damage) P Q then p = then p
+if_damaged_then (ends.NotEmpty name) P Q then p = tt
+
+-- a command that reads never tells that the store isn't empty
+pub never_full : (status : Status) (P : Type 0) → IsReadingEnd status → IfNotEmpty status P
+never_full ends.Done P ended = tt
+never_full ends.Memory P ended = tt
+never_full ends.Usage P ended = tt
+never_full (ends.Script line why) P ended = tt
+never_full ends.SourceFault P ended = tt
+never_full ends.DiskFault P ended = tt
+never_full ends.SinkFault P ended = tt
+never_full (ends.Damaged damage) P ended = tt
+never_full (ends.NotEmpty name) P ended = absurd ended
+
+-- `log` may
+pub may_be_full : (status : Status) (words : Option Word) → words ≡ Some To_log → IfNotEmpty status (NeedsEmpty words)
+may_be_full ends.Done words is = tt
+may_be_full ends.Memory words is = tt
+may_be_full ends.Usage words is = tt
+may_be_full (ends.Script line why) words is = tt
+may_be_full ends.SourceFault words is = tt
+may_be_full ends.DiskFault words is = tt
+may_be_full ends.SinkFault words is = tt
+may_be_full (ends.Damaged damage) words is = tt
+may_be_full (ends.NotEmpty name) words is = subst (λ (w : Option Word). NeedsEmpty w) (sym is) tt
+
 IsReported : Status → Damage → Type 0
 IsReported status damage = IsOrEarlier status (ends.Damaged damage) (ends.DiskFault ∷ [])
 
-pub show_reported : (word : Word) (status : Status) (files : Files) (damage : Damage) → word ≡ To_show → IsDamageFor word files damage
+pub show_reported : (word : Word) (status : Status) (files : Files) (damage : Damage) → word ≡ To_show → MustTell word files damage
     → ((at : ℕ) → IsDamagedLog files (log_name 1) at → IsOrEarlier status (ends.Damaged (damages.Bytes (log_name 1) at)) (ends.DiskFault ∷ []))
     → IsOrEarlier status (ends.Damaged damage) (ends.DiskFault ∷ [])
 unfolding IsReported
-show_reported word status files damage is damaged told = each damage (subst (λ (w : Word). IsDamageFor w files damage) is damaged)
+show_reported word status files damage is damaged told = each damage (subst (λ (w : Word). MustTell w files damage) is damaged)
   where
     each : (x : Damage) → IsLogDamage files (log_name 1) x → IsReported status x
     each (damages.Bytes name at) d = subst (λ (n : Name). IsReported status (damages.Bytes n at)) (sym d.0) (told at (subst (λ (n : Name). IsDamagedLog files n at) d.0 d.1))
+    each (damages.Two first second region number) d = absurd d
 
-pub dump_reported : (word : Word) (n : ℕ) (status : Status) (files : Files) (damage : Damage) → word ≡ To_dump n → IsDamageFor word files damage
+pub dump_reported : (word : Word) (n : ℕ) (status : Status) (files : Files) (damage : Damage) → word ≡ To_dump n → MustTell word files damage
     → ((name : Name) (at : ℕ) → IsDumped files n name → IsDamagedLog files name at → IsOrEarlier status (ends.Damaged (damages.Bytes name at)) (ends.DiskFault ∷ []))
     → IsOrEarlier status (ends.Damaged damage) (ends.DiskFault ∷ [])
 unfolding IsReported
-dump_reported word n status files damage is damaged told = each damage (subst (λ (w : Word). IsDamageFor w files damage) is damaged)
+dump_reported word n status files damage is damaged told = each damage (subst (λ (w : Word). MustTell w files damage) is damaged)
   where
     each : (x : Damage) → IsDumpDamage n files x → IsReported status x
     each (damages.Bytes name at) d = told name at d.0 d.1
+    each (damages.Two first second region number) d = absurd d
+
+pub recover_reported : (word : Word) (status : Status) (files : Files) (damage : Damage) → word ≡ To_recover → MustTell word files damage
+    → ((damage : Damage) → (¬ IsSound files) → IsDamage files damage → IsOrEarlier status (ends.Damaged damage) (ends.DiskFault ∷ []))
+    → IsOrEarlier status (ends.Damaged damage) (ends.DiskFault ∷ [])
+recover_reported word status files damage is damaged told =
+    let must : MustTell To_recover files damage = subst (λ (w : Word). MustTell w files damage) is damaged in
+    told damage must.0 must.1
 
 -- of a command that only reads: without a fault, and where nothing that it reads is damaged, it is done
 reader_done : (status : Status) (P : Damage → Type 0) (d k : Type 0) → IsReadingEnd status → IsDamageOf status P → (status ≡ ends.DiskFault → d) → (status ≡ ends.SinkFault → k)
@@ -57,9 +119,11 @@ reader_done (ends.Damaged x) P d k ended damage disk sink sound no_disk no_sink 
 reader_done (ends.NotEmpty name) P d k ended damage disk sink sound no_disk no_sink = absurd ended
 
 sound_log : (files : Files) (name : Name) → ((at : ℕ) → IsDamagedLog files name at → ⊥) → (damage : Damage) → IsLogDamage files name damage → ⊥
+sound_log files name sound (damages.Two first second region number) damage = damage
 sound_log files name sound (damages.Bytes n at) damage = sound at (subst (λ (m : Name). IsDamagedLog files m at) damage.0 damage.1)
 
 sound_dump : (files : Files) (n : ℕ) → ((name : Name) (at : ℕ) → IsDumped files n name → IsDamagedLog files name at → ⊥) → (damage : Damage) → IsDumpDamage n files damage → ⊥
+sound_dump files n sound (damages.Two first second region number) damage = damage
 sound_dump files n sound (damages.Bytes name at) damage = sound name at damage.0 damage.1
 
 pub show_complete : (word : Word) (status : Status) (script : List ℕ) (files : Files) (d k : Type 0) → word ≡ To_show → IsReadingEnd status → IsDamageOf status (IsLogDamage files (log_name 1))
@@ -71,3 +135,9 @@ pub dump_complete : (word : Word) (n : ℕ) (status : Status) (script : List ℕ
     → (status ≡ ends.DiskFault → d) → (status ≡ ends.SinkFault → k) → IsReady word script files → (d → ⊥) → (k → ⊥) → IsComplete status
 dump_complete word n status script files d k is ended damage disk sink ready no_disk no_sink =
     reader_done status (IsDumpDamage n files) d k ended damage disk sink (sound_dump files n (subst (λ (w : Word). IsReady w script files) is ready)) no_disk no_sink
+
+pub recover_complete : (word : Word) (status : Status) (script : List ℕ) (files : Files) (d k : Type 0) → word ≡ To_recover → IsReadingEnd status → IsDamageOf status (IsDamage files)
+    → (status ≡ ends.DiskFault → d) → (status ≡ ends.SinkFault → k) → IsReady word script files → (d → ⊥) → (k → ⊥) → IsComplete status
+recover_complete word status script files d k is ended damage disk sink ready no_disk no_sink =
+    let wanted : IsReady To_recover script files = subst (λ (w : Word). IsReady w script files) is ready in
+    reader_done status (IsDamage files) d k ended damage disk sink (λ x told. (sound_undamaged files wanted.1 wanted.0).2 x told) no_disk no_sink
