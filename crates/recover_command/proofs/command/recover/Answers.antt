@@ -43,7 +43,7 @@ returns-in-Err-clause-ends g c told taken script =
     let had = g.K.Sink.taken c.args.out.now in
     let has = g.K.Sink.taken c.refuse.new.sink in
     subst (λ (s : Status). EndsRecover s (invocation script before after had has) (Rose (g.D.Disk.faults c.args.disk.now) (g.D.Disk.faults c.recover_all.new.disk))
-        (Rose (g.K.Sink.faults c.args.out.now) (g.K.Sink.faults c.refuse.new.sink))) (sym (c.refuse.ensures.status ∙ c.status_of.ensures))
+    (Rose (g.K.Sink.faults c.args.out.now) (g.K.Sink.faults c.refuse.new.sink))) (sym (c.refuse.ensures.status ∙ c.status_of.ensures))
     (refused_ends c.in-Err.refusal script had has before after _ _ (opens_again before after (c.in-Err.ensures.any_moment told))
     (λ text line. c.refuse.ensures.prints taken text (ap refusal_line c.status_of.ensures ∙ line)))
 
