@@ -29,7 +29,7 @@ neither_below R total a b not_a not_b = go (R a b) refl
     go : (o : Ordering) → R a b ≡ o → R a b ≡ Equal
     go Less is = absurd (not_a is)
     go Equal is = is
-    go Greater is = absurd (not_b (total.antisymm a b ∙ ap ordering_reverse is))
+    go Greater is = absurd (not_b (total.antisymm b a ∙ ap ordering_reverse is))
 
 one_name : (a b : Name) → name_cmp a b ≢ Less → name_cmp b a ≢ Less → a ≡ b
 one_name a b not_a not_b = name_cmp_exact a b (neither_below name_cmp name_cmp_total a b not_a not_b)

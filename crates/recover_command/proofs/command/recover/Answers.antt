@@ -1,4 +1,4 @@
-use Rattle.std.proofs.Common.{sym, ap, subst, ◌≡◌, ◌∙◌, ◌∷◌, [], List, ℕ}
+use Rattle.std.proofs.Common.{Err, sym, ap, subst, ◌≡◌, ◌∙◌, ◌∷◌, [], List, ℕ}
 use Rattle.log_model.specs.declared.damage.Damage.{Damage}
 use Rattle.log_model.specs.Damage.{IsDamage}
 use Rattle.disk_images.specs.Calls.{Rose}
@@ -52,7 +52,7 @@ returns-in-Err-clause-any_moment g c told = ∣ c.in-Err.ensures.any_moment told
 
 pub returns-in-Err-clause-damage_leaves : goal.returns-in-Err-clause-damage_leaves
 returns-in-Err-clause-damage_leaves g c told =
-    subst (λ (s : Status). IfDamaged s _) (sym (c.refuse.ensures.status ∙ c.status_of.ensures)) (leaves_refused c.in-Err.refusal _ _ (λ d h. h.1) (c.in-Err.ensures.damaged told))
+    subst (λ (s : Status). IfDamaged s ((g.D.Disk.view c.recover_all.new.disk).files ≡ (g.D.Disk.view c.args.disk.now).files)) (sym (c.refuse.ensures.status ∙ c.status_of.ensures)) (leaves_refused c.in-Err.refusal _ _ (λ d h. h.1) (c.in-Err.ensures.damaged told))
 
 pub returns-in-Err-clause-status : goal.returns-in-Err-clause-status
 returns-in-Err-clause-status g c = subst IsReadingEnd (sym (c.refuse.ensures.status ∙ c.status_of.ensures)) (reads_refused c.in-Err.refusal)
@@ -69,4 +69,4 @@ returns-in-Err-clause-damaged g c told damage not is =
     (damaged_refused c.in-Err.refusal files _ damage (λ d h. h.0) (c.in-Err.ensures.damaged told) is)
 
 pub returns-in-Err-clause-disk_cause : goal.returns-in-Err-clause-disk_cause
-returns-in-Err-clause-disk_cause g c is = c.recover_all.ensures.cause.risen (fault_refused c.in-Err.refusal (sym (c.refuse.ensures.status ∙ c.status_of.ensures) ∙ is))
+returns-in-Err-clause-disk_cause g c is = c.in-Err.ensures.cause.risen (ap Err (fault_refused c.in-Err.refusal (sym (c.refuse.ensures.status ∙ c.status_of.ensures) ∙ is)))
