@@ -3,17 +3,18 @@ use Rattle.std.proofs.Common.{◌≡◌, ℕ, List, [], ◌∷◌, Option, Some,
 use Rattle.log_model.specs.declared.name.Name.{Name}
 use Rattle.log_model.specs.declared.damage.Damage.{Damage}
 use Rattle.log_model.specs.declared.damage.Damage.TheVariants as damages
-use Rattle.log_model.specs.Files.{Files, IsSound}
+use Rattle.log_model.specs.Files.{Files}
 use Rattle.log_model.specs.Damage.{IsDamage}
 use Rattle.log_model.proofs.DamageLaws.{sound_undamaged}
-use Rattle.load_run.specs.Words.{Word, To_log, To_show, To_dump, To_recover, meaning_of}
+use Rattle.load_run.specs.Words.{Word, To_show, To_dump, To_recover, meaning_of}
 use Rattle.load_run.specs.declared.words.Word.{Word as CodeWord}
 use Rattle.load_run.specs.declared.words.Word.TheVariants as code
+use Rattle.disk_images.specs.Crash.{DiskView}
+use Rattle.command_ends.specs.Invocation.{AtEachMoment}
 use Rattle.command_ends.specs.LogFiles.{log_name, IsDamagedLog, IsLogDamage}
 use Rattle.dump_command.specs.Dumped.{IsDumped, IsDumpDamage}
-use Rattle.recover_command.specs.Recovered.{AreSized}
-use Rattle.load_run.specs.Top.{MustTell, IsReady, NeedsEmpty}
-use Rattle.command_ends.specs.Status.{IfDamaged, IfNotEmpty, IsDamageOf, IsOrEarlier, IsComplete, IsReadingEnd}
+use Rattle.load_run.specs.Top.{MustTell, IsReady, MayLeave}
+use Rattle.command_ends.specs.Status.{IsDamageOf, IsOrEarlier, IsComplete, IsReadingEnd}
 use Rattle.command_ends.specs.declared.status.Status.{Status}
 use Rattle.command_ends.specs.declared.status.Status.TheVariants as ends
 
@@ -28,52 +29,9 @@ word_is x y words word first same is = ap (some_or word) (sym is ∙ sym first) 
 pub words_are : (x y : CodeWord) (words : Option Word) → Some (meaning_of x) ≡ words → x ≡ y → words ≡ Some (meaning_of y)
 words_are x y words first same = sym first ∙ ap (λ (w : CodeWord). Some (meaning_of w)) same
 
--- what holds of each status holds where the store is damaged
-pub if_damaged : (status : Status) (P : Type 0) → P → IfDamaged status P
-if_damaged ends.Done P p = tt
-if_damaged ends.Memory P p = tt
-if_damaged ends.Usage P p = tt
-if_damaged (ends.Script line why) P p = tt
-if_damaged ends.SourceFault P p = tt
-if_damaged ends.DiskFault P p = tt
-if_damaged ends.SinkFault P p = tt
-if_damaged (ends.Damaged damage) P p = p
-if_damaged (ends.NotEmpty name) P p = tt
-
-pub if_damaged_then : (status : Status) (P Q : Type 0) → (P → Q) → IfDamaged status P → IfDamaged status Q
-if_damaged_then ends.Done P Q then p = tt
-if_damaged_then ends.Memory P Q then p = tt
-if_damaged_then ends.Usage P Q then p = tt
-if_damaged_then (ends.Script line why) P Q then p = tt
-if_damaged_then ends.SourceFault P Q then p = tt
-if_damaged_then ends.DiskFault P Q then p = tt
-if_damaged_then ends.SinkFault P Q then p = tt
-if_damaged_then (ends.Damaged damage) P Q then p = then p
-if_damaged_then (ends.NotEmpty name) P Q then p = tt
-
--- a command that reads never tells that the store isn't empty
-pub never_full : (status : Status) (P : Type 0) → IsReadingEnd status → IfNotEmpty status P
-never_full ends.Done P ended = tt
-never_full ends.Memory P ended = tt
-never_full ends.Usage P ended = tt
-never_full (ends.Script line why) P ended = tt
-never_full ends.SourceFault P ended = tt
-never_full ends.DiskFault P ended = tt
-never_full ends.SinkFault P ended = tt
-never_full (ends.Damaged damage) P ended = tt
-never_full (ends.NotEmpty name) P ended = absurd ended
-
--- `log` may
-pub may_be_full : (status : Status) (words : Option Word) → words ≡ Some To_log → IfNotEmpty status (NeedsEmpty words)
-may_be_full ends.Done words is = tt
-may_be_full ends.Memory words is = tt
-may_be_full ends.Usage words is = tt
-may_be_full (ends.Script line why) words is = tt
-may_be_full ends.SourceFault words is = tt
-may_be_full ends.DiskFault words is = tt
-may_be_full ends.SinkFault words is = tt
-may_be_full (ends.Damaged damage) words is = tt
-may_be_full (ends.NotEmpty name) words is = subst (λ (w : Option Word). NeedsEmpty w) (sym is) tt
+-- what may stand at each moment, for the command that was read
+pub moments_of : (words command : Option Word) (script : List ℕ) (v w : DiskView) → words ≡ command → AtEachMoment (MayLeave command script v) v w → AtEachMoment (MayLeave words script v) v w
+moments_of words command script v w is over = subst (λ (o : Option Word). AtEachMoment (MayLeave o script v) v w) (sym is) over
 
 IsReported : Status → Damage → Type 0
 IsReported status damage = IsOrEarlier status (ends.Damaged damage) (ends.DiskFault ∷ [])
@@ -98,14 +56,7 @@ dump_reported word n status files damage is damaged told = each damage (subst (�
     each (damages.Bytes name at) d = told name at d.0 d.1
     each (damages.Two first second region number) d = absurd d
 
-pub recover_reported : (word : Word) (status : Status) (files : Files) (damage : Damage) → word ≡ To_recover → MustTell word files damage
-    → ((damage : Damage) → (¬ IsSound files) → IsDamage files damage → IsOrEarlier status (ends.Damaged damage) (ends.DiskFault ∷ []))
-    → IsOrEarlier status (ends.Damaged damage) (ends.DiskFault ∷ [])
-recover_reported word status files damage is damaged told =
-    let must : MustTell To_recover files damage = subst (λ (w : Word). MustTell w files damage) is damaged in
-    told damage must.0 must.1
-
--- of a command that only reads: without a fault, and where nothing that it reads is damaged, it is done
+-- of a command without a script: without a fault, and where nothing that it reads is damaged, it is done
 reader_done : (status : Status) (P : Damage → Type 0) (d k : Type 0) → IsReadingEnd status → IsDamageOf status P → (status ≡ ends.DiskFault → d) → (status ≡ ends.SinkFault → k)
     → ((damage : Damage) → P damage → ⊥) → (d → ⊥) → (k → ⊥) → IsComplete status
 reader_done ends.Done P d k ended damage disk sink sound no_disk no_sink = tt
