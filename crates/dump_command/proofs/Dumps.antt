@@ -1,6 +1,6 @@
 -- Which file is found for a number, what is damaged of it, and what is printed.
 use Rattle.std.specs.Fmt.{digits}
-use Rattle.std.proofs.Common.{codes, ◌≡◌, ℕ, List, [], ◌∷◌, Option, Some, None, Result, Ok, Err, inl, inr, refl, sym, ap, subst, ◌∙◌, arith}
+use Rattle.std.proofs.Common.{codes, ◌≡◌, ℕ, List, [], ◌∷◌, Option, Some, None, Result, inl, inr, refl, sym, ap, subst, ◌∙◌, arith}
 use Rattle.log_model.specs.declared.name.Name.{Name}
 use Rattle.log_model.specs.declared.damage.Damage.{Damage}
 use Rattle.log_model.specs.declared.damage.Damage.TheVariants.{Bytes, Two}

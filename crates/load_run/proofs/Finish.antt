@@ -8,7 +8,6 @@ use Rattle.log_model.specs.Damage.{IsDamage}
 use Rattle.log_model.proofs.DamageLaws.{sound_undamaged}
 use Rattle.load_run.specs.Words.{Word, To_show, To_dump, To_recover, meaning_of}
 use Rattle.load_run.specs.declared.words.Word.{Word as CodeWord}
-use Rattle.load_run.specs.declared.words.Word.TheVariants as code
 use Rattle.disk_images.specs.Crash.{DiskView}
 use Rattle.command_ends.specs.Invocation.{AtEachMoment}
 use Rattle.command_ends.specs.LogFiles.{log_name, IsDamagedLog, IsLogDamage}

@@ -1,6 +1,5 @@
 -- What a disk on which a store was opened leaves.
 use Rattle.std.proofs.Common.{◌≡◌, ℕ, suc, ◌+◌, List, [], ◌∷◌, length, inl, inr, refl, sym, ◌∙◌}
-use Rattle.log_model.specs.declared.name.Name.{Name}
 use Rattle.log_model.specs.declared.name.NameKind.{NameKind}
 use Rattle.log_model.specs.declared.name.NameKind.TheVariants as kinds
 use Rattle.log_model.specs.Files.{Files, content, IsSound}
@@ -12,10 +11,10 @@ use Rattle.wal_split.specs.Moments.{During, WasOrAlike}
 use Rattle.region_replay.specs.Cleared.{IsReady}
 use Rattle.region_replay.specs.Ready.{Found}
 use Rattle.region_replay.specs.Opened.{AreOf}
-use Rattle.recover_command.specs.Lines.{line_of, lines_from}
+use Rattle.recover_command.specs.Lines.{lines_from}
 use Rattle.script_model.specs.Outputs.{recover_text}
 use Rattle.command_ends.specs.Invocation.{invocation}
-use Rattle.recover_command.specs.Recovered.{AreRecoveredLines, IsRecoveredLine, RecoverDone}
+use Rattle.recover_command.specs.Recovered.{AreRecoveredLines, RecoverDone}
 
 -- ---- images
 

@@ -1,10 +1,10 @@
 -- What shows first that files aren't sound is one damage.
-use Rattle.std.proofs.Common.{◌≡◌, ◌≢◌, ◌⊎◌, inl, inr, ℕ, List, Some, refl, sym, ap, ◌∙◌, subst}
+use Rattle.std.proofs.Common.{◌≡◌, ◌≢◌, inl, inr, ℕ, List, Some, refl, sym, ap, ◌∙◌, subst}
 use Rattle.std.specs.declared.cmp.Ordering.{Ordering}
 use Rattle.std.specs.declared.cmp.Ordering.TheVariants.{Less, Equal, Greater}
 use Rattle.std.specs.Ordering.{nat_cmp, ordering_reverse}
 use Rattle.std.specs.Cmp.{IsTotalOrder}
-use Rattle.std.specs.FinMap.{get, IsAntisymmetric, nat_cmp-IsAntisymmetric}
+use Rattle.std.specs.FinMap.{get, nat_cmp-IsAntisymmetric}
 use Rattle.std.proofs.lemmas.Cmp.{nat_cmp_total, on_total, then_total}
 use Rattle.cell_model.proofs.OrderLaws.{then_ties}
 use Rattle.log_model.specs.declared.name.Name.{Name}
@@ -15,7 +15,7 @@ use Rattle.log_model.specs.declared.damage.Damage.TheVariants as damages
 use Rattle.log_model.specs.LogText.{IsDamaged}
 use Rattle.log_model.specs.StoreText.{IsStoreDamaged}
 use Rattle.log_model.specs.Files.{Files, HoldsEntries, key_of, name_cmp}
-use Rattle.log_model.specs.Damage.{HasDamage, IsDamagedFile, IsFirstDamage, IsDamage, Disagreement, IsFirstDisagreement, disagreement_cmp}
+use Rattle.log_model.specs.Damage.{HasDamage, IsDamagedFile, IsFirstDamage, Disagreement, IsFirstDisagreement, disagreement_cmp}
 use Rattle.log_model.specs.Damage.HasDamage.{Logged, Stored}
 use Rattle.log_model.proofs.NameLaws.{name_cmp_total, name_cmp_exact}
 use Rattle.log_model.proofs.TextLaws.{one_damage}

@@ -7,7 +7,7 @@ use Rattle.disk_images.specs.Crash.{DiskView}
 use Rattle.found_files.specs.declared.refusal.SplitRefusal.{SplitRefusal}
 use Rattle.found_files.specs.declared.refusal.SplitRefusal.TheVariants as refusals
 use Rattle.script_model.specs.Outputs.{refused_memory, refused_disk}
-use Rattle.command_ends.specs.Invocation.{invocation, taken_of}
+use Rattle.command_ends.specs.Invocation.{invocation}
 use Rattle.command_ends.specs.Prints.{Prints}
 use Rattle.found_files.specs.Refusal.{IfDamage}
 use Rattle.region_replay.specs.Ready.{Found}
