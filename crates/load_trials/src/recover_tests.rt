@@ -1,8 +1,12 @@
-use crate::log_tests::{LOG_1, ONE_PUT_LOG, call};
+use crate::log_tests::{LOG_1, NOTHING, ONE_PUT_LOG, call};
 use disk_fakes::{CallKind, Fail, MemDisk};
 use disk_images::{Disk, Name, NameKind};
 use load_run::Status;
+use std::alloc::Global;
+use std::process::Abort;
+use std::sync::Wait;
 use std::test::Fail as TestFail;
+use std::thread::Threads;
 
 const LOG_2: Name = Name {
     kind: NameKind::Log,
@@ -41,7 +45,7 @@ const EDITS_1_2: Name = Name {
 };
 
 /// Adds a file that no crash loses.
-fn add(rt: &HostRuntime, disk: &mut MemDisk, name: Name, bytes: &[u8]) -> Result<(), TestFail> {
+fn add<R: Abort>(rt: &R, disk: &mut MemDisk, name: Name, bytes: &[u8]) -> Result<(), TestFail> {
     assert!(rt; !bytes.is_empty());
     assert!(rt; name.region == 0 || matches!(name.kind, NameKind::Store | NameKind::Edits));
     disk.settle()?;
@@ -74,7 +78,7 @@ fn two_regions() -> [u8; 125] {
 const BOTH: &[u8] = b"recovered 1 1 1\nrecovered 2 1 1\nend 0\n";
 
 /// A store whose opening was stopped when the edits of region 1 were written, and those of region 2 were not.
-fn stopped(rt: &HostRuntime, fails: &[Fail]) -> Result<MemDisk, TestFail> {
+fn stopped<R: AllocGlobal + Abort>(rt: &R, fails: &[Fail]) -> Result<MemDisk, TestFail> {
     let mut disk = MemDisk::new(rt.alloc(), fails)?;
     add(rt, &mut disk, LOG_1, &two_regions())?;
     add(rt, &mut disk, EDITS_1_2, &one_entry(2, b'v'))?;
@@ -83,8 +87,8 @@ fn stopped(rt: &HostRuntime, fails: &[Fail]) -> Result<MemDisk, TestFail> {
 }
 
 /// Whether the disk has these names and no other.
-fn has_names(rt: &HostRuntime, disk: &mut MemDisk, names: &[Name]) -> Result<bool, TestFail> {
-    let found = disk.names(rt.alloc())?;
+fn has_names(alloc: Global, disk: &mut MemDisk, names: &[Name]) -> Result<bool, TestFail> {
+    let found = disk.names(alloc)?;
     Ok(found.as_slice() == names)
 }
 
@@ -94,10 +98,10 @@ fn a_second_opening_ends_what_the_first_began(rt: HostRuntime) -> Result<(), Tes
     let (mut recovered, out) = call(&rt, "recover", b"", disk)?;
     assert_eq!(rt; recovered.status, Status::Done);
     assert_eq!(rt; out.as_slice(), BOTH);
-    assert!(rt; has_names(&rt, &mut recovered.disk, &[OLD_1, STORE_1, STORE_2])?);
+    assert!(rt; has_names(rt.alloc(), &mut recovered.disk, &[OLD_1, STORE_1, STORE_2])?);
     let (mut again, out) = call(&rt, "recover", b"", recovered.disk)?;
     assert_eq!(rt; out.as_slice(), BOTH);
-    assert!(rt; has_names(&rt, &mut again.disk, &[OLD_1, STORE_1, STORE_2])?);
+    assert!(rt; has_names(rt.alloc(), &mut again.disk, &[OLD_1, STORE_1, STORE_2])?);
     Ok(())
 }
 
@@ -106,7 +110,9 @@ fn stopped_at_each_moment_it_recovers_to_the_same(rt: HostRuntime) -> Result<(),
     let disk = stopped(&rt, &[])?;
     let from = disk.clock();
     let (recovered, _) = call(&rt, "recover", b"", disk)?;
-    for moment in from..recovered.disk.clock() + 1 {
+    let last = recovered.disk.clock();
+    assert!(rt; last < 1_000);
+    for moment in from..last + 1 {
         for choice in 0..4 {
             let image = recovered.disk.crash(rt.alloc(), moment, choice)?;
             let (again, out) = call(&rt, "recover", b"", image)?;
@@ -131,14 +137,18 @@ const CALLS: [(CallKind, u64); 9] = [
 ];
 
 /// Where this call fails in an opening, it is told, and the next opening ends what was begun.
-fn fails_once(rt: &HostRuntime, kind: CallKind, nth: u64) -> Result<(), TestFail> {
+fn fails_once<R: Threads + Wait + Sync + AllocGlobal + Abort>(
+    rt: &R,
+    kind: CallKind,
+    nth: u64,
+) -> Result<(), TestFail> {
     let disk = stopped(rt, &[Fail { call: kind, nth }])?;
     let (recovered, out) = call(rt, "recover", b"", disk)?;
     if recovered.disk.calls(kind) < nth {
         return Ok(());
     }
     assert_eq!(rt; recovered.status, Status::DiskFault);
-    assert!(rt; out.as_slice() == b"refused disk\n", "{kind:?} {nth}");
+    assert!(rt; out.as_slice() == NOTHING, "{kind:?} {nth}");
     let (_, again) = call(rt, "recover", b"", recovered.disk)?;
     assert!(rt; again.as_slice() == BOTH, "{kind:?} {nth}");
     Ok(())
@@ -163,7 +173,7 @@ fn two_logs_with_one_entry(rt: HostRuntime) -> Result<(), TestFail> {
     let (mut recovered, out) = call(&rt, "recover", b"", disk)?;
     assert_eq!(rt; recovered.status, Status::Done);
     assert_eq!(rt; out.as_slice(), b"recovered 1 1 1\nend 0\n".as_slice());
-    assert!(rt; has_names(&rt, &mut recovered.disk, &[OLD_1, OLD_2, STORE_1])?);
+    assert!(rt; has_names(rt.alloc(), &mut recovered.disk, &[OLD_1, OLD_2, STORE_1])?);
     Ok(())
 }
 
@@ -178,7 +188,7 @@ fn two_logs_that_disagree(rt: HostRuntime) -> Result<(), TestFail> {
         out.as_slice(),
         b"refused disagree log-1 log-2 1 1\n".as_slice()
     );
-    assert!(rt; has_names(&rt, &mut recovered.disk, &[LOG_1, LOG_2])?);
+    assert!(rt; has_names(rt.alloc(), &mut recovered.disk, &[LOG_1, LOG_2])?);
     Ok(())
 }
 
@@ -212,7 +222,7 @@ fn damage_is_told_and_nothing_changed(rt: HostRuntime) -> Result<(), TestFail> {
         add(&rt, &mut disk, name, &ONE_PUT_LOG[..count])?;
         let (mut recovered, out) = call(&rt, "recover", b"", disk)?;
         assert!(rt; out.as_slice() == text.as_bytes(), "{text}");
-        assert!(rt; has_names(&rt, &mut recovered.disk, &[name])?);
+        assert!(rt; has_names(rt.alloc(), &mut recovered.disk, &[name])?);
     }
     Ok(())
 }
