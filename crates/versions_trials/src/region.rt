@@ -109,12 +109,13 @@ pub(crate) fn show_next<N: Naming, W: Wait + Drop>(
     })
 }
 
-/// A region that shows its first version, and two that view it.
+/// A region that shows its first version, and three that view it.
 #[derive(Drop)]
 pub(crate) struct Beginners<N: Naming, W: Wait + Drop> {
     pub(crate) region: Region<N, W>,
     pub(crate) one: Viewer<N>,
     pub(crate) two: Viewer<N>,
+    pub(crate) idle: Viewer<N>,
 }
 
 /// Shows the first version of an empty region.
@@ -134,9 +135,9 @@ pub(crate) fn begin<N: Naming, W: Wait + Drop>(
     let VersionParts {
         shower,
         mut viewers,
-    } = versions::<N, W>(rt, alloc, first, history.front(), 2)?;
-    let (Some(one), Some(two)) = (viewers.next(), viewers.next()) else {
-        return Err(Fail::from("two viewers"));
+    } = versions::<N, W>(rt, alloc, first, history.front(), 3)?;
+    let (Some(one), Some(two), Some(idle)) = (viewers.next(), viewers.next(), viewers.next()) else {
+        return Err(Fail::from("three viewers"));
     };
     let region = Region {
         state,
@@ -145,5 +146,10 @@ pub(crate) fn begin<N: Naming, W: Wait + Drop>(
         alloc,
         batch,
     };
-    Ok(Beginners { region, one, two })
+    Ok(Beginners {
+        region,
+        one,
+        two,
+        idle,
+    })
 }

@@ -55,12 +55,14 @@ fn view_both<N: Naming + Send + Sync, R: Threads + Sync>(
 /// Shows in one thread, and views in two.
 fn show_and_view<N: Naming + Send + Sync, R: Threads + Sync, W: Wait + Drop + Send>(
     rt: &R,
-    beginners: Beginners<N, W>,
+    region: Region<N, W>,
+    one: Viewer<N>,
+    two: Viewer<N>,
 ) -> (Result<Region<N, W>, NoMemory>, Viewed<N>) {
-    let Beginners { region, one, two } = beginners;
     join(rt, || show_three(region), || view_both(rt, one, two))
 }
 
+/// Nothing is told to a viewer, so that it finds the third version by its own looks alone.
 fn run<N: Naming + Send + Sync, R: Threads + Wait + Abort + Sync>(
     rt: &R,
     alloc: Global,
@@ -71,12 +73,18 @@ fn run<N: Naming + Send + Sync, R: Threads + Wait + Abort + Sync>(
     requires base { state.base ≡ N.base 1 }
     requires lines { state.lines ≡ [] }
 {
-    let beginners = begin::<N, &R>(rt, alloc, opened, state)?;
-    let (shown, ((mut one, one_fell), (mut two, two_fell))) = show_and_view(rt, beginners);
+    let Beginners {
+        region,
+        one,
+        two,
+        mut idle,
+    } = begin::<N, &R>(rt, alloc, opened, state)?;
+    let (shown, ((mut one, one_fell), (mut two, two_fell))) = show_and_view(rt, region, one, two);
     assert!(rt; shown.is_ok());
     assert_eq!(rt; (one_fell, two_fell), (false, false));
     assert_eq!(rt; (one.view()?.point(), two.view()?.point()), (3, 3));
     assert_eq!(rt; (one.point(), two.seen()), (3, 3));
+    assert_eq!(rt; (idle.seen(), idle.point(), idle.seen()), (0, 3, 3));
     drop(shown);
     Ok(())
 }
