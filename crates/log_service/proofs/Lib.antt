@@ -13,3 +13,4 @@ pub mod IdlePasses
 pub mod Popped
 pub mod Bounds
 pub mod FilesLeft
+pub mod Crossing

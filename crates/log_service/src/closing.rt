@@ -56,7 +56,6 @@ impl<D: Disk, N: Naming> LogService<D, N> {
         let LogService {
             ring,
             hand,
-            mut idle,
             consumer,
             device,
             regions: _,
@@ -72,7 +71,7 @@ impl<D: Disk, N: Naming> LogService<D, N> {
             broken: _,
         } = device.close(devices);
         settle_items(rt, &ring, &passes, &hand, &mut mover, &mut committer);
-        let (items, pass) = mover.into_passes();
+        let (items, pass, mut idle) = mover.into_passes();
         idle.put_back(pass);
         settle_loads(rt, &hand, &idle, &mut committer);
         let (device, loads) = committer.into_parts();

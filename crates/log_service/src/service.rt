@@ -11,7 +11,7 @@ use crate::consumer::ConsumerHalf;
 use crate::item::Item;
 use crate::load::Load;
 use crate::name::Naming;
-use append_ring::{Full, Ring, RingPass, RingPasses};
+use append_ring::{Full, Ring, RingPass};
 use disk_images::Disk;
 use log_berth::Berth;
 use std::marker::Model;
@@ -21,8 +21,6 @@ use std::sync::Wait;
 pub struct LogService<D: Disk, N: Naming> {
     pub(crate) ring: Ring<Item>,
     pub(crate) hand: Ring<Load>,
-    // The passes of the ring of loads that are never used: all loads are of region 1.
-    pub(crate) idle: RingPasses<Load>,
     pub(crate) consumer: Berth<ConsumerHalf<N>>,
     pub(crate) device: Berth<DeviceHalf<D, N>>,
     pub(crate) regions: u32,
@@ -30,7 +28,6 @@ pub struct LogService<D: Disk, N: Naming> {
 
 impl<D: Disk, N: Naming> Model for LogService<D, N> {
     ghost use Rattle.std.specs.Prelude.{◌≡◌, ◌*◌, ◌≤◌, length};
-    ghost use Rattle.append_ring.specs.Parts.{AreNewAfter};
     ghost use Rattle.log_service.specs.Places.{Place};
 
     ghost Value = { Place };
@@ -46,7 +43,7 @@ impl<D: Disk, N: Naming> Model for LogService<D, N> {
 
     ghost invariant = { λ s. (s.ring.id ≡ N.ring) × (s.hand.id ≡ N.hand) × (s.ring.capacity ≡ 1024) × (s.hand.capacity ≡ 2)
         × (s.consumer.regions ≡ 1) × (s.device.regions ≡ 3 * s.regions) × (s.regions ≡ length N.lasts) × (s.regions ≤ 64)
-        × (s.consumer.seats ≡ s.device.seats) × (AreNewAfter N.hand N.lasts 0 1 s.idle × (length s.idle ≡ length N.lasts)) };
+        × (s.consumer.seats ≡ s.device.seats) };
 }
 
 impl<D: Disk, N: Naming> LogService<D, N> {

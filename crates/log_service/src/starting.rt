@@ -1,7 +1,7 @@
 //! How a service is started: first its rings, without a name, and then the service, over a name that names them.
 ghost use Rattle.std.specs.Prelude.{◌≡◌, ◌<◌, ◌≤◌, ◌*◌, ℕ, [], length, replicate, IsTrue, IfOk, IfErr};
 ghost use Rattle.crossbeam_queue.specs.Passes.{view};
-ghost use Rattle.append_ring.specs.Parts.{IsNew};
+ghost use Rattle.append_ring.specs.Parts.{IsNew, AreNewAfter};
 ghost use Rattle.log_berth.specs.Words.{starts};
 ghost use Rattle.log_berth.specs.Standing.{fresh};
 ghost use Rattle.log_ledger.specs.History.{History};
@@ -63,16 +63,22 @@ impl Rings {
 }
 
 /// The consumer's half at the start.
-fn first_half<N: Naming>(consumer: ConsumerPass<Item>, hand: RingPass<Load>) -> ConsumerHalf<N>
+fn first_half<N: Naming>(
+    consumer: ConsumerPass<Item>,
+    hand: RingPass<Load>,
+    idle: RingPasses<Load>,
+) -> ConsumerHalf<N>
     requires ring { consumer.pass.table_id ≡ N.ring }
     requires consumer { ((view consumer.pass).lasts ≡ N.lasts) × ((view consumer.pass).popped ≡ []) }
     requires hand { IsNew N.hand N.lasts 1 hand }
+    requires idle { AreNewAfter N.hand N.lasts 0 1 idle × (length idle ≡ length N.lasts) }
 {
     ConsumerHalf {
         consumer,
         load: Load::new(),
         held: None,
         hand,
+        idle,
         asked: false,
         of: PhantomData,
     }
@@ -136,7 +142,7 @@ impl<D: Disk, N: Naming> LogService<D, N> {
         let Some(hand) = idle.next() else {
             unreachable!()
         };
-        let mover = first_half(items.consumer, hand);
+        let mover = first_half(items.consumer, hand, idle);
         let Ok(
             BerthParts {
                 berth: consumer,
@@ -157,7 +163,6 @@ impl<D: Disk, N: Naming> LogService<D, N> {
                 service: LogService {
                     ring: items.ring,
                     hand: loads.ring,
-                    idle,
                     consumer,
                     device: berth,
                     regions,

@@ -27,6 +27,7 @@ invariant_of-self-2 g c =
     record {
       ring = (c.in-Some.ensures.same ∙ s.ring.0, ap (λ v. v.lasts) got.now ∙ s.ring.1);
       to = s.to;
+      rest = s.rest;
       tie = tie_popped pushed s.load popped x tie ∙ ap appended (sym more);
       spelled = spelled_both s.load (appended (x ∷ [])) (spelled_front s.load (appended (held_in s.held)) s.spelled) (item_spelled x got.good.0);
       alone = λ truck is. (subst IsWholeItem (same_Some x (items.Append truck) is) got.good.0).1;
