@@ -5,5 +5,6 @@ pub mod Shows
 pub mod Knowns
 pub mod PutLaws
 pub mod FlushLaws
+pub mod ScanLaws
 pub mod Lifts
 pub mod Meeting

@@ -18,6 +18,7 @@ use Rattle.log_service.specs.declared.item.Item.{Item}
 use Rattle.log_service.specs.declared.item.Item.TheVariants as items
 use Rattle.log_service.specs.Items.{appended, number_of}
 use Rattle.log_service.specs.Trucks.{IsSpelled}
+use Rattle.log_service.specs.Moves.{HadItems}
 use Rattle.log_service.proofs.Committed.{held_append}
 use Rattle.region_lock.specs.declared.job.Job.{Job}
 use Rattle.region_lock.specs.Jobs.{IsJob, entry_under}
@@ -220,7 +221,7 @@ last_is xs x d =
 -- a wish is pushed, or the ring was full
 pub asked : (flushes : List Caller) (r : ℕ) (base : Base) (xs : List Line) (mark : Option Caller) (ours : List (Record Line)) (theirs : List (Record ℕ)) (pass pass' : RingPass Item)
     (region number : ℕ) (result : Result (Unit {0}) (Full Item)) → IsPart flushes r base xs mark ours theirs pass
-    → MatchResult result (λ _. HasPushed (view pass.pass) (items.Sync region number) (view pass'.pass)) (λ full. (full.item ≡ items.Sync region number) × (view pass'.pass ≡ view pass.pass)) → pass'.region ≡ pass.region
+    → MatchResult result (λ _. HasPushed (view pass.pass) (items.Sync region number) (view pass'.pass)) (λ full. (full.item ≡ items.Sync region number) × (view pass'.pass ≡ view pass.pass) × HadItems 1024 (view pass.pass)) → pass'.region ≡ pass.region
     → IsPart flushes r base xs mark ours theirs pass'
 asked flushes r base xs mark ours theirs pass pass' region number (Ok u) p pushed same = part_asked flushes r base xs mark ours theirs pass pass' (items.Sync region number) p pushed same refl refl
 asked flushes r base xs mark ours theirs pass pass' region number (Err e) p full same = part_full flushes r base xs mark ours theirs pass pass' p full.1 same

@@ -1,6 +1,7 @@
 //! How a region is made: its seeds without a name, and then its lock and its passes under one.
 
-ghost use Rattle.std.specs.Prelude.{◌≡◌, ◌<◌, ◌≤◌, ◌^◌, [], IfOk};
+ghost use Rattle.std.specs.Prelude.{◌≡◌, ◌<◌, ◌≤◌, ◌^◌, [], replicate, IfOk};
+ghost use Rattle.hand_register.specs.Desks.{AreFresh};
 ghost use Rattle.append_ring.specs.Parts.{IsNew};
 ghost use Rattle.append_ring.specs.Rules.{base_of};
 ghost use Rattle.region_state.specs.States.{IsUpTo};
@@ -11,12 +12,12 @@ use crate::naming::Naming;
 use crate::part::RegionPart;
 use crate::pass::RegionPass;
 use append_ring::RingPass;
-use hand_register::{Desk, DeskParts};
+use hand_register::{Desk, DeskParts, HandList};
 use kv_cell::NoMemory;
 use log_service::Item;
 use mem_segments::Base;
 use region_state::{Line, RegionState};
-use region_versions::{Opened, VersionParts, versions};
+use region_versions::{Front, Opened, VersionParts, ViewerList, versions};
 use std::alloc::Global;
 use std::marker::PhantomData;
 use std::sync::Wait;
@@ -62,6 +63,35 @@ pub struct RegionParts<N: Naming + log_service::Naming + region_versions::Naming
     pub passes: Vec<RegionPass<N>>,
 }
 
+/// The passes of a region's handlers, 1 and up, which have seen this beginning of its history.
+fn passes_of<N: Naming + region_versions::Naming>(
+    alloc: Global,
+    hands: HandList<Line>,
+    tellers: HandList<u64>,
+    viewers: ViewerList<N>,
+    front: &Front<N>,
+    handlers: u32,
+) -> Result<Vec<RegionPass<N>>, NoMemory>
+    requires empty { front.now.lines ≡ [] }
+    requires hands { AreFresh (N.desk front.now.region) 1 hands.hands.items }
+    requires tellers { AreFresh (N.spent front.now.region) 1 tellers.hands.items }
+    requires viewers { viewers.viewers.items ≡ replicate handlers front.now }
+    ensures { IfOk result (λ passes. AreFreshPasses front.now.region 1 handlers passes.items) }
+{
+    let mut hands = hands;
+    let mut tellers = tellers;
+    let mut viewers = viewers;
+    let mut passes = Vec::with_capacity(alloc, handlers as usize)?;
+    'handing: for _made in 0..handlers {
+        let (Some(hand), Some(told), Some(viewer)) = (hands.next(), tellers.next(), viewers.next())
+        else {
+            return Err(NoMemory);
+        };
+        passes.push(RegionPass { hand, told, viewer })?;
+    }
+    Ok(passes)
+}
+
 /// The region under its name, with its pass of the ring, under which nothing was pushed. It keeps the handle `rt`, since its drop waits
 /// for those that view it.
 pub fn named<N: Naming + log_service::Naming + region_versions::Naming, R: Wait + Drop>(
@@ -81,27 +111,23 @@ pub fn named<N: Naming + log_service::Naming + region_versions::Naming, R: Wait 
 {
     let RegionSeeds {
         mut state,
-        desk: DeskParts { desk, mut hands },
+        desk: DeskParts { desk, hands },
         spent: DeskParts {
             desk: spent,
-            hands: mut tellers,
+            hands: tellers,
         },
         opened,
     } = seeds;
     let history = opened.named::<N>(state.region());
     let version = state.next_version(alloc)?;
-    let VersionParts {
-        shower,
-        mut viewers,
-    } = versions::<N, R>(rt, alloc, version, history.front(), handlers)?;
-    let mut passes = Vec::with_capacity(alloc, handlers as usize)?;
-    'handing: for made in 0..handlers {
-        let (Some(hand), Some(told), Some(viewer)) = (hands.next(), tellers.next(), viewers.next())
-        else {
-            return Err(NoMemory);
-        };
-        passes.push_reserved(RegionPass { hand, told, viewer });
-    }
+    let VersionParts { shower, viewers } = versions::<N, R>(
+        rt,
+        alloc,
+        version,
+        history.front(),
+        handlers,
+    )?;
+    let passes = passes_of(alloc, hands, tellers, viewers, history.front(), handlers)?;
     Ok(RegionParts {
         locked: Locked {
             part: RegionPart {

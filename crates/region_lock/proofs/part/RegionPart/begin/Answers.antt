@@ -16,7 +16,7 @@ pub push-requires-clause-whole : goal.push-requires-clause-whole
 push-requires-clause-whole g c =
     let n = c.write_point-number.result + 1 in
     let limit : write_point c.self.inside.state + 1 < 2 ^ 48 = subst (λ (p : Part). write_point p.state + 1 < 2 ^ 48) (sym c.self.view_is) c.requires.number in
-    let most : n < 2 ^ 48 = omega (arith, limit, c.write_point-number.ensures) in
+    let most : n < 2 ^ 48 = omega (arith, limit, c.write_point-number.ensures.point) in
     spelled c.args.self.now.state.region n c.args.job _ _ c.requires.job c.deref_mut.ensures.value c.stamp.ensures.truck c.stamp.ensures.bytes (omega arith) most
 
 pub begin_edit-entry-requires-clause-call : goal.begin_edit-entry-requires-clause-call
@@ -38,12 +38,12 @@ invariant_of-self g c =
     let x : Line = line_of n j in
     let job : IsJob s.region j = subst (λ (p : Part). IsJob p.state.region j) (sym c.self.view_is) c.requires.job in
     let limit : n < 2 ^ 48 = subst (λ (p : Part). write_point p.state + 1 < 2 ^ 48) (sym c.self.view_is) c.requires.number in
-    let drawn : c.write_point-number.result + 1 ≡ n = ap (λ (m : ℕ). m + 1) c.write_point-number.ensures in
+    let drawn : c.write_point-number.result + 1 ≡ n = ap (λ (m : ℕ). m + 1) c.write_point-number.ensures.point in
     let held : IsHeld (held_of c.stamp.new.truck) (entry_under s.region n j) = subst (λ (m : ℕ). IsHeld (held_of c.stamp.new.truck) (entry_under s.region m j)) drawn (kept s.region (c.write_point-number.result + 1) j c.deref_mut.result.now c.stamp.new.truck job c.deref_mut.ensures.value c.stamp.ensures.truck c.stamp.ensures.bytes (omega arith) (omega (arith, limit, drawn))) in
     let number : Some c.stamp.new.truck.number ≡ Some n = ap (λ (t : Haul). Some t.number) c.stamp.ensures.truck ∙ ap Some drawn in
     let lines : c.journal-lines.result.now ≡ s.lines ++ x ∷ [] = c.journal-lines.ensures.lines ∙ ap (λ (t : State). t.lines) c.begin_edit-entry.ensures.lines in
     let added : c.index-lines-lines.result ≡ x = c.index-lines-lines.is ∙ ap (λ (l : List Line). get_or l (length l - 1) c.index-lines-lines.result) lines ∙ last_is s.lines x c.index-lines-lines.result in
-    let p = part_begun _ s.region s.base s.lines _ _ _ _ c.self.inside.pass c.push.new.pass (h - 1) (record_of c.args.hand.now) x _ i.0 c.in-Ok.ensures.pushed c.push.ensures.same.1 c.meet.ensures.met (c.requires.caller.0 ∙ sym k) refl
+    let p = part_begun _ s.region s.base s.lines _ _ _ c.self.inside.pass c.push.new.pass (h - 1) (record_of c.args.hand.now) x _ i.0 c.in-Ok.ensures.pushed c.push.ensures.same.1 c.meet.ensures.met (c.requires.caller.0 ∙ sym k) refl
     (held, tt) number in
     rw (c.begin_edit-entry.ensures.lines, c.add.ensures.desk, c.add.ensures.hand, added, c.meet.ensures.same.0, c.meet.ensures.same.1, c.meet.ensures.still.0) (
       p,
