@@ -28,9 +28,8 @@ the_same zero k a b e = absurd (cc e)
 the_same (suc n) zero a b e = sym (cc e)
 the_same (suc n) (suc k) a b e = the_same n k a b e
 
-pub long_replicate : {A : Type 0} → (n : ℕ) (a : A) → length (replicate n a) ≡ n
-long_replicate zero a = refl
-long_replicate (suc n) a = ap suc (long_replicate n a)
+none_in : {A : Type 0} → (a : A) → Contains [] a → ⊥
+none_in a c = let lt = c.1 in absurd (omega arith)
 
 -- the ties of a region with no line, whose hands know nothing and under whose pass nothing was pushed
 pub part_made : (flushes : List Caller) (r : ℕ) (base : Base) (xs : List Line) (ours : List (Record Line)) (theirs : List (Record ℕ)) (pass : RingPass Item) (id : TableId) (lasts : List ℕ) (n m : ℕ)
@@ -40,10 +39,7 @@ part_made flushes r base xs ours theirs pass id lasts n m none mine spent new la
   drawn = (λ i. end_of number_of (base_of (new.2 i).lasts (new.1 i)) (new.2 i).pushed) ∙ last ∙ omega arith;
   own = λ k q e. ap (λ (w : Record Line). w.list) (the_same n k empty q (subst (λ (l : List (Record Line)). slice_get l k ≡ Some q) mine e));
   owners = tt;
-  told = λ k q j e is. absurd (nothing_in j (subst (λ (w : Record ℕ). Contains w.list j) (the_same m k empty q (subst (λ (l : List (Record ℕ)). slice_get l k ≡ Some q) spent e)) is));
+  told = λ k q j e is. absurd (none_in j (subst (λ (w : Record ℕ). Contains w.list j) (the_same m k empty q (subst (λ (l : List (Record ℕ)). slice_get l k ≡ Some q) spent e)) is));
   marks = λ k q e. ap (λ (w : Record Line). w.mark) (the_same n k empty q (subst (λ (l : List (Record Line)). slice_get l k ≡ Some q) mine e));
   listed = λ c is. absurd (cc is);
 })
-  where
-    nothing_in : (j : ℕ) → Contains {A = ℕ} [] j → ⊥
-    nothing_in j c = let lt = c.1 in absurd (omega arith)
