@@ -1,1 +1,4 @@
 pub mod Regions
+pub mod Sown
+pub mod Marks
+pub mod Started

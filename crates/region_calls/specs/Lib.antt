@@ -1,0 +1,4 @@
+pub mod Bases
+pub mod Seeds
+pub mod Store
+pub mod Opening
