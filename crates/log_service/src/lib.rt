@@ -16,6 +16,7 @@ mod flushing;
 mod handing;
 mod item;
 mod load;
+mod looking;
 mod moving;
 mod name;
 mod pairing;

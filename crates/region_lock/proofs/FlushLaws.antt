@@ -1,0 +1,45 @@
+-- What a flush's steps come to.
+use Rattle.std.proofs.Common.{◌≡◌, ◌≢◌, ℕ, ◌+◌, ◌<◌, ◌≤◌, Bool, true, List, Contains, Option, Some, None, refl, sym, ap, ◌∙◌, subst, arith}
+use mathlib.Core.List.{IsPrefix}
+use Rattle.region_model.specs.Journal.{Base, Caller, Edit, last_of}
+use Rattle.region_model.specs.Calls.{Answer, FlushBusy, FlushFault}
+use Rattle.region_model.specs.Lawful.{flushed_of}
+use Rattle.region_model.specs.Lines.{Line, edits_in, last_in}
+use Rattle.log_service.specs.declared.seats.LogSeat.{LogSeat}
+use Rattle.log_service.specs.Numbers.{seen_stored}
+use Rattle.log_service.specs.Places.{IsLaterSeat}
+use Rattle.region_lock.specs.Calls.{FlushesAt}
+use Rattle.region_lock.specs.Parts.{AreBelow}
+use Rattle.region_lock.proofs.Knowns.{at_region, later_at, quiet_at, last_same, below_edits}
+
+-- a flush that found no other one under way
+pub flush_at : (n : ℕ) (base : Base) (flushes : List Caller) (caller : Caller) (answer : Answer) (r r' : ℕ) (own own' shown shown' : List Line) (told told' : List ℕ) (seat seat' : LogSeat) (upto : ℕ)
+    → r' ≡ r → own' ≡ own → told' ≡ told → IsPrefix shown shown' → IsLaterSeat seat seat' → last_in base shown ≤ upto → AreBelow (upto + 1) own
+    → ((m : ℕ) → flushed_of answer ≡ Some m → (upto ≤ m) × (m ≤ seen_stored n seat'.device.knows r)) → ((h c : ℕ) → answer ≡ FlushBusy h c → ⊥) → (answer ≡ FlushFault → seat'.device.knows.broken ≡ true)
+    → FlushesAt base flushes caller answer (at_region n r own shown told seat) (at_region n r' own' shown' told' seat') seat.device.knows.broken seat'.device.knows.broken
+flush_at n base flushes caller answer r r' own own' shown shown' told told' seat seat' upto same mine spent later words above below number busy fault = record {
+  later = later_at n r r' own own' shown shown' told told' seat seat' same later words;
+  own = quiet_at n r r' own own' shown shown' told told' seat seat' same mine spent;
+  above = λ m some. let l = last_same base r shown in let u = (number m some).0 in omega (arith, l, above, u);
+  above_own = λ m e some c. let u = (number m some).0 in let lt = below_edits r (upto + 1) own below e c in omega (arith, u, lt);
+  stored = λ m some. subst (λ (k : ℕ). m ≤ seen_stored n seat'.device.knows k) (sym same) (number m some).1;
+  busy = λ h c is. absurd (busy h c is);
+  fault = fault;
+  stays = λ b. (words.fault b).0;
+}
+
+-- a flush that found another one under way
+pub busy_at : (n : ℕ) (base : Base) (flushes : List Caller) (caller by : Caller) (r r' : ℕ) (own own' shown shown' : List Line) (told told' : List ℕ) (seat seat' : LogSeat)
+    → r' ≡ r → own' ≡ own → told' ≡ told → IsPrefix shown shown' → IsLaterSeat seat seat' → by.handler ≢ caller.handler → Contains flushes by
+    → FlushesAt base flushes caller (FlushBusy by.handler by.call) (at_region n r own shown told seat) (at_region n r' own' shown' told' seat') seat.device.knows.broken seat'.device.knows.broken
+busy_at n base flushes caller by r r' own own' shown shown' told told' seat seat' same mine spent later words other listed = record {
+  later = later_at n r r' own own' shown shown' told told' seat seat' same later words;
+  own = quiet_at n r r' own own' shown shown' told told' seat seat' same mine spent;
+  above = λ m some. absurd (cc some);
+  above_own = λ m e some c. absurd (cc some);
+  stored = λ m some. absurd (cc some);
+  busy = λ h c is. let handler : by.handler ≡ h = cc is in let call : by.call ≡ c = cc is in
+      ((λ e. other (handler ∙ e)), subst (λ (d : Caller). Contains flushes d) (λ i. record { handler = handler i; call = call i }) listed);
+  fault = λ is. absurd (cc is);
+  stays = λ b. (words.fault b).0;
+}

@@ -1,0 +1,10 @@
+pub mod Lists
+pub mod Ties
+pub mod Parts
+pub mod Shows
+pub mod Knowns
+pub mod PutLaws
+pub mod FlushLaws
+pub mod ScanLaws
+pub mod Lifts
+pub mod Meeting

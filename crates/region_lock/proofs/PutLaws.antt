@@ -1,0 +1,85 @@
+-- What a put's steps come to.
+use Rattle.std.proofs.Common.{◌≡◌, ℕ, ◌+◌, ◌-◌, ◌^◌, ◌<◌, ◌≤◌, Bool, true, false, true≢false, List, [], ◌∷◌, ◌++◌, Contains, Option, Some, None, refl, sym, ap, ◌∙◌, subst, arith, append-nil}
+use mathlib.Core.List.{IsPrefix}
+use Rattle.cell_model.specs.Cell.{Cell}
+use Rattle.region_model.specs.Journal.{Base, Caller, Outcome, Done, Edit, last_of}
+use Rattle.region_model.specs.Calls.{Answer, PutOk, PutFault, PutSpent}
+use Rattle.region_model.specs.Lawful.{number_of, outcome_of, IsPutFault}
+use Rattle.region_model.specs.Lines.{Line, edit_in, edits_in, last_in, pending}
+use Rattle.region_model.proofs.LineLaws.{edits_in-append}
+use Rattle.log_service.specs.declared.seats.LogSeat.{LogSeat}
+use Rattle.log_service.specs.Numbers.{seen_synced}
+use Rattle.log_service.specs.Places.{IsLaterSeat}
+use Rattle.server_model.specs.Pass.{Known, IsLaterOf}
+use Rattle.server_model.specs.Steps.{edit_of, drawn, told_last}
+use Rattle.region_lock.specs.Calls.{PutsAt}
+use Rattle.region_lock.specs.Parts.{WasEnded, AreBelow}
+use Rattle.region_lock.proofs.Lists.{snoc_same}
+use Rattle.region_lock.proofs.Knowns.{at_region, later_at, last_same, below_edits}
+
+-- no number was drawn
+pub refused_at : (base : Base) (time r : ℕ) (sync : Bool) (cells : List Cell) (caller : Caller) (answer : Answer) (old new : Known) (was is : Bool)
+    → number_of answer ≡ None → IsLaterOf old new → new.own ≡ old.own → new.spent ≡ old.spent ++ told_last answer → (IsPutFault answer → is ≡ true) → (was ≡ true → is ≡ true) → ((n : ℕ) → answer ≡ PutSpent n → n ≡ 2 ^ 48 - 1)
+    → PutsAt base time r sync cells caller answer old new was is
+refused_at base time r sync cells caller answer old new was is none later own spent fault stays limit = record {
+  later = later;
+  own = own ∙ sym (append-nil old.own) ∙ ap (λ (o : Option ℕ). old.own ++ drawn r time cells caller answer o) (sym none);
+  spent = spent;
+  above = λ n some. absurd (cc (sym none ∙ some));
+  above_own = λ n x some. absurd (cc (sym none ∙ some));
+  fault_sync = λ n e. absurd (cc (sym none ∙ ap number_of e));
+  seen = λ n e. absurd (cc (sym none ∙ ap number_of e));
+  synced = λ n s some. absurd (cc (sym none ∙ some));
+  fault = fault;
+  stays = stays;
+  stops = λ _. none;
+  limit = limit;
+}
+
+-- a number was drawn
+pub numbered_at : (base : Base) (time r : ℕ) (sync : Bool) (cells : List Cell) (caller : Caller) (answer : Answer) (old new : Known) (was is : Bool) (n : ℕ)
+    → number_of answer ≡ Some n → told_last answer ≡ [] → IsLaterOf old new → new.own ≡ old.own ++ edit_of r n time cells caller (outcome_of answer) ∷ [] → new.spent ≡ old.spent → last_of base.last old.shown < n
+    → ((e : Edit) → Contains old.own e → e.entry.number < n) → ((m : ℕ) → answer ≡ PutFault (Some m) → sync ≡ true) → ((m : ℕ) → answer ≡ PutOk m → n ≤ last_of base.last new.shown) → (sync ≡ true → outcome_of answer ≡ Done → n ≤ new.synced) → (IsPutFault answer → is ≡ true) → was ≡ false
+    → PutsAt base time r sync cells caller answer old new was is
+numbered_at base time r sync cells caller answer old new was is n some told later own spent above above_own fault_sync seen synced fault whole = record {
+  later = later;
+  own = own ∙ ap (λ (o : Option ℕ). old.own ++ drawn r time cells caller answer o) (sym some);
+  spent = spent ∙ sym (append-nil old.spent) ∙ ap (λ (l : List ℕ). old.spent ++ l) (sym told);
+  above = λ m is'. let same : n ≡ m = cc (sym some ∙ is') in omega (arith, same, above);
+  above_own = λ m x is' c. let same : n ≡ m = cc (sym some ∙ is') in let lt = above_own x c in omega (arith, same, lt);
+  fault_sync = fault_sync;
+  seen = λ m e. let same : n ≡ m = cc (sym some ∙ ap number_of e) in omega (arith, same, seen m e);
+  synced = λ m s is' done. let same : n ≡ m = cc (sym some ∙ is') in omega (arith, same, synced s done);
+  fault = fault;
+  stays = λ b. absurd (true≢false (sym b ∙ whole));
+  stops = λ b. absurd (true≢false (sym b ∙ whole));
+  limit = λ m e. absurd (cc (sym some ∙ ap number_of e));
+}
+
+-- what was begun and then ended
+pub was_put : (o : Outcome) (old mid new : List Line) (x : Line) → mid ≡ old ++ x ∷ [] → WasEnded o mid new → new ≡ old ++ (record x { outcome = o }) ∷ []
+was_put o old mid new x is w =
+    let s = snoc_same w.front old w.last x (sym w.before ∙ is) in
+    w.after ∙ ap (λ (l : List Line). l ++ (record w.last { outcome = o }) ∷ []) s.0 ∙ ap (λ (y : Line). old ++ (record y { outcome = o }) ∷ []) s.1
+
+pub own_put : (r : ℕ) (old new : List Line) (x : Line) → new ≡ old ++ x ∷ [] → edits_in r new ≡ edits_in r old ++ edit_in r x ∷ []
+own_put r old new x is = ap (edits_in r) is ∙ edits_in-append r old (x ∷ [])
+
+-- a put that drew a number, from its steps
+pub put_at : (n_regions : ℕ) (base : Base) (time r r' n : ℕ) (sync : Bool) (cells : List Cell) (caller : Caller) (answer : Answer) (own mid own' shown shown' : List Line) (told told' : List ℕ) (seat seat' : LogSeat)
+    → r' ≡ r → mid ≡ own ++ pending n caller time cells ∷ [] → WasEnded (outcome_of answer) mid own' → told' ≡ told → IsPrefix shown shown' → IsLaterSeat seat seat' → last_in base shown < n → AreBelow n own
+    → number_of answer ≡ Some n → told_last answer ≡ [] → ((m : ℕ) → answer ≡ PutFault (Some m) → sync ≡ true) → ((m : ℕ) → answer ≡ PutOk m → n ≤ last_in base shown') → (sync ≡ true → outcome_of answer ≡ Done → n ≤ seen_synced seat'.device.knows r)
+    → (IsPutFault answer → seat'.device.knows.broken ≡ true) → seat.device.knows.broken ≡ false
+    → PutsAt base time r sync cells caller answer (at_region n_regions r own shown told seat) (at_region n_regions r' own' shown' told' seat') seat.device.knows.broken seat'.device.knows.broken
+put_at n_regions base time r r' n sync cells caller answer own mid own' shown shown' told told' seat seat' same drew ended nothing later words above below number last fault_sync seen synced fault whole =
+    numbered_at base time r sync cells caller answer (at_region n_regions r own shown told seat) (at_region n_regions r' own' shown' told' seat') seat.device.knows.broken seat'.device.knows.broken n number last
+    (later_at n_regions r r' own own' shown shown' told told' seat seat' same later words)
+    (ap (λ (k : ℕ). edits_in k own') same ∙ own_put r own own' (record (pending n caller time cells) { outcome = outcome_of answer }) (was_put (outcome_of answer) own mid own' (pending n caller time cells) drew ended))
+    nothing
+    (let l = last_same base r shown in omega (arith, l, above))
+    (below_edits r n own below)
+    fault_sync
+    (λ m e. let l = last_same base r' shown' in let s = seen m e in omega (arith, l, s))
+    (λ s d. subst (λ (k : ℕ). n ≤ seen_synced seat'.device.knows k) (sym same) (synced s d))
+    fault
+    whole

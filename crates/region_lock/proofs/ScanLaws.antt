@@ -1,0 +1,20 @@
+-- What a scan comes to.
+use Rattle.std.proofs.Common.{◌≡◌, ℕ, ◌<◌, ◌≤◌, List, refl, sym, ap, ◌∙◌, subst}
+use mathlib.Core.List.{IsPrefix}
+use Rattle.cell_model.specs.Cell.{Cell}
+use Rattle.region_model.specs.Journal.{Base, last_of, visible}
+use Rattle.region_model.specs.Calls.{Answer, Scanned}
+use Rattle.region_model.specs.Lines.{Line, edits_in, last_in}
+use Rattle.log_service.specs.declared.seats.LogSeat.{LogSeat}
+use Rattle.region_lock.specs.Calls.{ScansAt}
+use Rattle.region_lock.proofs.Knowns.{at_region, later_at, quiet_at, last_same, later_refl}
+
+pub scan_at : (n : ℕ) (base : Base) (from to : List ℕ) (answer : Answer) (r r' : ℕ) (own own' shown shown' : List Line) (told told' : List ℕ) (seat : LogSeat)
+    → r' ≡ r → own' ≡ own → told' ≡ told → IsPrefix shown shown'
+    → ((p : ℕ) (cells : List (ℕ × Cell)) → answer ≡ Scanned p cells → (p ≡ last_in base shown') × (cells ≡ visible base.content (edits_in r' shown') p from to))
+    → ScansAt base from to answer (at_region n r own shown told seat) (at_region n r' own' shown' told' seat)
+scan_at n base from to answer r r' own own' shown shown' told told' seat same mine spent later scanned = record {
+  later = later_at n r r' own own' shown shown' told told' seat seat same later (later_refl seat);
+  own = quiet_at n r r' own own' shown shown' told told' seat seat same mine spent;
+  cells = λ p cells is. ((scanned p cells is).0 ∙ sym (last_same base r' shown'), (scanned p cells is).1);
+}

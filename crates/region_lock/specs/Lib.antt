@@ -1,0 +1,12 @@
+pub mod Parts
+pub mod Jobs
+pub mod Histories
+pub mod Hands
+pub mod Marks
+pub mod Tries
+pub mod Passes
+pub mod Puts
+pub mod Calls
+pub mod Answers
+pub mod Met
+pub mod Made

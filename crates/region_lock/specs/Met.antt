@@ -1,0 +1,11 @@
+-- What a pass knows of a region meets in its journal.
+use Rattle.std.specs.Prelude.{◌≡◌, ℕ, ◌≤◌, List, Contains}
+use Rattle.cell_model.specs.Lists.{IsPrefix}
+use Rattle.region_model.specs.Journal.{Base, Edit, last_of}
+use Rattle.server_model.specs.Pass.{Known, handled}
+
+-- the handler's edits are those of the journal, what was shown begins it, and no number told as spent is above its last one
+pub record IsMet (base : Base) (edits : List Edit) (handler : ℕ) (k : Known) : Type 0 where
+  pub own : k.own ≡ handled handler edits
+  pub shown : IsPrefix k.shown edits
+  pub spent : (n : ℕ) → Contains k.spent n → n ≤ last_of base.last edits

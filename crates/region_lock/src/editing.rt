@@ -1,0 +1,142 @@
+//! How an edit is begun and ended under its region's lock.
+
+ghost use Rattle.std.specs.Prelude.{◌≡◌, ◌+◌, ◌<◌, ◌≤◌, ◌^◌};
+ghost use Rattle.hand_register.specs.Desks.{record_of, with_value};
+ghost use Rattle.log_model.specs.Entry.{Entry, entry_frame};
+ghost use Rattle.region_model.specs.Lines.{IsPending, with_outcome};
+ghost use Rattle.region_state.specs.States.{write_point, IsReadPoint};
+ghost use Rattle.region_state.specs.Outcomes.{outcome_at_end};
+ghost use Rattle.region_lock.specs.Hands.{SameHand};
+ghost use Rattle.region_lock.specs.Jobs.{IsJob, IsBegun};
+ghost use Rattle.region_lock.specs.Parts.{EndsPending, WasEnded, AreCalledBelow, with_lines};
+
+use crate::job::Job;
+use crate::naming::Naming;
+use crate::part::RegionPart;
+use append_ring::Full;
+use disk_images::Disk;
+use hand_register::Hand;
+use log_service::{Item, LogService};
+use log_trucks::Truck;
+use region_state::{Ended, Line};
+use std::sync::Wait;
+use write_queue::WriteEntry;
+
+impl<N: Naming + log_service::Naming + region_versions::Naming> RegionPart<N> {
+    /// Draws the next number for an edit, pushes its entry, and puts its pending line behind the journal and the handler's own list. Where
+    /// the ring is full nothing changes, and the job comes back.
+    pub(crate) fn begin<D: Disk, R: Wait>(
+        &mut self,
+        rt: &R,
+        service: &LogService<D, N>,
+        hand: &mut Hand<Line>,
+        job: Job,
+    ) -> Result<WriteEntry, Job>
+        requires ring { service.now.ring ≡ N.ring }
+        requires hand { hand.old.badge.table_id ≡ N.desk self.old.state.region }
+        requires room { 1 ≤ self.old.state.room }
+        requires number { write_point self.old.state + 1 < 2 ^ 48 }
+        requires job { IsJob self.old.state.region job }
+        requires caller { (job.caller.handler ≡ hand.old.number) × AreCalledBelow job.caller.call (record_of hand.old).list }
+        ensures begun { IsBegun job self.old (record_of hand.old) result self.new (record_of hand.new) }
+        ensures hand { SameHand hand.old hand.new }
+    {
+        let Job {
+            caller,
+            time,
+            batch,
+            draft,
+            mut truck,
+        } = job;
+        self.desk.meet(hand);
+        let number = self.state.write_point() + 1;
+        stamp(&mut truck, number);
+        match service.push(rt, &mut self.pass, Item::Append(truck)) {
+            Ok(()) => {
+                let entry = self.state.begin_edit(caller, time, batch, draft);
+                let RegionPart { state, desk, .. } = self;
+                let lines = state.journal();
+                desk.add(hand, &lines[lines.len() - 1]);
+                Ok(entry)
+            }
+            Err(
+                Full {
+                    item: Item::Append(truck),
+                },
+            ) => {
+                Err(Job {
+                    caller,
+                    time,
+                    batch,
+                    draft,
+                    truck,
+                })
+            }
+            Err(
+                Full {
+                    item: Item::Sync { .. },
+                },
+            ) => unreachable!(),
+        }
+    }
+
+    /// Pushes the wish that the region's entries up to the number be durable. False where the ring was full.
+    pub(crate) fn ask<D: Disk, R: Wait>(
+        &mut self,
+        rt: &R,
+        service: &LogService<D, N>,
+        number: u64,
+    ) -> bool
+        requires ring { service.now.ring ≡ N.ring }
+        ensures same { self.new ≡ self.old }
+    {
+        let region = self.state.region();
+        service
+            .push(rt, &mut self.pass, Item::Sync { region, number })
+            .is_ok()
+    }
+
+    /// Ends the handler's last line, which is pending, and gives the read point.
+    pub(crate) fn end(&mut self, hand: &mut Hand<Line>, entry: WriteEntry, ended: Ended) -> u64
+        requires hand { hand.old.badge.table_id ≡ N.desk self.old.state.region }
+        requires last { EndsPending (record_of hand.old).list entry }
+        ensures was { IsPending self.old.state.lines entry }
+        ensures own { WasEnded (outcome_at_end ended) (record_of hand.old).list (record_of hand.new).list }
+        ensures mark { (record_of hand.new).mark ≡ (record_of hand.old).mark }
+        ensures lines { self.new ≡ with_lines self.old (with_outcome entry (outcome_at_end ended) self.old.state.lines) self.new.state.room }
+        ensures point { IsReadPoint self.new.state result }
+        ensures hand { SameHand hand.old hand.new }
+    {
+        self.desk.meet(hand);
+        let _all = self.state.journal();
+        let number = entry.number();
+        let point = self.state.end_edit(entry, ended);
+        let RegionPart { state, desk, .. } = self;
+        desk.amend(hand, state.line(number));
+        point
+    }
+
+    /// Tells a hand that numbers are spent, and which one was the last.
+    pub(crate) fn tell_spent(&mut self, told: &mut Hand<u64>) -> u64
+        requires { told.old.badge.table_id ≡ N.spent self.old.state.region }
+        ensures last { result ≡ write_point self.old.state }
+        ensures told { record_of told.new ≡ with_value (record_of told.old) result }
+        ensures same { self.new ≡ self.old }
+        ensures hand { SameHand told.old told.new }
+    {
+        let last = self.state.write_point();
+        self.spent.add(told, &last);
+        last
+    }
+}
+
+/// Gives a truck's entry its number.
+fn stamp(truck: &mut Truck, number: u64)
+    requires given { 1 ≤ number }
+    requires number { number < 2 ^ 48 }
+    ensures truck { truck.new ≡ record truck.old { number = number; bytes = truck.new.bytes } }
+    ensures bytes { (e : Entry) → truck.old.bytes ≡ entry_frame e → truck.new.bytes ≡ entry_frame (record e { number = number }) }
+{
+    truck.number = number;
+    truck.bytes.set_number(number);
+}

@@ -1,0 +1,108 @@
+//! A flush of one region, between its mark's being set and being taken away.
+
+ghost use Rattle.std.specs.Prelude.{◌≡◌, ◌≤◌, Contains};
+ghost use Rattle.hand_register.specs.Desks.{record_of, with_mark};
+ghost use Rattle.region_model.specs.Lines.{last_in};
+ghost use Rattle.log_service.specs.Places.{IsSeatOf, IsLaterSeat};
+ghost use Rattle.region_lock.specs.Answers.{flush_answer};
+ghost use Rattle.region_lock.specs.Calls.{FlushesAt};
+ghost use Rattle.region_lock.specs.Marks.{IsLookedAt};
+ghost use Rattle.region_lock.specs.Passes.{IsAtService, SameButMark, SamePass, known_of};
+
+use crate::answers::FlushRefusal;
+use crate::locked::Locked;
+use crate::naming::Naming;
+use crate::pass::RegionPass;
+use disk_images::Disk;
+use log_device::DeviceFlush;
+use log_service::{LogSeat, LogService};
+use region_state::Caller;
+use std::alloc::Global;
+use std::sync::{Mutex, Wait};
+
+/// The look under the region's lock: this flush's mark is set, and the write point is given, which is at or above all that the pass has
+/// seen; or another handler's flush is under way.
+fn look<N: Naming + log_service::Naming + region_versions::Naming, R: Wait + Drop, S: Wait>(
+    rt: &S,
+    lock: &Mutex<Locked<N, R>>,
+    at: &mut RegionPass<N>,
+    by: Caller,
+) -> Result<u64, Caller>
+    requires caller { (by.handler ≡ at.old.hand.number) × (1 ≤ by.call) × Contains (N.flushes at.old.viewer.region) by }
+    requires free { (record_of at.old.hand).mark ≡ 0 }
+    ensures looked { IsLookedAt (last_in (N.Naming-3.base at.old.viewer.region) at.old.viewer.lines) (N.flushes at.old.viewer.region) by (record_of at.old.hand)
+        result (record_of at.new.hand) }
+    ensures same { SameButMark at.old at.new }
+{
+    let region = at.viewer.region();
+    let seen = at.viewer.seen();
+    'looking: for _ in rt.forever() {
+        let mut guard = lock.lock(rt);
+        if guard.region() == region && seen <= guard.write_point() {
+            return guard.look(&mut at.hand, by);
+        }
+    }
+    unreachable!()
+}
+
+/// Takes the flush's mark away, in another hold of the region's lock.
+fn unmark<N: Naming + log_service::Naming + region_versions::Naming, R: Wait + Drop, S: Wait>(
+    rt: &S,
+    lock: &Mutex<Locked<N, R>>,
+    at: &mut RegionPass<N>,
+)
+    requires marked { 1 ≤ (record_of at.old.hand).mark }
+    ensures clear { record_of at.new.hand ≡ with_mark (record_of at.old.hand) 0 }
+    ensures same { SameButMark at.old at.new }
+{
+    let region = at.viewer.region();
+    'looking: for _ in rt.forever() {
+        let mut guard = lock.lock(rt);
+        if guard.region() == region {
+            guard.unmark(&mut at.hand);
+            return;
+        }
+    }
+    unreachable!()
+}
+
+/// A flush of one region: the look under the region's lock, which sets this flush's mark; the log's flush up to the write point that was
+/// found there, with no lock held; and the mark is taken away, whatever the log answered. The number flushed is at or above each one of the
+/// region that the pass has seen. `Flushing` exactly where a flush by that caller was under way at the look.
+pub fn flush_in<
+    N: Naming + log_service::Naming + region_versions::Naming,
+    D: Disk,
+    R: Wait + Drop,
+    S: Wait,
+>(
+    rt: &S,
+    alloc: Global,
+    service: &LogService<D, N>,
+    lock: &Mutex<Locked<N, R>>,
+    at: &mut RegionPass<N>,
+    seat: &mut LogSeat,
+    by: Caller,
+) -> Result<u64, FlushRefusal>
+    requires service { IsAtService N.ring service.now at.old.viewer.region seat.old }
+    requires caller { (by.handler ≡ at.old.hand.number) × (1 ≤ by.call) × Contains (N.flushes at.old.viewer.region) by }
+    requires free { (record_of at.old.hand).mark ≡ 0 }
+    ensures flushes { FlushesAt (N.Naming-3.base at.old.viewer.region) (N.flushes at.old.viewer.region) by (flush_answer result)
+        (known_of service.now.regions at.old seat.old) (known_of service.now.regions at.new seat.new) seat.old.device.knows.broken seat.new.device.knows.broken }
+    ensures same { SamePass at.old at.new }
+    ensures seat { IsSeatOf service.now seat.new }
+    ensures later { IsLaterSeat seat.old seat.new }
+{
+    let region = at.viewer.region();
+    let upto = match look(rt, lock, at, by) {
+        Ok(upto) => upto,
+        Err(by) => return Err(FlushRefusal::Flushing { by }),
+    };
+    let flushed = service.flush(rt, alloc, seat, region, upto);
+    unmark(rt, lock, at);
+    match flushed {
+        Ok(number) => Ok(number),
+        Err(DeviceFlush::Memory) => Err(FlushRefusal::Memory),
+        Err(DeviceFlush::WriteFault) => Err(FlushRefusal::WriteFault),
+        Err(DeviceFlush::Nothing { flushed }) => Err(FlushRefusal::Nothing { flushed }),
+    }
+}

@@ -1,0 +1,49 @@
+//! The mark of a flush.
+
+ghost use Rattle.std.specs.Prelude.{◌≡◌, ◌≤◌, None, Contains};
+ghost use Rattle.hand_register.specs.Desks.{record_of, with_mark};
+ghost use Rattle.region_lock.specs.Hands.{SameHand};
+ghost use Rattle.region_lock.specs.Marks.{IsLooked};
+
+use crate::naming::Naming;
+use crate::part::RegionPart;
+use hand_register::Hand;
+use region_state::{Caller, Line};
+
+impl<N: Naming + log_service::Naming + region_versions::Naming> RegionPart<N> {
+    /// The look of a flush. Where a flush is under way it answers its caller, and changes nothing. Else it sets the mark of `by`, in the
+    /// state and in the desk, changes nothing else, and gives the write point, which none of the handler's own edits is above. It takes no
+    /// memory.
+    pub fn look(&mut self, hand: &mut Hand<Line>, by: Caller) -> Result<u64, Caller>
+        requires hand { hand.old.badge.table_id ≡ N.desk self.old.state.region }
+        requires caller { (by.handler ≡ hand.old.number) × (1 ≤ by.call) × Contains (N.flushes self.old.state.region) by }
+        requires free { (record_of hand.old).mark ≡ 0 }
+        ensures looked { IsLooked (N.flushes self.old.state.region) by self.old (record_of hand.old) result self.new (record_of hand.new) }
+        ensures hand { SameHand hand.old hand.new }
+    {
+        match self.mark {
+            Some(other) => {
+                self.desk.meet(hand);
+                Err(other)
+            }
+            None => {
+                let _all = self.state.journal();
+                self.desk.mark(hand, u64::from(by.call));
+                self.mark = Some(by);
+                Ok(self.state.write_point())
+            }
+        }
+    }
+
+    /// Takes a flush's mark away.
+    pub(crate) fn unmark(&mut self, hand: &mut Hand<Line>)
+        requires hand { hand.old.badge.table_id ≡ N.desk self.old.state.region }
+        requires marked { 1 ≤ (record_of hand.old).mark }
+        ensures mark { self.new ≡ record self.old { mark = None } }
+        ensures clear { record_of hand.new ≡ with_mark (record_of hand.old) 0 }
+        ensures hand { SameHand hand.old hand.new }
+    {
+        self.desk.mark(hand, 0);
+        self.mark = None;
+    }
+}

@@ -1,0 +1,28 @@
+//! A handler's pass of one region.
+
+ghost use Rattle.std.specs.Prelude.{◌≡◌};
+
+use crate::naming::Naming;
+use hand_register::Hand;
+use region_state::Line;
+use region_versions::Viewer;
+
+/// What a pass has of one region: its hands of the region's two desks, and its viewer.
+#[derive(Drop)]
+pub struct RegionPass<N: Naming + region_versions::Naming> {
+    pub hand: Hand<Line>,
+    pub told: Hand<u64>,
+    pub viewer: Viewer<N>,
+    pub ghost of_desk: { hand.badge.table_id ≡ N.desk viewer.region },
+    pub ghost of_spent: { told.badge.table_id ≡ N.spent viewer.region },
+    pub ghost one: { told.number ≡ hand.number },
+}
+
+impl<N: Naming + region_versions::Naming> RegionPass<N> {
+    /// Which region it is of.
+    pub fn region(&self) -> u32
+        ensures { result ≡ self.now.viewer.region }
+    {
+        self.viewer.region()
+    }
+}

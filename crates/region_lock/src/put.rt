@@ -1,0 +1,255 @@
+//! A put into one region, in its steps.
+
+ghost use Rattle.std.specs.Prelude.{◌≡◌, ◌≤◌, OnOk};
+ghost use Rattle.std.specs.Arc.{arc_value};
+ghost use mathlib.Core.List.{IsPrefix};
+ghost use Rattle.hand_register.specs.Desks.{record_of};
+ghost use Rattle.region_model.specs.Lines.{last_in};
+ghost use Rattle.region_state.specs.Outcomes.{outcome_at_end};
+ghost use Rattle.log_service.specs.Numbers.{seen_synced};
+ghost use Rattle.log_service.specs.Places.{IsSeatOf, IsLaterSeat};
+ghost use Rattle.region_lock.specs.Answers.{is_sync, put_answer};
+ghost use Rattle.region_lock.specs.Calls.{PutsAt};
+ghost use Rattle.region_lock.specs.Jobs.{IsJob};
+ghost use Rattle.region_lock.specs.Parts.{EndsPending, WasEnded, AreCalledBelow};
+ghost use Rattle.region_lock.specs.Passes.{IsAtService, SameView, SamePass, known_of};
+ghost use Rattle.region_lock.specs.Puts.{IsDrawn, IsLogged, IsFaultExact};
+
+use crate::answers::PutRefusal;
+use crate::gate::Gate;
+use crate::job::Job;
+use crate::locked::{Locked, Tried};
+use crate::naming::Naming;
+use crate::pass::RegionPass;
+use crate::waiting::help;
+use disk_images::Disk;
+use kv_cell::{Durability, NoMemory};
+use log_service::{LogSeat, LogService, Waited};
+use region_state::{Caller, Ended};
+use std::alloc::Global;
+use std::sync::{Mutex, Wait};
+use write_queue::WriteEntry;
+
+/// Begins the edit under the region's lock, in as many tries as it takes. After each try that found the ring full it looks for the fault,
+/// and helps.
+fn draw<
+    N: Naming + log_service::Naming + region_versions::Naming,
+    D: Disk,
+    R: Wait + Drop,
+    S: Wait,
+>(
+    rt: &S,
+    service: &LogService<D, N>,
+    lock: &Mutex<Locked<N, R>>,
+    at: &mut RegionPass<N>,
+    seat: &mut LogSeat,
+    job: Job,
+) -> Result<WriteEntry, PutRefusal>
+    requires service { IsAtService N.ring service.now at.old.viewer.region seat.old }
+    requires job { IsJob at.old.viewer.region job }
+    requires caller { (job.caller.handler ≡ at.old.hand.number) × AreCalledBelow job.caller.call (record_of at.old.hand).list }
+    ensures drawn { IsDrawn (last_in (N.Naming-3.base at.old.viewer.region) at.old.viewer.lines) job (record_of at.old.hand).list (record_of at.old.told).list
+        result (record_of at.new.hand).list (record_of at.new.told).list seat.new.device.knows.broken }
+    ensures same { SameView at.old at.new }
+    ensures seat { IsSeatOf service.now seat.new }
+    ensures later { IsLaterSeat seat.old seat.new }
+{
+    let region = at.viewer.region();
+    let seen = at.viewer.seen();
+    let mut job = job;
+    'trying: for _ in rt.forever() {
+        let tried = lock
+            .lock(rt)
+            .draw(rt, service, region, seen, &mut at.hand, &mut at.told, job);
+        match tried {
+            Tried::Begun(entry) => return Ok(entry),
+            Tried::Spent { last } => return Err(PutRefusal::NumbersSpent { last }),
+            Tried::Memory => return Err(PutRefusal::Memory { logged: None }),
+            Tried::Again(back) => job = back,
+        }
+        if service.broken(seat) {
+            return Err(PutRefusal::WriteFault { number: None });
+        }
+        help(rt, service, seat);
+    }
+    unreachable!()
+}
+
+/// Asks that the region's entries up to the number be durable; given up where the log is broken.
+fn ask<N: Naming + log_service::Naming + region_versions::Naming, D: Disk, R: Wait + Drop, S: Wait>(
+    rt: &S,
+    service: &LogService<D, N>,
+    lock: &Mutex<Locked<N, R>>,
+    region: u32,
+    seat: &mut LogSeat,
+    number: u64,
+)
+    requires service { IsAtService N.ring service.now region seat.old }
+    ensures seat { IsSeatOf service.now seat.new }
+    ensures later { IsLaterSeat seat.old seat.new }
+{
+    'asking: for _ in rt.forever() {
+        if lock.lock(rt).ask(rt, service, region, number) || service.broken(seat) {
+            return;
+        }
+        help(rt, service, seat);
+    }
+    unreachable!()
+}
+
+/// Waits for what the put asked of the log, with no lock held. False where the log is broken below the number.
+fn await_log<
+    N: Naming + log_service::Naming + region_versions::Naming,
+    D: Disk,
+    R: Wait + Drop,
+    G: Gate,
+    S: Wait,
+>(
+    rt: &S,
+    service: &LogService<D, N>,
+    lock: &Mutex<Locked<N, R>>,
+    region: u32,
+    caller: Caller,
+    seat: &mut LogSeat,
+    durability: Durability,
+    number: u64,
+    gate: &G,
+) -> bool
+    requires service { IsAtService N.ring service.now region seat.old }
+    ensures logged { IsLogged (is_sync durability) result number (seen_synced seat.new.device.knows region) seat.new.device.knows.broken }
+    ensures seat { IsSeatOf service.now seat.new }
+    ensures later { IsLaterSeat seat.old seat.new }
+{
+    match durability {
+        Durability::Async => {
+            gate.logged(rt, caller.handler, caller.call);
+            true
+        }
+        Durability::Sync => {
+            ask(rt, service, lock, region, seat, number);
+            gate.logged(rt, caller.handler, caller.call);
+            match service.wait_synced(rt, seat, region, number) {
+                Waited::Synced => true,
+                Waited::Broken => false,
+            }
+        }
+    }
+}
+
+/// Ends the edit, in another hold of the region's lock.
+fn end<N: Naming + log_service::Naming + region_versions::Naming, R: Wait + Drop, S: Wait>(
+    rt: &S,
+    lock: &Mutex<Locked<N, R>>,
+    at: &mut RegionPass<N>,
+    entry: WriteEntry,
+    ended: Ended,
+)
+    requires last { EndsPending (record_of at.old.hand).list entry }
+    ensures own { WasEnded (outcome_at_end ended) (record_of at.old.hand).list (record_of at.new.hand).list }
+    ensures told { (record_of at.new.told).list ≡ (record_of at.old.told).list }
+    ensures same { SameView at.old at.new }
+{
+    let region = at.viewer.region();
+    'looking: for _ in rt.forever() {
+        let mut guard = lock.lock(rt);
+        if guard.region() == region {
+            guard.end(&mut at.hand, entry, ended);
+            return;
+        }
+    }
+    unreachable!()
+}
+
+/// Shows until the pass sees the number. Each round shows again: a version that another put had no memory for is shown by nobody else.
+fn show<
+    N: Naming + log_service::Naming + region_versions::Naming,
+    D: Disk,
+    R: Wait + Drop,
+    S: Wait,
+>(
+    rt: &S,
+    alloc: Global,
+    service: &LogService<D, N>,
+    lock: &Mutex<Locked<N, R>>,
+    at: &mut RegionPass<N>,
+    seat: &mut LogSeat,
+    number: u64,
+) -> Result<(), NoMemory>
+    requires service { IsSeatOf service.now seat.old }
+    ensures seen { OnOk result (number ≤ last_in (N.Naming-3.base at.new.viewer.region) at.new.viewer.lines) }
+    ensures region { at.new.viewer.region ≡ at.old.viewer.region }
+    ensures lines { IsPrefix at.old.viewer.lines at.new.viewer.lines }
+    ensures hand { (at.new.hand ≡ at.old.hand) × (at.new.told ≡ at.old.told) }
+    ensures seat { IsSeatOf service.now seat.new }
+    ensures later { IsLaterSeat seat.old seat.new }
+{
+    'showing: for _ in rt.forever() {
+        lock.lock(rt).show(alloc)?;
+        if number <= at.viewer.point() {
+            return Ok(());
+        }
+        help(rt, service, seat);
+    }
+    unreachable!()
+}
+
+/// A put into one region, once its memory is taken: the number is drawn and the entry pushed in one hold of the region's lock; the put
+/// waits for the log where durability was asked for, with no lock held; then the edit ends, and is shown. It answers the number once the
+/// pass has seen a version at or above it.
+///
+/// A fault without a number is told exactly where the fault word was found set at the start, or after a try that found the ring full; a
+/// fault with the number only where durability was asked for, and exactly where the fault word was seen set and then the synced word below
+/// the number: the edit has then failed. Out of memory with the number: the edit is done, durable where that was asked for, and shown with
+/// the region's next version.
+pub fn put_in<
+    N: Naming + log_service::Naming + region_versions::Naming,
+    D: Disk,
+    R: Wait + Drop,
+    G: Gate,
+    S: Wait,
+>(
+    rt: &S,
+    alloc: Global,
+    service: &LogService<D, N>,
+    lock: &Mutex<Locked<N, R>>,
+    at: &mut RegionPass<N>,
+    seat: &mut LogSeat,
+    durability: Durability,
+    job: Job,
+    gate: &G,
+) -> Result<u64, PutRefusal>
+    requires service { IsAtService N.ring service.now at.old.viewer.region seat.old }
+    requires job { IsJob at.old.viewer.region job }
+    requires caller { (job.caller.handler ≡ at.old.hand.number) × AreCalledBelow job.caller.call (record_of at.old.hand).list }
+    ensures puts { PutsAt (N.Naming-3.base at.old.viewer.region) job.time at.old.viewer.region (is_sync durability) (arc_value job.batch) job.caller (put_answer result)
+        (known_of service.now.regions at.old seat.old) (known_of service.now.regions at.new seat.new) seat.old.device.knows.broken seat.new.device.knows.broken }
+    ensures same { SamePass at.old at.new }
+    ensures seat { IsSeatOf service.now seat.new }
+    ensures later { IsLaterSeat seat.old seat.new }
+    ensures exact { IsFaultExact (is_sync durability) result (seen_synced seat.new.device.knows at.old.viewer.region) seat.new.device.knows.broken }
+{
+    if service.broken(seat) {
+        return Err(PutRefusal::WriteFault { number: None });
+    }
+    let region = at.viewer.region();
+    let caller = job.caller;
+    let entry = draw(rt, service, lock, at, seat, job)?;
+    let number = entry.number();
+    if !await_log(
+        rt, service, lock, region, caller, seat, durability, number, gate,
+    ) {
+        end(rt, lock, at, entry, Ended::Failed);
+        return Err(PutRefusal::WriteFault {
+            number: Some(number),
+        });
+    }
+    end(rt, lock, at, entry, Ended::Done);
+    match show(rt, alloc, service, lock, at, seat, number) {
+        Ok(()) => Ok(number),
+        Err(_) => {
+            Err(PutRefusal::Memory {
+                logged: Some(number),
+            })
+        }
+    }
+}

@@ -1,0 +1,29 @@
+//! A roll, as a handler calls it.
+
+ghost use Rattle.log_service.specs.Places.{IsSeatOf, IsLaterSeat};
+ghost use Rattle.region_lock.specs.Answers.{roll_answer};
+ghost use Rattle.region_lock.specs.Calls.{RollsAt};
+
+use disk_images::Disk;
+use log_device::{RollRefusal, Rolled};
+use log_service::{LogSeat, LogService, Naming};
+use std::alloc::Global;
+use std::sync::Wait;
+
+/// The log's roll. After it, and where there is nothing to roll, the seat has seen each region's closed word at or above the synced word
+/// that it had seen before.
+pub fn roll_in<N: Naming, D: Disk, S: Wait>(
+    rt: &S,
+    alloc: Global,
+    service: &LogService<D, N>,
+    seat: &mut LogSeat,
+) -> Result<Rolled, RollRefusal>
+    requires seat { IsSeatOf service.now seat.old }
+    ensures rolls { RollsAt service.now.regions (roll_answer result) seat.old seat.new }
+    ensures seat { IsSeatOf service.now seat.new }
+{
+    match service.roll(rt, alloc, seat) {
+        Ok(rolled) => Ok(rolled),
+        Err(refusal) => Err(refusal),
+    }
+}
