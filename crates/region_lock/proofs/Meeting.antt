@@ -1,10 +1,10 @@
 -- What a pass knows of a region meets in its journal.
-use Rattle.std.proofs.Common.{◌≡◌, ℕ, ◌+◌, ◌≤◌, ◌==◌, Bool, true, false, true≢false, cond, List, [], ◌∷◌, ◌++◌, Contains, IsTrue, MatchBool, map, refl, sym, ap, ◌∙◌, subst, arith}
+use Rattle.std.proofs.Common.{◌≡◌, ℕ, ◌≤◌, ◌==◌, Bool, true, false, true≢false, cond, List, [], ◌∷◌, ◌++◌, Contains, IsTrue, MatchBool, refl, sym, ap, ◌∙◌, subst, arith}
 use mathlib.Core.List.{IsPrefix}
-use Rattle.region_model.specs.Journal.{Base, Edit, IsJournal, last_of}
+use Rattle.region_model.specs.Journal.{Base, Edit}
 use Rattle.region_model.specs.Lines.{Line, edit_in, edits_in, handled_lines, last_in}
 use Rattle.log_service.specs.declared.seats.LogSeat.{LogSeat}
-use Rattle.server_model.specs.Pass.{Known, handled}
+use Rattle.server_model.specs.Pass.{handled}
 use Rattle.region_lock.specs.Met.{IsMet}
 use Rattle.region_lock.proofs.Knowns.{at_region, edits_begin, last_same}
 
