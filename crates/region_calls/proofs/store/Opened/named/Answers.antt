@@ -1,4 +1,4 @@
-use Rattle.std.proofs.Common.{◌≡◌, ℕ, ◌+◌, ◌≤◌, List, length, map, IsTrue, sym, ap, ◌∙◌, subst, arith}
+use Rattle.std.proofs.Common.{ℕ, ◌≤◌, List, length, sym, ap, subst, arith}
 use Rattle.log_model.specs.Files.{Files}
 use Rattle.recovery.specs.Alike.{AllAlike}
 use Rattle.log_ledger.specs.History.{History}
@@ -6,7 +6,7 @@ use Rattle.log_service.specs.Begun.{BeginsAs}
 use Rattle.region_model.specs.Journal.{Base}
 use Rattle.region_replay.specs.Opened.{AtMostOneHigher}
 use Rattle.region_calls.specs.Bases.{IsBaseOf}
-use Rattle.region_calls.specs.Seeds.{base_of, lasts_of}
+use Rattle.region_calls.specs.Seeds.{base_of}
 use Rattle.region_calls.specs.Store.{bases_of, disk_now, disk_found, disk_begun}
 use Rattle.region_calls.proofs.Begun.{len_map}
 use Rattle.region_calls.proofs.NamedSeeds.{named_seeds, base_of_region}
