@@ -9,3 +9,4 @@ pub mod ScanLaws
 pub mod Lifts
 pub mod Meeting
 pub mod Making
+pub mod NewPart
