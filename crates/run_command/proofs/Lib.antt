@@ -1,0 +1,4 @@
+pub mod Pieces
+pub mod Fitting
+pub mod Standing
+pub mod BasesFound
