@@ -4,3 +4,7 @@ pub mod Marks
 pub mod Begun
 pub mod Seated
 pub mod NamedSeeds
+pub mod Knowing
+pub mod Calling
+pub mod Using
+pub mod Paging

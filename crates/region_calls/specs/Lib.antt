@@ -8,3 +8,4 @@ pub mod Hands
 pub mod Deals
 pub mod Named
 pub mod Served
+pub mod Answers

@@ -1,6 +1,7 @@
 //! A region server: the opening of a store, the passes of its handlers, and its calls.
 #![tactic(auto)]
 
+mod calls;
 mod dealing;
 mod hands;
 mod helpers;
@@ -8,6 +9,8 @@ mod naming;
 mod opening;
 mod pass;
 mod passes;
+mod putting;
+mod reading;
 mod refusal;
 mod room;
 mod scanner;
@@ -20,11 +23,14 @@ mod taking;
 mod unlocked;
 
 pub use helpers::Helpers;
+pub use log_device::{RollRefusal, Rolled};
+pub use log_service::LogSeat;
 pub use mem_segments::Page;
 pub use naming::Naming;
 pub use opening::open;
 pub use pass::Pass;
 pub use passes::Passes;
+pub use region_lock::{FlushRefusal, FreeGate, Gate, PutRefusal, ScanReply};
 pub use refusal::{StartRefusal, StartWhy};
 pub use scanner::Scanner;
 pub use server::Server;

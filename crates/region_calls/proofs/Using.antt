@@ -1,0 +1,175 @@
+-- One call of a pass on one region, by the number of the region.
+use Rattle.std.proofs.Common.{◌≡◌, ℕ, zero, suc, ◌+◌, ◌-◌, ◌<◌, ◌≤◌, Bool, IsTrue, List, [], ◌++◌, length, set, get_or, Option, Some, None, Result, Ok, Err, slice_get, Contains, refl, sym, ap, ◌∙◌, subst, arith}
+use Rattle.std.proofs.lemmas.List.{append-nil}
+use Rattle.std.proofs.lemmas.Option.{slice_get_read, slice_get_within}
+use Rattle.cell_model.specs.Cell.{Cell}
+use Rattle.hand_register.specs.declared.hand.Hand.{Hand}
+use Rattle.hand_register.specs.Desks.{record_of}
+use Rattle.kv_cell.specs.declared.error.NoMemory.{NoMemory}
+use Rattle.log_device.specs.declared.error.Rolled.{Rolled}
+use Rattle.log_device.specs.declared.error.RollRefusal.{RollRefusal}
+use Rattle.log_device.specs.declared.error.RollRefusal.TheVariants as roll
+use Rattle.log_service.specs.declared.seats.LogSeat.{LogSeat}
+use Rattle.log_service.specs.Numbers.{seen_synced}
+use Rattle.log_service.specs.Places.{IsLaterSeat}
+use Rattle.region_model.specs.Calls.{Answer, is_put, is_scan, is_flush, is_roll}
+use Rattle.region_model.specs.Journal.{Base, Caller, last_of}
+use Rattle.region_model.specs.Lines.{Line, edits_in, last_in}
+use Rattle.server_model.specs.Pass.{Known, Naming}
+use Rattle.server_model.specs.Steps.{Puts, Scans, Flushes, Rolls, IsRolled}
+use Rattle.region_lock.specs.declared.answers.PutRefusal.{PutRefusal}
+use Rattle.region_lock.specs.declared.answers.PutRefusal.TheVariants as put
+use Rattle.region_lock.specs.declared.answers.FlushRefusal.{FlushRefusal}
+use Rattle.region_lock.specs.declared.answers.FlushRefusal.TheVariants as flush
+use Rattle.region_lock.specs.declared.scan.ScanReply.{ScanReply}
+use Rattle.region_lock.specs.declared.pass.RegionPass.{RegionPass}
+use Rattle.region_lock.specs.declared.naming.Naming.{Ghosts}
+use Rattle.region_lock.specs.Answers.{put_answer, scan_answer, flush_answer, roll_answer}
+use Rattle.region_lock.specs.Calls.{PutsAt, ScansAt, FlushesAt, RollsAt}
+use Rattle.region_lock.specs.Parts.{AreCalledBelow}
+use Rattle.region_lock.specs.Passes.{known_of, SamePass}
+use Rattle.region_lock.proofs.Knowns.{last_same}
+use Rattle.region_lock.proofs.Lifts.{rolls_from}
+use Rattle.region_calls.specs.Answers.{point_seen, begun_answer}
+use Rattle.region_calls.specs.Passes.{known_at, known_in, pass_of, IsHandOf, AreHandsOf}
+use Rattle.region_calls.proofs.Knowing.{all_later, known_here, below_more, called_more}
+use Rattle.region_calls.proofs.Calling.{puts_all, scans_all, flushes_all}
+
+pub put_is : (x : Result ℕ PutRefusal) → IsTrue (is_put (put_answer x))
+put_is (Ok n) = refl
+put_is (Err (put.Memory logged)) = refl
+put_is (Err (put.WriteFault number)) = refl
+put_is (Err (put.NumbersSpent last)) = refl
+
+pub scan_is : (x : Result ScanReply NoMemory) → IsTrue (is_scan (scan_answer x))
+scan_is (Ok reply) = refl
+scan_is (Err e) = refl
+
+pub begun_is : (point : ℕ) (x : Result (List (ℕ × Cell)) NoMemory) → IsTrue (is_scan (begun_answer point x))
+begun_is point (Ok cells) = refl
+begun_is point (Err e) = refl
+
+pub flush_is : (x : Result ℕ FlushRefusal) → IsTrue (is_flush (flush_answer x))
+flush_is (Ok n) = refl
+flush_is (Err flush.Memory) = refl
+flush_is (Err flush.WriteFault) = refl
+flush_is (Err (flush.Nothing n)) = refl
+flush_is (Err (flush.Flushing by)) = refl
+
+pub roll_is : (x : Result Rolled RollRefusal) → IsTrue (is_roll (roll_answer x))
+roll_is (Ok rolled) = refl
+roll_is (Err roll.Memory) = refl
+roll_is (Err roll.WriteFault) = refl
+roll_is (Err (roll.NothingToRoll file)) = refl
+
+module _ {N : Type 0} {g : Ghosts N} where
+  -- the hand that a pass has of region r
+  pub record IsUsed (h calls r : ℕ) (ps : List (RegionPass N g)) (p : RegionPass N g) : Type 0 where
+    pub at : slice_get ps (r - 1) ≡ Some p
+    pub low : r - 1 < length ps
+    pub next : suc (r - 1) ≡ r
+    pub hand : IsHandOf h calls (r - 1 + 1) p
+    pub region : p.viewer.region ≡ suc (r - 1)
+
+  pub used : (h calls n r : ℕ) (ps : List (RegionPass N g)) (p : RegionPass N g) → length ps ≡ n → 1 ≤ r → r ≤ n → AreHandsOf h calls ps → p ≡ get_or ps (r - 1) p → IsUsed h calls r ps p
+  used h calls n r ps p count some few all is =
+      let low : r - 1 < length ps = omega (arith, count, some, few) in
+      let at : slice_get ps (r - 1) ≡ Some p = slice_get_read ps (length ps) (r - 1) p refl low is in
+      let hand : IsHandOf h calls (r - 1 + 1) p = all (r - 1) p at in
+      let region : p.viewer.region ≡ r - 1 + 1 = hand.region in
+      record { at = at; low = low; next = omega (arith, some); hand = hand; region = omega (arith, region) }
+
+  pub puts_used : (name : Naming) (bases : ℕ → Base) (time r : ℕ) (sync : Bool) (cells : List Cell) (caller : Caller) (answer : Answer) (h calls n : ℕ) (ps : List (RegionPass N g)) (p p' : RegionPass N g) (seat seat' : LogSeat)
+      → IsUsed h calls r ps p → name.bases ≡ bases → length ps ≡ n → IsTrue (is_put answer)
+      → PutsAt (bases p.viewer.region) time p.viewer.region sync cells caller answer (known_of n p seat) (known_of n p' seat') seat.device.knows.broken seat'.device.knows.broken
+      → IsLaterSeat seat seat' → calls < caller.call → Puts name time r sync cells caller answer (pass_of h calls ps seat) (pass_of h caller.call (set ps (r - 1) p') seat')
+  puts_used name bases time r sync cells caller answer h calls n ps p p' seat seat' u named count answered puts later low =
+      let was = seat.device.knows.broken in
+      let is = seat'.device.knows.broken in
+      let one = subst (λ (f : ℕ → Base). PutsAt (f p.viewer.region) time p.viewer.region sync cells caller answer (known_of n p seat) (known_of n p' seat') was is) (sym named) puts in
+      let two = subst (λ (m : ℕ). PutsAt (name.bases p.viewer.region) time p.viewer.region sync cells caller answer (known_of m p seat) (known_of m p' seat') was is) (sym count) one in
+      let all = subst (λ (s : ℕ). PutsAt (name.bases s) time s sync cells caller answer (known_of (length ps) p seat) (known_of (length ps) p' seat') was is) u.region two in
+      subst (λ (s : ℕ). Puts name time s sync cells caller answer (pass_of h calls ps seat) (pass_of h caller.call (set ps (r - 1) p') seat')) u.next
+      (puts_all name time (r - 1) sync cells caller answer h calls ps p p' seat seat' u.at u.low answered all later (omega (arith, low)))
+
+  pub flushes_used : (name : Naming) (bases : ℕ → Base) (lists : ℕ → List Caller) (r : ℕ) (caller : Caller) (answer : Answer) (h calls n : ℕ) (ps : List (RegionPass N g)) (p p' : RegionPass N g) (seat seat' : LogSeat)
+      → IsUsed h calls r ps p → name.bases ≡ bases → name.flushes ≡ lists → length ps ≡ n → IsTrue (is_flush answer)
+      → FlushesAt (bases p.viewer.region) (lists p.viewer.region) caller answer (known_of n p seat) (known_of n p' seat') seat.device.knows.broken seat'.device.knows.broken
+      → IsLaterSeat seat seat' → calls < caller.call → Flushes name r caller answer (pass_of h calls ps seat) (pass_of h caller.call (set ps (r - 1) p') seat')
+  flushes_used name bases lists r caller answer h calls n ps p p' seat seat' u named listed count answered flushes later low =
+      let was = seat.device.knows.broken in
+      let is = seat'.device.knows.broken in
+      let one = subst (λ (f : ℕ → Base). FlushesAt (f p.viewer.region) (lists p.viewer.region) caller answer (known_of n p seat) (known_of n p' seat') was is) (sym named) flushes in
+      let two = subst (λ (f : ℕ → List Caller). FlushesAt (name.bases p.viewer.region) (f p.viewer.region) caller answer (known_of n p seat) (known_of n p' seat') was is) (sym listed) one in
+      let three = subst (λ (m : ℕ). FlushesAt (name.bases p.viewer.region) (name.flushes p.viewer.region) caller answer (known_of m p seat) (known_of m p' seat') was is) (sym count) two in
+      let all = subst (λ (s : ℕ). FlushesAt (name.bases s) (name.flushes s) caller answer (known_of (length ps) p seat) (known_of (length ps) p' seat') was is) u.region three in
+      subst (λ (s : ℕ). Flushes name s caller answer (pass_of h calls ps seat) (pass_of h caller.call (set ps (r - 1) p') seat')) u.next
+      (flushes_all name (r - 1) caller answer h calls ps p p' seat seat' u.at u.low answered all later (omega (arith, low)))
+
+  pub scans_used : (name : Naming) (bases : ℕ → Base) (r : ℕ) (from to : List ℕ) (answer : Answer) (h calls : ℕ) (ps : List (RegionPass N g)) (p p' : RegionPass N g) (seat : LogSeat)
+      → IsUsed h calls r ps p → name.bases ≡ bases → IsTrue (is_scan answer)
+      → ScansAt (bases p.viewer.region) from to answer (known_of (length ps) p seat) (known_of (length ps) p' seat)
+      → Scans name r from to answer (pass_of h calls ps seat) (pass_of h calls (set ps (r - 1) p') seat)
+  scans_used name bases r from to answer h calls ps p p' seat u named answered scans =
+      let one = subst (λ (f : ℕ → Base). ScansAt (f p.viewer.region) from to answer (known_of (length ps) p seat) (known_of (length ps) p' seat)) (sym named) scans in
+      let all = subst (λ (s : ℕ). ScansAt (name.bases s) from to answer (known_of (length ps) p seat) (known_of (length ps) p' seat)) u.region one in
+      subst (λ (s : ℕ). Scans name s from to answer (pass_of h calls ps seat) (pass_of h calls (set ps (r - 1) p') seat)) u.next
+      (scans_all name (r - 1) from to answer h calls ps p p' seat u.at u.low answered all)
+
+  closed_in : (n k : ℕ) (answer : Answer) (before after : LogSeat) (o : Option (RegionPass N g)) → ((p : RegionPass N g) → o ≡ Some p → (p.viewer.region ≡ k + 1) × (k < n))
+      → RollsAt n answer before after → IsRolled answer → (known_at n before o).synced ≤ (known_at n after o).closed
+  closed_in n k answer before after None of rolls rolled = omega arith
+  closed_in n k answer before after (Some p) of rolls rolled = let q = of p refl in rolls.closed p.viewer.region (omega (arith, q.0)) (omega (arith, q.0, q.1)) rolled
+
+  closed_all : (answer : Answer) (h calls : ℕ) (ps : List (RegionPass N g)) (before after : LogSeat) → AreHandsOf h calls ps → RollsAt (length ps) answer before after
+      → (r : ℕ) → IsRolled answer → (known_in ps before r).synced ≤ (known_in ps after r).closed
+  closed_all answer h calls ps before after all rolls zero rolled = omega arith
+  closed_all answer h calls ps before after all rolls (suc k) rolled =
+      closed_in (length ps) k answer before after (slice_get ps k) (λ p at. ((all k p at).region, slice_get_within ps k p at)) rolls rolled
+
+  pub rolls_used : (n : ℕ) (answer : Answer) (h calls : ℕ) (ps : List (RegionPass N g)) (before after : LogSeat) → length ps ≡ n → AreHandsOf h calls ps → IsTrue (is_roll answer)
+      → RollsAt n answer before after → Rolls answer (pass_of h calls ps before) (pass_of h calls ps after)
+  rolls_used n answer h calls ps before after count all answered rolls =
+      let here : RollsAt (length ps) answer before after = subst (λ (m : ℕ). RollsAt m answer before after) (sym count) rolls in
+      rolls_from (length ps) answer before after (pass_of h calls ps before) (pass_of h calls ps after) answered here (all_later ps before after rolls.later.words)
+      (closed_all answer h calls ps before after all here) refl refl refl refl
+
+  -- a hand that a flush used
+  pub flush_hand : (base : Base) (flushes : List Caller) (r n h calls : ℕ) (caller : Caller) (answer : Answer) (p p' : RegionPass N g) (seat seat' : LogSeat) (was is : Bool)
+      → IsHandOf h calls r p → SamePass p p' → calls < caller.call → FlushesAt base flushes caller answer (known_of n p seat) (known_of n p' seat') was is → IsHandOf h caller.call r p'
+  flush_hand base flushes r n h calls caller answer p p' seat seat' was is old same low flushed =
+      let own : edits_in p.viewer.region (record_of p'.hand).list ≡ edits_in p.viewer.region (record_of p.hand).list ++ [] =
+      ap (λ q. edits_in q (record_of p'.hand).list) (sym same.0) ∙ flushed.own.own ∙ sym (append-nil (edits_in p.viewer.region (record_of p.hand).list)) in
+      record {
+        region = same.0 ∙ old.region;
+        number = same.1 ∙ old.number;
+        mark = same.2 ∙ old.mark;
+        called = called_more p.viewer.region (caller.call + 1) (record_of p.hand).list (record_of p'.hand).list [] own
+            (below_more (calls + 1) (caller.call + 1) (record_of p.hand).list (omega (arith, low)) old.called) (λ e has. absurd (omega (arith, has.1)));
+      }
+
+  -- a hand whose viewer alone moved
+  pub view_hand : (h calls r : ℕ) (p p' : RegionPass N g) → IsHandOf h calls r p → p'.viewer.region ≡ p.viewer.region → p'.hand ≡ p.hand → IsHandOf h calls r p'
+  view_hand h calls r p p' old region hand = record {
+    region = region ∙ old.region;
+    number = ap (λ (x : Hand Line). x.number) hand ∙ old.number;
+    mark = ap (λ (x : Hand Line). (record_of x).mark) hand ∙ old.mark;
+    called = subst (λ (x : Hand Line). AreCalledBelow (calls + 1) (record_of x).list) (sym hand) old.called;
+  }
+
+  -- what a pass knows as synced of a region whose hand it used
+  pub synced_used : (h calls r : ℕ) (ps : List (RegionPass N g)) (p p' : RegionPass N g) (seat : LogSeat) → IsUsed h calls r ps p → p'.viewer.region ≡ p.viewer.region
+      → seen_synced seat.device.knows p.viewer.region ≡ (known_in (set ps (r - 1) p') seat r).synced
+  synced_used h calls r ps p p' seat u same =
+      ap (seen_synced seat.device.knows) (sym same) ∙ sym (ap (λ (k : Known). k.synced) (known_here ps (r - 1) p' seat u.low)) ∙ ap (λ (s : ℕ). (known_in (set ps (r - 1) p') seat s).synced) u.next
+
+  -- the point that a pass has seen of a region whose hand it used
+  pub point_used : (name : Naming) (bases : ℕ → Base) (h calls r : ℕ) (ps : List (RegionPass N g)) (p p' : RegionPass N g) (seat : LogSeat) → IsUsed h calls r ps p → name.bases ≡ bases → p'.viewer.region ≡ p.viewer.region
+      → last_in (bases p.viewer.region) p'.viewer.lines ≡ point_seen name r (pass_of h calls (set ps (r - 1) p') seat)
+  point_used name bases h calls r ps p p' seat u named same =
+      let lines = p'.viewer.lines in
+      let here = known_here ps (r - 1) p' seat u.low in
+      let first : last_in (bases p.viewer.region) lines ≡ last_of (bases p.viewer.region).last (edits_in p'.viewer.region lines) = sym (last_same (bases p.viewer.region) p'.viewer.region lines) in
+      let next : last_of (bases p.viewer.region).last (edits_in p'.viewer.region lines) ≡ point_seen name (suc (r - 1)) (pass_of h calls (set ps (r - 1) p') seat) =
+      (λ i. last_of (sym named i (u.region i)).last (sym here i).shown) in
+      first ∙ next ∙ ap (λ (s : ℕ). point_seen name s (pass_of h calls (set ps (r - 1) p') seat)) u.next

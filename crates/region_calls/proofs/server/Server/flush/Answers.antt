@@ -1,0 +1,34 @@
+use Rattle.std.proofs.Common.{◌≡◌, ℕ, ◌+◌, ◌-◌, ◌≤◌, List, length, sym, ap, ◌∙◌, subst, arith, Contains}
+use Rattle.hand_register.specs.Desks.{record_of}
+use Rattle.log_service.specs.Places.{Place, IsSeatOf}
+use Rattle.region_model.specs.Journal.{Caller}
+use Rattle.region_lock.specs.Answers.{flush_answer}
+use Rattle.region_lock.proofs.Lists.{length_set}
+use Rattle.server_model.specs.Pass.{Naming}
+use Rattle.region_calls.proofs.Knowing.{hands_set}
+use Rattle.region_calls.proofs.Using.{flush_is, used, flushes_used, flush_hand}
+use Rattle.region_calls.proofs.server.Server.flush.Goals as goal
+
+pub returns-clause-flushes : goal.returns-clause-flushes
+returns-clause-flushes g c =
+    let pass = c.args.pass.now in
+    let p = c.index_mut.result.now in
+    let done = c.flush_in-answer in
+    let u = used pass.handler pass.calls c.args.self.now.regions c.args.region pass.regions.items p c.requires.of.count c.requires.region.0 c.requires.region.1 c.requires.of.hands c.index_mut.ensures.value in
+    flushes_used g.N.Naming-1.name g.N.Naming-4.base g.N.Naming-2.flushes c.args.region (record { handler = pass.handler; call = c.args.call }) (flush_answer done.result)
+    pass.handler pass.calls c.self.inside.service.regions pass.regions.items p done.new.at pass.seat done.new.seat u (ap (λ (n : Naming). n.bases) c.self.invariant.0.named) (ap (λ (n : Naming). n.flushes) c.self.invariant.0.named)
+    (c.requires.of.count ∙ sym (ap (λ (q : Place). q.regions) c.self.view_is)) (flush_is done.result) done.ensures.flushes done.ensures.later c.requires.call
+
+pub returns-clause-of : goal.returns-clause-of
+returns-clause-of g c =
+    let pass = c.args.pass.now in
+    let p = c.index_mut.result.now in
+    let done = c.flush_in-answer in
+    let u = used pass.handler pass.calls c.args.self.now.regions c.args.region pass.regions.items p c.requires.of.count c.requires.region.0 c.requires.region.1 c.requires.of.hands c.index_mut.ensures.value in
+    let hand = flush_hand (g.N.Naming-4.base p.viewer.region) (g.N.Naming-2.flushes p.viewer.region) (c.args.region - 1 + 1) c.self.inside.service.regions pass.handler pass.calls
+    (record { handler = pass.handler; call = c.args.call }) (flush_answer done.result) p done.new.at pass.seat done.new.seat _ _ u.hand done.ensures.same c.requires.call done.ensures.flushes in
+    record {
+      seat = subst (λ (q : Place). IsSeatOf q done.new.seat) c.self.view_is done.ensures.seat;
+      count = length_set pass.regions.items (c.args.region - 1) done.new.at ∙ c.requires.of.count;
+      hands = hands_set pass.handler pass.calls c.args.call pass.regions.items (c.args.region - 1) done.new.at c.requires.of.hands (omega (arith, c.requires.call)) hand;
+    }

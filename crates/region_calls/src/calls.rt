@@ -1,0 +1,192 @@
+//! A server's calls, each on one region.
+
+ghost use Rattle.std.specs.Prelude.{◌≡◌, ◌≤◌, ◌<◌, ◌^◌, ℕ, Contains, IfOk};
+ghost use Rattle.log_service.specs.Places.{IsSeatOf, IsLaterSeat};
+ghost use Rattle.server_model.specs.Pass.{IsLater};
+ghost use Rattle.server_model.specs.Steps.{IsQuietPass, Puts, Scans, Flushes, Rolls};
+ghost use Rattle.region_lock.specs.Puts.{IsFaultExact};
+ghost use Rattle.region_calls.specs.Answers.{is_sync, put_answer, scan_answer, begun_answer, point_seen, flush_answer, roll_answer};
+ghost use Rattle.region_calls.specs.Passes.{knows, IsPassOf};
+
+use crate::naming::Naming;
+use crate::pass::Pass;
+use crate::putting::put_at;
+use crate::reading::scanner_in;
+use crate::scanner::Scanner;
+use crate::server::Server;
+use disk_images::Disk;
+use kv_cell::{Batch, Durability, NoMemory};
+use log_device::{RollRefusal, Rolled};
+use log_service::LogSeat;
+use region_lock::{
+    FlushRefusal, Gate, PutRefusal, ScanReply, flush_in, help, point_in, roll_in, scan_in,
+};
+use region_state::Caller;
+use std::alloc::Global;
+use std::sync::Wait;
+
+impl<
+    'a,
+    D: Disk,
+    N: Naming + region_lock::Naming + log_service::Naming + region_versions::Naming,
+    R: Wait,
+> Server<'a, D, N, R> {
+    /// Puts the cells of one edit into a region: draws its number, logs it, waits for the log where durability was asked for, and shows it.
+    /// It answers the number once the pass has seen a version at or above it. A put that answered Memory with a number, or WriteFault with
+    /// one, is in the journal.
+    pub fn put<G: Gate, S: Wait>(
+        &self,
+        rt: &S,
+        alloc: Global,
+        pass: &mut Pass<N>,
+        region: u32,
+        call: u32,
+        time: u64,
+        durability: Durability,
+        batch: Batch,
+        gate: &G,
+    ) -> Result<u64, PutRefusal>
+        requires of { IsPassOf self.now pass.old }
+        requires region { (1 ≤ region) × (region ≤ self.now.regions) }
+        requires call { (knows pass.old).calls < call }
+        requires time { time < 2 ^ 63 }
+        ensures puts { Puts N.name time region (is_sync durability) batch (record { handler = (knows pass.old).handler; call = call }) (put_answer result) (knows pass.old) (knows pass.new) }
+        ensures exact { IsFaultExact (is_sync durability) result ((knows pass.new).known region).synced (knows pass.new).broken }
+        ensures of { IsPassOf self.now pass.new }
+    {
+        let caller = Caller {
+            handler: pass.handler,
+            call,
+        };
+        let place = region as usize - 1;
+        let answer = put_at(
+            rt,
+            alloc,
+            &self.service,
+            &self.regions[place],
+            &mut pass.regions[place],
+            &mut pass.seat,
+            caller,
+            time,
+            durability,
+            batch,
+            gate,
+        );
+        pass.calls = call;
+        answer
+    }
+
+    /// The cells of a region whose rows lie at or above `from` and, if `to` isn't empty, below `to`, at a point that was shown. It waits for
+    /// nobody. The point is at or above each one that the pass has seen. After want of memory the pass may have seen a later point.
+    pub fn scan(
+        &self,
+        alloc: Global,
+        pass: &mut Pass<N>,
+        region: u32,
+        from: &[u8],
+        to: &[u8],
+    ) -> Result<ScanReply, NoMemory>
+        requires of { IsPassOf self.now pass.old }
+        requires region { (1 ≤ region) × (region ≤ self.now.regions) }
+        ensures scans { Scans N.name region from.now to.now (scan_answer result) (knows pass.old) (knows pass.new) }
+        ensures of { IsPassOf self.now pass.new }
+    {
+        let _ = &self.service;
+        let place = region as usize - 1;
+        scan_in(alloc, &mut pass.regions[place], from, to)
+    }
+
+    /// The scan of a region's cells whose rows lie at or above `from` and, if `to` isn't empty, below `to`, at a point that was shown, to be
+    /// read a page at a time. It waits for nobody, and nobody waits for it. The point is at or above each one that the pass has seen, and it
+    /// stays: what is put later is not in its pages. After want of memory the pass may have seen a later point.
+    pub fn begin_scan(
+        &self,
+        alloc: Global,
+        pass: &mut Pass<N>,
+        region: u32,
+        from: &[u8],
+        to: &[u8],
+    ) -> Result<Scanner, NoMemory>
+        requires of { IsPassOf self.now pass.old }
+        requires region { (1 ≤ region) × (region ≤ self.now.regions) }
+        ensures scans { Scans N.name region from.now to.now (begun_answer (point_seen N.name region (knows pass.new)) result) (knows pass.old) (knows pass.new) }
+        ensures of { IsPassOf self.now pass.new }
+    {
+        let _ = &self.service;
+        let place = region as usize - 1;
+        scanner_in(alloc, &mut pass.regions[place], from, to)
+    }
+
+    /// The point of the region's version that is shown, at or above each one that the pass has seen. It waits for nobody.
+    pub fn read_point(&self, pass: &mut Pass<N>, region: u32) -> u64
+        requires of { IsPassOf self.now pass.old }
+        requires region { (1 ≤ region) × (region ≤ self.now.regions) }
+        ensures point { result ≡ point_seen N.name region (knows pass.new) }
+        ensures later { IsLater (knows pass.old) (knows pass.new) }
+        ensures own { IsQuietPass (knows pass.old) (knows pass.new) }
+        ensures used { (knows pass.new).calls ≡ (knows pass.old).calls }
+        ensures of { IsPassOf self.now pass.new }
+    {
+        let _ = &self.service;
+        let place = region as usize - 1;
+        point_in(&mut pass.regions[place])
+    }
+
+    /// Writes what is logged of a region to a store file, and answers up to which number: it is at or above each one of the region that the
+    /// pass has seen. Where a flush of the region by another handler was under way at the look under the region's lock, it answers that one.
+    pub fn flush<S: Wait>(
+        &self,
+        rt: &S,
+        alloc: Global,
+        pass: &mut Pass<N>,
+        region: u32,
+        call: u32,
+    ) -> Result<u64, FlushRefusal>
+        requires of { IsPassOf self.now pass.old }
+        requires region { (1 ≤ region) × (region ≤ self.now.regions) }
+        requires call { (knows pass.old).calls < call }
+        requires listed { Contains (N.flushes region) (record { handler = (knows pass.old).handler; call = call }) }
+        ensures flushes { Flushes N.name region (record { handler = (knows pass.old).handler; call = call }) (flush_answer result) (knows pass.old) (knows pass.new) }
+        ensures of { IsPassOf self.now pass.new }
+    {
+        let by = Caller {
+            handler: pass.handler,
+            call,
+        };
+        let place = region as usize - 1;
+        let answer = flush_in(
+            rt,
+            alloc,
+            &self.service,
+            &self.regions[place],
+            &mut pass.regions[place],
+            &mut pass.seat,
+            by,
+        );
+        pass.calls = call;
+        answer
+    }
+
+    /// Closes the log's file, and begins the next one.
+    pub fn roll<S: Wait>(
+        &self,
+        rt: &S,
+        alloc: Global,
+        pass: &mut Pass<N>,
+    ) -> Result<Rolled, RollRefusal>
+        requires of { IsPassOf self.now pass.old }
+        ensures rolls { Rolls (roll_answer result) (knows pass.old) (knows pass.new) }
+        ensures of { IsPassOf self.now pass.new }
+    {
+        roll_in(rt, alloc, &self.service, &mut pass.seat)
+    }
+
+    /// Helps the log: one turn of each kind.
+    pub fn help<S: Wait>(&self, rt: &S, seat: &mut LogSeat)
+        requires seat { IsSeatOf self.now seat.old }
+        ensures seat { IsSeatOf self.now seat.new }
+        ensures later { IsLaterSeat seat.old seat.new }
+    {
+        help(rt, &self.service, seat);
+    }
+}

@@ -1,0 +1,56 @@
+//! A put into one region, with its memory.
+
+ghost use Rattle.std.specs.Prelude.{◌≡◌, ◌≤◌, ◌<◌, ◌^◌};
+ghost use Rattle.hand_register.specs.Desks.{record_of};
+ghost use Rattle.log_service.specs.Numbers.{seen_synced};
+ghost use Rattle.log_service.specs.Places.{IsSeatOf, IsLaterSeat};
+ghost use Rattle.region_lock.specs.Answers.{is_sync, put_answer};
+ghost use Rattle.region_lock.specs.Calls.{PutsAt};
+ghost use Rattle.region_lock.specs.Parts.{AreCalledBelow};
+ghost use Rattle.region_lock.specs.Passes.{IsAtService, SamePass, known_of};
+ghost use Rattle.region_lock.specs.Puts.{IsFaultExact};
+
+use disk_images::Disk;
+use kv_cell::{Batch, Durability, NoMemory};
+use log_service::{LogSeat, LogService};
+use region_lock::{Gate, Locked, PutRefusal, RegionPass, prepare, put_in};
+use region_state::Caller;
+use std::alloc::Global;
+use std::sync::{Mutex, Wait};
+
+/// Takes the memory of an edit, and puts it in.
+pub(crate) fn put_at<
+    N: region_lock::Naming + log_service::Naming + region_versions::Naming,
+    D: Disk,
+    R: Wait + Drop,
+    G: Gate,
+    S: Wait,
+>(
+    rt: &S,
+    alloc: Global,
+    service: &LogService<D, N>,
+    lock: &Mutex<Locked<N, R>>,
+    at: &mut RegionPass<N>,
+    seat: &mut LogSeat,
+    caller: Caller,
+    time: u64,
+    durability: Durability,
+    batch: Batch,
+    gate: &G,
+) -> Result<u64, PutRefusal>
+    requires service { IsAtService N.ring service.now at.old.viewer.region seat.old × (at.old.viewer.region ≤ 64) }
+    requires time { time < 2 ^ 63 }
+    requires caller { (caller.handler ≡ at.old.hand.number) × AreCalledBelow caller.call (record_of at.old.hand).list }
+    ensures puts { PutsAt (N.Naming-3.base at.old.viewer.region) time at.old.viewer.region (is_sync durability) batch caller (put_answer result)
+        (known_of service.now.regions at.old seat.old) (known_of service.now.regions at.new seat.new) seat.old.device.knows.broken seat.new.device.knows.broken }
+    ensures same { SamePass at.old at.new }
+    ensures seat { IsSeatOf service.now seat.new }
+    ensures later { IsLaterSeat seat.old seat.new }
+    ensures exact { IsFaultExact (is_sync durability) result (seen_synced seat.new.device.knows at.old.viewer.region) seat.new.device.knows.broken }
+{
+    let region = at.region();
+    match prepare(alloc, region, caller, time, batch) {
+        Ok(job) => put_in(rt, alloc, service, lock, at, seat, durability, job, gate),
+        Err(NoMemory) => Err(PutRefusal::Memory { logged: None }),
+    }
+}
