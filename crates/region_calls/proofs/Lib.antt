@@ -1,4 +1,6 @@
 pub mod Regions
 pub mod Sown
 pub mod Marks
-pub mod Started
+pub mod Begun
+pub mod Seated
+pub mod NamedSeeds

@@ -2,3 +2,9 @@ pub mod Bases
 pub mod Seeds
 pub mod Store
 pub mod Opening
+pub mod Names
+pub mod Passes
+pub mod Hands
+pub mod Deals
+pub mod Named
+pub mod Served

@@ -1,17 +1,34 @@
-//! The calls of a region server: the opening of a store, and scans of one version, a page at a time.
+//! A region server: the opening of a store, the passes of its handlers, and its calls.
 #![tactic(auto)]
 
+mod dealing;
+mod hands;
+mod helpers;
+mod naming;
 mod opening;
+mod pass;
+mod passes;
 mod refusal;
+mod room;
 mod scanner;
 mod seeds;
+mod server;
 mod sowing;
+mod starting;
 mod store;
+mod taking;
+mod unlocked;
 
+pub use helpers::Helpers;
 pub use mem_segments::Page;
+pub use naming::Naming;
 pub use opening::open;
+pub use pass::Pass;
+pub use passes::Passes;
 pub use refusal::{StartRefusal, StartWhy};
 pub use scanner::Scanner;
+pub use server::Server;
+pub use starting::Started;
 pub use store::Opened;
 
 #[cfg(test)]

@@ -8,3 +8,4 @@ pub mod FlushLaws
 pub mod ScanLaws
 pub mod Lifts
 pub mod Meeting
+pub mod NewPart

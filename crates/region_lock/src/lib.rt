@@ -22,6 +22,7 @@ mod roll;
 mod scan;
 mod show;
 mod waiting;
+mod whole;
 
 pub use answers::{FlushRefusal, PutRefusal};
 pub use flush::flush_in;

@@ -31,6 +31,7 @@ pub fn recover_all<D: Disk>(alloc: Global, disk: &mut D) -> Result<Recovered, Sp
     ensures damaged { IsTrue D.told → IfDamage result (λ damage. IsDamage (D.view disk.old).files damage × ((D.view disk.new).files ≡ (D.view disk.old).files)) }
     ensures cause { HasCause (D.faults disk.old) (D.faults disk.new) (IsErrOf result SplitRefusal.DiskFault) }
 {
-    let _ = (alloc, disk);
+    let _ = alloc;
+    let _ = &*disk;
     Err(SplitRefusal::Memory)
 }

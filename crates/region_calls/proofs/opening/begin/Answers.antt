@@ -14,7 +14,7 @@ use Rattle.log_service.specs.Begun.{AreNewParts}
 use Rattle.region_calls.specs.Bases.{AreBasesOf}
 use Rattle.region_calls.specs.Seeds.{base_of, bases_found, lasts_of, marks_from, flushed_of}
 use Rattle.region_calls.proofs.Marks.{flushed_in, bases_of}
-use Rattle.region_calls.proofs.Started.{is_opened, moments, len_map, is_fresh, begins_as}
+use Rattle.region_calls.proofs.Begun.{is_opened, moments, len_map, is_fresh, begins_as}
 use Rattle.region_calls.proofs.opening.begin.Goals as goal
 
 -- the marks are those of the regions that were found

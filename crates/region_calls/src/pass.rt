@@ -1,0 +1,26 @@
+//! A handler's pass.
+
+ghost use Rattle.std.specs.Prelude.{◌≡◌};
+ghost use Rattle.region_calls.specs.Passes.{knows};
+
+use log_service::LogSeat;
+use region_lock::RegionPass;
+
+/// What a handler calls its server by: its seat at the log, and of each region its hands and its viewer.
+#[derive(Drop)]
+pub struct Pass<N: region_lock::Naming + region_versions::Naming> {
+    pub(crate) handler: u32,
+    pub(crate) calls: u32,
+    pub(crate) seat: LogSeat,
+    // Region 1 first.
+    pub(crate) regions: Vec<RegionPass<N>>,
+}
+
+impl<N: region_lock::Naming + region_versions::Naming> Pass<N> {
+    /// The handler's number, from 1 on.
+    pub fn handler(&self) -> u32
+        ensures { result ≡ (knows self.now).handler }
+    {
+        self.handler
+    }
+}

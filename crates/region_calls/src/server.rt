@@ -1,0 +1,43 @@
+//! A server.
+
+ghost use Rattle.std.specs.Prelude.{◌≡◌};
+
+use crate::naming::Naming;
+use append_ring::RingPasses;
+use disk_images::Disk;
+use log_service::{Item, LogService};
+use region_lock::Locked;
+use std::marker::Model;
+use std::sync::{Mutex, Wait};
+
+/// A server of regions over one log, which threads share. Contracts see of which rings and berths its log is, and how many regions and
+/// seats it has.
+pub struct Server<
+    'a,
+    D: Disk,
+    N: Naming + region_lock::Naming + log_service::Naming + region_versions::Naming,
+    R: Wait,
+> {
+    pub(crate) service: LogService<D, N>,
+    // Region 1 first.
+    pub(crate) regions: Vec<Mutex<Locked<N, &'a R>>>,
+    // The places of the regions' passes of the ring, which stand in the regions' locks.
+    pub(crate) places: RingPasses<Item>,
+}
+
+impl<
+    'a,
+    D: Disk,
+    N: Naming + region_lock::Naming + log_service::Naming + region_versions::Naming,
+    R: Wait,
+> Model for Server<'a, D, N, R> {
+    ghost use Rattle.std.specs.Prelude.{length};
+    ghost use Rattle.log_service.specs.Places.{Place};
+    ghost use Rattle.region_calls.specs.Served.{IsBegun, AreLocked};
+
+    ghost Value = { Place };
+
+    ghost view = { λ s. s.service };
+
+    ghost invariant = { λ s. IsBegun D.told N.name N.found N.handlers N.flushes N.ring N.lasts ⟦<N as log_service::Naming>⟧.base ⟦<N as region_versions::Naming>⟧.base s.service × AreLocked s.service (length s.regions.items) s.places };
+}

@@ -1,0 +1,223 @@
+//! How an opened store becomes a server.
+
+ghost use Rattle.std.specs.Prelude.{◌≡◌, ◌≤◌, ◌<◌, ◌+◌, ◌∷◌, [], ℕ, length, replicate, IsTrue, IfOk, IfErr, vec_capacity};
+ghost use Rattle.append_ring.specs.Parts.{AreNew, AreOut};
+ghost use Rattle.log_service.specs.Places.{Place};
+ghost use Rattle.region_calls.specs.Hands.{AreDeals};
+ghost use Rattle.region_calls.specs.Deals.{AreSeatsOf, AreRooms, ArePassesOf, passes_out, passes_back};
+ghost use Rattle.region_calls.specs.Named.{AreFrom, AreNamedSeeds};
+ghost use Rattle.region_calls.specs.Names.{name_of, AreTablesOf};
+ghost use Rattle.region_calls.specs.Seeds.{AreSeeds, lasts_of};
+ghost use Rattle.region_calls.specs.Served.{IsBegun, AreNewSeats};
+ghost use Rattle.region_calls.specs.Store.{IsStore, disk_now, disk_found, disk_begun, regions_of, handlers_of, bases_of, ring_of, hand_of};
+
+use crate::hands::RegionHands;
+use crate::helpers::Helpers;
+use crate::naming::Naming;
+use crate::pass::Pass;
+use crate::passes::Passes;
+use crate::refusal::{StartRefusal, StartWhy};
+use crate::room::{NamedRegions, make_rooms, name_regions};
+use crate::seeds::RegionSeeds;
+use crate::server::Server;
+use crate::store::Opened;
+use crate::unlocked::Unlocked;
+use append_ring::RingPasses;
+use disk_images::Disk;
+use kv_cell::NoMemory;
+use log_service::{Item, LogSeat, LogService, ServiceParts, ServiceRefusal};
+use region_lock::{Locked, RegionPass};
+use std::alloc::Global;
+use std::sync::{Mutex, Wait};
+
+/// A server, its handlers' passes and two seats for threads that help the log.
+pub struct Started<
+    'a,
+    D: Disk,
+    N: Naming + region_lock::Naming + log_service::Naming + region_versions::Naming,
+    R: Wait,
+> {
+    pub server: Server<'a, D, N, R>,
+    pub passes: Passes<N>,
+    pub helpers: Helpers,
+}
+
+/// All memory of a server under its name, but its log's.
+#[derive(Drop)]
+struct Room<
+    'a,
+    N: Naming + region_lock::Naming + log_service::Naming + region_versions::Naming,
+    R: Wait,
+> {
+    unlocked: Vec<Unlocked<N, &'a R>>,
+    hands: Vec<RegionHands<N>>,
+    rooms: Vec<Vec<RegionPass<N>>>,
+    locks: Vec<Mutex<Locked<N, &'a R>>>,
+    back: Vec<Pass<N>>,
+    helpers: Vec<LogSeat>,
+}
+
+/// Takes the memory.
+fn make_room<
+    'a,
+    N: Naming + region_lock::Naming + log_service::Naming + region_versions::Naming,
+    R: Wait,
+>(
+    rt: &'a R,
+    alloc: Global,
+    seeds: Vec<RegionSeeds>,
+    handlers: u32,
+) -> Result<Room<'a, N, R>, NoMemory>
+    requires seeds { AreSeeds handlers 1 seeds.items }
+    requires handlers { (1 ≤ handlers) × (handlers ≤ 16) × (handlers ≡ N.handlers) }
+    requires named { AreNamedSeeds N.desk N.spent N.book N.Naming-4.base N.lasts seeds.items }
+    ensures regions { IfOk result (λ r. AreFrom 1 r.unlocked.items × (length r.unlocked.items ≡ length seeds.items) × AreDeals 1 handlers r.hands.items × (length r.hands.items ≡ length seeds.items)) }
+    ensures rooms { IfOk result (λ r. AreRooms (length seeds.items) r.rooms.items × (length r.rooms.items ≡ handlers)) }
+    ensures locks { IfOk result (λ r. (r.locks.items ≡ []) × (length seeds.items ≤ vec_capacity r.locks)) }
+    ensures back { IfOk result (λ r. (r.back.items ≡ []) × (handlers ≤ vec_capacity r.back)) }
+    ensures helpers { IfOk result (λ r. (r.helpers.items ≡ []) × (2 ≤ vec_capacity r.helpers)) }
+{
+    let regions = seeds.len();
+    let rooms = make_rooms::<N>(alloc, regions, handlers)?;
+    let locks = Vec::with_capacity(alloc, regions)?;
+    let back = Vec::with_capacity(alloc, handlers as usize)?;
+    let helpers = Vec::with_capacity(alloc, 2)?;
+    let NamedRegions { unlocked, hands } = name_regions::<N, R>(rt, alloc, seeds, handlers)?;
+    Ok(Room {
+        unlocked,
+        hands,
+        rooms,
+        locks,
+        back,
+        helpers,
+    })
+}
+
+/// Puts each region behind its lock, with its pass of the ring.
+fn lock_all<N: region_lock::Naming + log_service::Naming + region_versions::Naming, R: Wait + Drop>(
+    passes: &mut RingPasses<Item>,
+    unlocked: Vec<Unlocked<N, R>>,
+    locks: Vec<Mutex<Locked<N, R>>>,
+) -> Vec<Mutex<Locked<N, R>>>
+    requires passes { AreNew N.ring N.lasts 0 passes.old × (length passes.old ≡ length unlocked.items) }
+    requires regions { AreFrom 1 unlocked.items }
+    requires room { (locks.items ≡ []) × (length unlocked.items ≤ vec_capacity locks) }
+    ensures locks { length result.items ≡ length unlocked.items }
+    ensures passes { AreOut (length passes.new) passes.new × (length passes.new ≡ length passes.old) }
+{
+    let mut locks = locks;
+    'locking: for region in unlocked {
+        let Some(pass) = passes.next() else {
+            unreachable!()
+        };
+        locks.push_reserved(Mutex::new(region.with_pass(pass)));
+    }
+    locks
+}
+
+/// Joins the log's service and the regions.
+fn join<
+    'a,
+    D: Disk,
+    N: Naming + region_lock::Naming + log_service::Naming + region_versions::Naming,
+    R: Wait,
+>(parts: ServiceParts<D, N>, room: Room<'a, N, R>, handlers: u32) -> Started<'a, D, N, R>
+    requires handlers { (1 ≤ handlers) × (handlers ≤ 16) × (handlers ≡ N.handlers) }
+    requires served { IsBegun D.told N.name N.found N.handlers N.flushes N.ring N.lasts N.Naming-3.base N.Naming-4.base parts.service }
+    requires passes { AreNew N.ring N.lasts 0 parts.passes × (length parts.passes ≡ parts.service.regions) }
+    requires seats { AreNewSeats parts.service (handlers + 2) parts.seats }
+    requires regions { AreFrom 1 room.unlocked.items × (length room.unlocked.items ≡ parts.service.regions) × AreDeals 1 handlers room.hands.items × (length room.hands.items ≡ parts.service.regions) }
+    requires rooms { AreRooms parts.service.regions room.rooms.items × (length room.rooms.items ≡ handlers) }
+    requires locks { (room.locks.items ≡ []) × (parts.service.regions ≤ vec_capacity room.locks) }
+    requires back { (room.back.items ≡ []) × (handlers ≤ vec_capacity room.back) }
+    requires helpers { (room.helpers.items ≡ []) × (2 ≤ vec_capacity room.helpers) }
+    ensures server { result.server ≡ parts.service }
+    ensures passes { (passes_out result.passes ≡ 0) × (passes_back result.passes ≡ []) × ArePassesOf parts.service N.handlers result.passes }
+    ensures helpers { (length result.helpers ≡ 2) × AreSeatsOf parts.service result.helpers }
+{
+    let ServiceParts {
+        service,
+        passes: mut places,
+        mut seats,
+    } = parts;
+    let Room {
+        unlocked,
+        hands,
+        rooms,
+        locks,
+        back,
+        mut helpers,
+    } = room;
+    let regions = lock_all(&mut places, unlocked, locks);
+    let Some(first) = seats.next() else {
+        unreachable!()
+    };
+    let Some(second) = seats.next() else {
+        unreachable!()
+    };
+    helpers.push_reserved(first);
+    helpers.push_reserved(second);
+    Started {
+        server: Server {
+            service,
+            regions,
+            places,
+        },
+        passes: Passes {
+            regions: hands,
+            rooms,
+            seats,
+            handlers,
+            out: 0,
+            back,
+        },
+        helpers: Helpers { seats: helpers },
+    }
+}
+
+impl<D: Disk> Opened<D> {
+    /// The server of this store, by a name that is its: the store's tables, bases and files. The refusal is want of memory, and gives the
+    /// disk back. The server keeps the handle `rt`, since its drop waits for those that view a region.
+    pub fn named<
+        'a,
+        N: Naming + region_lock::Naming + log_service::Naming + region_versions::Naming,
+        R: Wait,
+    >(self, rt: &'a R, alloc: Global) -> Result<Started<'a, D, N, R>, StartRefusal<D>>
+        requires name { N.name ≡ name_of (length N.lasts) N.handlers N.Naming-4.base N.flushes }
+        requires store { IsStore D.Disk self }
+        requires handlers { N.handlers ≡ handlers_of self }
+        requires lasts { N.lasts ≡ lasts_of (bases_of self) }
+        requires rings { (N.ring ≡ ring_of self) × (N.hand ≡ hand_of self) }
+        requires regions { (r : ℕ) → 1 ≤ r → r ≤ regions_of self → AreTablesOf N.desk N.spent N.book N.Naming-4.base self r }
+        requires begun { (N.Naming-3.base ≡ (D.view (disk_begun self)).files) × (N.start ≡ (D.view (disk_now self)).clock) × (N.faults ≡ D.faults (disk_now self)) }
+        requires found { (N.found ≡ (D.view (disk_found self)).files) × (N.found_faults ≡ D.faults (disk_found self)) }
+
+        ensures server { IfOk result (λ s. (s.server.regions ≡ regions_of self) × (s.server.seats ≡ handlers_of self + 2)) }
+        ensures passes { IfOk result (λ s. (passes_out s.passes ≡ 0) × (passes_back s.passes ≡ []) × ArePassesOf s.server N.handlers s.passes) }
+        ensures helpers { IfOk result (λ s. (length s.helpers ≡ 2) × AreSeatsOf s.server s.helpers) }
+        ensures refused { IfErr result (λ e. (e.why ≡ StartWhy.Memory) × (e.disk ≡ disk_now self)) }
+    {
+        let Opened {
+            device,
+            rings,
+            seeds,
+            regions,
+            handlers,
+            found: _,
+            split: _,
+        } = self;
+        let Ok(room) = make_room::<N, R>(rt, alloc, seeds, handlers) else {
+            return Err(StartRefusal {
+                why: StartWhy::Memory,
+                disk: device.into_disk(),
+            });
+        };
+        match LogService::start(alloc, rings, device, regions, handlers + 2) {
+            Ok(parts) => Ok(join(parts, room, handlers)),
+            Err(ServiceRefusal { device }) => Err(StartRefusal {
+                why: StartWhy::Memory,
+                disk: device.into_disk(),
+            }),
+        }
+    }
+}

@@ -1,0 +1,57 @@
+//! The value of a region's lock at the start.
+
+ghost use Rattle.std.specs.Prelude.{◌≡◌, [], None, replicate};
+ghost use Rattle.append_ring.specs.Parts.{IsNew};
+ghost use Rattle.append_ring.specs.Rules.{base_of};
+ghost use Rattle.hand_register.specs.Desks.{records};
+ghost use Rattle.hand_register.specs.Rule.{empty};
+ghost use Rattle.region_versions.specs.Histories.{beginning};
+
+use crate::locked::Locked;
+use crate::naming::Naming;
+use crate::part::RegionPart;
+use append_ring::RingPass;
+use hand_register::Desk;
+use log_service::Item;
+use region_state::{Line, RegionState};
+use region_versions::{History, Shower};
+use std::marker::PhantomData;
+use std::sync::Wait;
+
+impl<N: Naming + log_service::Naming + region_versions::Naming, R: Wait + Drop> Locked<N, R> {
+    /// A region with no edit since its base: its pass of the ring, under which nothing was pushed; its two desks, whose hands have done
+    /// nothing; and its history, which is empty, and is shown.
+    pub fn of(
+        state: RegionState,
+        pass: RingPass<Item>,
+        desk: Desk<Line>,
+        spent: Desk<u64>,
+        history: History<N>,
+        shower: Shower<N, R>,
+    ) -> Locked<N, R>
+        requires lines { state.lines ≡ [] }
+        requires base { state.base ≡ N.Naming-3.base state.region }
+        requires pass { IsNew N.ring N.lasts state.region pass }
+        requires last { base_of N.lasts state.region ≡ state.base.last }
+        requires desk { (desk.seat.table_id ≡ N.desk state.region) × (records desk ≡ replicate N.handlers empty) }
+        requires spent { (spent.seat.table_id ≡ N.spent state.region) × (records spent ≡ replicate N.handlers empty) }
+        requires history { history ≡ beginning state.region [] }
+        requires shown { shower.shown ≡ history }
+        ensures state { result.state ≡ state }
+        ensures mark { result.mark ≡ None }
+    {
+        let part = RegionPart {
+            state,
+            pass,
+            desk,
+            spent,
+            mark: None,
+            of: PhantomData,
+        };
+        Locked {
+            part,
+            shower,
+            history,
+        }
+    }
+}
