@@ -1,27 +1,25 @@
 -- Commands that only read the store: what they find, and what stands when they have ended.
-use Rattle.std.proofs.Common.{◌≡◌, ◌≢◌, ℕ, ◌+◌, List, [], ◌∷◌, Option, Some, None, codes, refl, sym, subst, ◌∙◌}
-use Rattle.cell_model.specs.Lists.{IsPrefix}
+use Rattle.std.proofs.Common.{◌≡◌, ◌≢◌, ℕ, List, Option, Some, None, refl, sym, subst, inr, ◌∙◌}
 use Rattle.log_model.specs.declared.name.Name.{Name}
 use Rattle.log_model.specs.LogText.{IsDamaged}
 use Rattle.log_model.specs.Files.{Files, Reads, key_of, size_of}
 use Rattle.disk_images.specs.Crash.{DiskView}
 use Rattle.disk_images.specs.Calls.{Looks}
-use Rattle.disk_images.proofs.Moments.{elapses_on}
 use Rattle.log_file.specs.Looking.{OnlyLooks}
 use Rattle.script_model.specs.Outputs.{refused_memory, refused_disk}
-use Rattle.command_ends.specs.Invocation.{invocation, IsUnchanged, GoesOn, IsRefused, taken_of}
+use Rattle.command_ends.specs.Invocation.{invocation, IsUnchanged, KeepsImages, taken_of}
 use Rattle.command_ends.specs.Prints.{Prints}
 use Rattle.command_ends.specs.LogFiles.{IsDamagedLog, IsLogRefusal}
 use Rattle.command_ends.specs.Status.{refusal_line, IsPrintEnd}
 use Rattle.command_ends.specs.Ends.{EndsAs, Done, reads}
 use Rattle.command_ends.specs.declared.status.Status.{Status}
 use Rattle.command_ends.specs.declared.status.Status.TheVariants as ends
-use Rattle.command_ends.proofs.Endings.{taken_whole, taken_begins}
+use Rattle.command_ends.proofs.Endings.{taken_whole, taken_begins, refused_so, keeps_on, kept_looking}
 
 -- ---- the disk
 
-pub both_on : (n : ℕ) (x y z : DiskView) → Looks x y → OnlyLooks n y z → GoesOn x z
-both_on n x y z f g = ∣ (1 + n, elapses_on 1 n x y z f.time g.moments.time) ∣₁
+pub both_on : (n : ℕ) (x y z : DiskView) → Looks x y → OnlyLooks n y z → KeepsImages x z
+both_on n x y z f g = keeps_on x y z (kept_looking x y f) ∣ (n, g.moments) ∣₁
 
 -- a file with a size is there
 pub sized : (found : Option (List ℕ)) (n : ℕ) → size_of found ≡ Some n → (c : List ℕ) × (found ≡ Some c)
@@ -37,18 +35,10 @@ same_bytes files name at bytes reads (other, there, damaged) = subst (λ (c : Li
 
 -- ---- the output
 
-refused_so : (had has : List ℕ) {cut : Type 0} → Prints had has refused_memory cut → IsRefused (codes "memory" ∷ []) (taken_of had has)
-unfolding refused_memory
-refused_so had has printed = taken_begins had has _ _ printed
-
-refused_disk_so : (had has : List ℕ) {cut : Type 0} → Prints had has refused_disk cut → IsRefused (codes "disk" ∷ []) (taken_of had has)
-unfolding refused_disk
-refused_disk_so had has printed = taken_begins had has _ _ printed
-
 pub ends_refused : (P : List ℕ → Type 0) (status : Status) (script : List ℕ) (before after : DiskView) (had has : List ℕ) (rose cut : Type 0) → IsLogRefusal status → IsUnchanged before after
-    → ((text : List ℕ) → refusal_line status ≡ Some text → Prints had has text cut) → EndsAs (reads P (invocation script before after had has)) status rose (taken_of had has)
-ends_refused P ends.Memory script before after had has rose cut may same printed = (refused_so had has (printed refused_memory refl), same)
-ends_refused P ends.DiskFault script before after had has rose cut may same printed = (refused_disk_so had has (printed refused_disk refl), same)
+    → ((text : List ℕ) → refusal_line status ≡ Some text → Prints had has text cut) → EndsAs (reads P (invocation script before after had has)) status rose cut (taken_of had has)
+ends_refused P ends.Memory script before after had has rose cut may same printed = (refused_so had has refused_memory cut (printed refused_memory refl), same)
+ends_refused P ends.DiskFault script before after had has rose cut may same printed = inr (refused_so had has refused_disk cut (printed refused_disk refl), same)
 ends_refused P (ends.Damaged damage) script before after had has rose cut may same printed = tt
 ends_refused P ends.Done script before after had has rose cut may same printed = absurd may
 ends_refused P ends.Usage script before after had has rose cut may same printed = absurd may
@@ -59,10 +49,10 @@ ends_refused P (ends.NotEmpty name) script before after had has rose cut may sam
 
 pub ends_printed : (P : List ℕ → Type 0) (status : Status) (text script : List ℕ) (before after : DiskView) (had has : List ℕ) (rose cut : Type 0) → IsPrintEnd status → P text → IsUnchanged before after
     → (status ≢ ends.Memory → Prints had has text (status ≡ ends.SinkFault)) → (status ≡ ends.Memory → Prints had has refused_memory cut)
-    → EndsAs (reads P (invocation script before after had has)) status rose (taken_of had has)
+    → EndsAs (reads P (invocation script before after had has)) status rose cut (taken_of had has)
 ends_printed P ends.Done text script before after had has rose cut may is same printed refused =
     (subst P (sym (taken_whole had has text _ (printed (λ e. absurd cc)) (λ e. absurd cc))) is, same)
-ends_printed P ends.Memory text script before after had has rose cut may is same printed refused = (refused_so had has (refused refl), same)
+ends_printed P ends.Memory text script before after had has rose cut may is same printed refused = (refused_so had has refused_memory cut (refused refl), same)
 ends_printed P ends.SinkFault text script before after had has rose cut may is same printed refused =
     (text, taken_begins had has text _ (printed (λ e. absurd cc)), Done (is, same))
 ends_printed P ends.DiskFault text script before after had has rose cut may is same printed refused = absurd may
@@ -71,3 +61,18 @@ ends_printed P ends.Usage text script before after had has rose cut may is same 
 ends_printed P (ends.Script line why) text script before after had has rose cut may is same printed refused = absurd may
 ends_printed P ends.SourceFault text script before after had has rose cut may is same printed refused = absurd may
 ends_printed P (ends.NotEmpty name) text script before after had has rose cut may is same printed refused = absurd may
+
+-- a line was printed where there is one, and none where the command was done or its output failed
+pub lined : (status : Status) (had has : List ℕ) (cut : Type 0) → IsPrintEnd status → (status ≡ ends.Memory → Prints had has refused_memory cut)
+    → (text : List ℕ) → refusal_line status ≡ Some text → Prints had has text cut
+lined ends.Memory had has cut may printed text is =
+    let same : refused_memory ≡ text = cc in
+    subst (λ (t : List ℕ). Prints had has t cut) same (printed refl)
+lined ends.Done had has cut may printed text is = absurd cc
+lined ends.SinkFault had has cut may printed text is = absurd cc
+lined ends.DiskFault had has cut may printed text is = absurd may
+lined (ends.Damaged damage) had has cut may printed text is = absurd may
+lined ends.Usage had has cut may printed text is = absurd may
+lined (ends.Script line why) had has cut may printed text is = absurd may
+lined ends.SourceFault had has cut may printed text is = absurd may
+lined (ends.NotEmpty name) had has cut may printed text is = absurd may

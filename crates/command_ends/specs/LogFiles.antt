@@ -2,14 +2,14 @@
 use Rattle.std.specs.Prelude.{◌≡◌, ℕ, List, [], ◌∷◌, Option, Result, Ok, Err}
 use Rattle.log_model.specs.declared.name.Name.{Name}
 use Rattle.log_model.specs.declared.name.NameKind.TheVariants as kinds
+use Rattle.log_model.specs.declared.damage.Damage.{Damage}
+use Rattle.log_model.specs.declared.damage.Damage.TheVariants.{Bytes, Two}
 use Rattle.log_model.specs.Entry.{Entry}
 use Rattle.log_model.specs.LogText.{IsLogText, IsDamaged}
 use Rattle.log_model.specs.Files.{Files, Reads, key_of}
 use Rattle.command_ends.specs.Status.{IsOrEarlier}
 use Rattle.command_ends.specs.declared.status.Status.{Status}
 use Rattle.command_ends.specs.declared.status.Status.TheVariants as ends
-use Rattle.command_ends.specs.declared.status.Damage.{Damage}
-use Rattle.command_ends.specs.declared.status.Damage.TheVariants.{Bytes}
 
 abbrev pub log_name : ℕ → Name
 log_name n = record { kind = kinds.Log; region = 0; number = n }
@@ -25,6 +25,7 @@ IsDamagedLog files name at = (bytes : List ℕ) × Reads files name bytes × IsD
 -- it is this file that is damaged, and there
 abbrev pub IsLogDamage : Files → Name → Damage → Type 0
 IsLogDamage files name (Bytes damaged at) = (damaged ≡ name) × IsDamagedLog files damaged at
+IsLogDamage files name (Two first second region number) = ⊥
 
 -- nothing was read of a file that is damaged there, and the refusal tells it
 abbrev pub ReportsDamage : {T : Type 0} → Name → Result T Status → ℕ → Type 0

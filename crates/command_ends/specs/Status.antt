@@ -1,15 +1,15 @@
 -- The statuses of the program, and the line that refuses with each.
-use Rattle.std.specs.Prelude.{◌≡◌, ℕ, ◌⊎◌, List, [], ◌∷◌, Contains, Option, Some, None}
+use Rattle.std.specs.Prelude.{◌≡◌, ℕ, ◌⊎◌, List, ◌∷◌, Contains, Option, Some, None}
 use Rattle.std.specs.FinMap.{keys}
 use Rattle.log_model.specs.declared.name.Name.{Name}
+use Rattle.log_model.specs.declared.damage.Damage.{Damage}
+use Rattle.log_model.specs.declared.damage.Damage.TheVariants as damages
 use Rattle.log_model.specs.Files.{Files}
 use Rattle.script_model.specs.Fields.{Why}
-use Rattle.script_model.specs.Outputs.{refused_memory, refused_usage, refused_script, refused_source, refused_disk, refused_damaged, refused_store}
+use Rattle.script_model.specs.Outputs.{refused_memory, refused_usage, refused_script, refused_source, refused_disk, refused_damaged, refused_disagree, refused_store}
 use Rattle.script_model.specs.Why.{why_of}
 use Rattle.command_ends.specs.declared.status.Status.{Status}
 use Rattle.command_ends.specs.declared.status.Status.TheVariants as ends
-use Rattle.command_ends.specs.declared.status.Damage.{Damage}
-use Rattle.command_ends.specs.declared.status.Damage.TheVariants as damages
 
 -- the exit status of the program
 abbrev pub exit_status : Status → ℕ
@@ -33,11 +33,12 @@ refusal_line (ends.Script line why) = Some (refused_script line (why_of why))
 refusal_line ends.SourceFault = Some refused_source
 refusal_line ends.DiskFault = Some refused_disk
 refusal_line (ends.Damaged (damages.Bytes name at)) = Some (refused_damaged name at)
+refusal_line (ends.Damaged (damages.Two first second region number)) = Some (refused_disagree first second region number)
 refusal_line (ends.NotEmpty name) = Some (refused_store name)
 refusal_line ends.Done = None
 refusal_line ends.SinkFault = None
 
--- statuses that come with that line alone, and leave the disk as it was
+-- Statuses that come with that line alone. Where the disk failed a command may have printed something else.
 abbrev pub IsRefusal : Status → Type 0
 IsRefusal ends.Memory = Unit {0}
 IsRefusal ends.Usage = Unit {0}
@@ -61,10 +62,20 @@ abbrev pub IsNotEmpty : Status → Files → Type 0
 IsNotEmpty (ends.NotEmpty name) files = (rest : List Name) × (keys files ≡ name ∷ rest)
 IsNotEmpty _ files = Unit {0}
 
+-- such a command may tell that the store isn't empty
+abbrev pub IfNotEmpty : Status → Type 0 → Type 0
+IfNotEmpty (ends.NotEmpty name) P = P
+IfNotEmpty _ P = Unit {0}
+
 -- the damage that it tells is one
 abbrev pub IsDamageOf : Status → (Damage → Type 0) → Type 0
 IsDamageOf (ends.Damaged damage) P = P damage
 IsDamageOf _ P = Unit {0}
+
+-- where the store is damaged
+abbrev pub IfDamaged : Status → Type 0 → Type 0
+IfDamaged (ends.Damaged damage) P = P
+IfDamaged _ P = Unit {0}
 
 -- ---- what comes exactly where
 
@@ -94,7 +105,7 @@ IsInputRefusal (ends.Script line why) = Unit {0}
 IsInputRefusal ends.SourceFault = Unit {0}
 IsInputRefusal _ = ⊥
 
--- ---- a command that only reads the store
+-- ---- a command without a script
 
 -- how it ends
 abbrev pub IsReadingEnd : Status → Type 0

@@ -9,8 +9,9 @@ mod output;
 mod script_input;
 mod status;
 
+pub use log_model::Damage;
 pub use log_name::LOG_1;
 pub use log_reading::find_log;
 pub use output::{emit, refuse, write_all};
 pub use script_input::read_script;
-pub use status::{Damage, Outcome, Status};
+pub use status::{Outcome, Status};

@@ -4,13 +4,14 @@ ghost use Rattle.std.specs.Prelude.{◌≡◌, ◌+◌, ℕ, List, length, IsTru
 ghost use Rattle.log_model.specs.Files.{IsAbsent, Reads};
 ghost use Rattle.disk_images.specs.Calls.{HasCause};
 ghost use Rattle.log_file.specs.Looking.{OnlyLooks};
-ghost use Rattle.command_ends.specs.Invocation.{IsUnchanged, GoesOn};
+ghost use Rattle.command_ends.specs.Invocation.{IsUnchanged, KeepsImages};
 ghost use Rattle.command_ends.specs.LogFiles.{IsFound, IsDamagedLog, IsLogDamage, IsLogRefusal, ReportsDamage};
 ghost use Rattle.command_ends.specs.Status.{IsDamageOf};
 
-use crate::status::{Damage, Status};
+use crate::status::Status;
 use disk_images::{Disk, Name};
 use log_file::{LogText, ReadRefusal, read_log};
+use log_model::Damage;
 use std::alloc::Global;
 
 /// The log of this name, if there is one. It writes nothing to the disk.
@@ -21,7 +22,7 @@ pub fn find_log<D: Disk>(alloc: Global, disk: &mut D, name: Name) -> Result<Opti
     ensures damaged { IsTrue D.told → (at : ℕ) → IsDamagedLog (D.view disk.old).files name at → ReportsDamage name result at }
     ensures refused { IfErr result IsLogRefusal }
     ensures unchanged { IsTrue D.told → IsUnchanged (D.view disk.old) (D.view disk.new) }
-    ensures moments { IsTrue D.told → GoesOn (D.view disk.old) (D.view disk.new) }
+    ensures moments { IsTrue D.told → KeepsImages (D.view disk.old) (D.view disk.new) }
     ensures cause { HasCause (D.faults disk.old) (D.faults disk.new) (IsErrOf result Status.DiskFault) }
 {
     match disk.size(name) {

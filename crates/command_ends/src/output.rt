@@ -6,8 +6,9 @@ ghost use Rattle.command_ends.specs.Prints.{Prints};
 ghost use Rattle.report_text.specs.Refusals.{refusal_text};
 ghost use Rattle.command_ends.specs.Status.{refusal_line};
 
-use crate::status::{Damage, Status};
+use crate::status::Status;
 use disk_images::{Failed, Sink};
+use log_model::Damage;
 use report_text::{Refusal, refusal_line};
 
 /// Writes all of the bytes.
@@ -62,6 +63,19 @@ fn refusal_of(status: Status) -> Option<Refusal>
         Status::SourceFault => Refusal::Source,
         Status::DiskFault => Refusal::Disk,
         Status::Damaged(Damage::Bytes { name, at }) => Refusal::Damaged { name, at },
+        Status::Damaged(
+            Damage::Two {
+                first,
+                second,
+                region,
+                number,
+            },
+        ) => Refusal::Disagree {
+            first,
+            second,
+            region,
+            number,
+        },
         Status::NotEmpty { name } => Refusal::Store { name },
         Status::Done | Status::SinkFault => return None,
     })

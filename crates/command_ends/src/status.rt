@@ -4,14 +4,8 @@ ghost use Rattle.std.specs.Prelude.{◌≡◌};
 ghost use Rattle.command_ends.specs.Status.{exit_status};
 
 use disk_images::Name;
+use log_model::Damage;
 use script_text::ScriptWhy;
-
-/// What is wrong with a store as it was found.
-#[derive(Clone, Copy, Debug, PartialEq, Eq)]
-pub enum Damage {
-    /// The file is in none of its grammars, which shows at this offset.
-    Bytes { name: Name, at: u64 },
-}
 
 /// How a command ended.
 #[derive(Clone, Copy, Debug, PartialEq, Eq)]
@@ -30,7 +24,7 @@ pub enum Status {
     DiskFault,
     /// A write of the output failed.
     SinkFault,
-    /// The store as found is damaged.
+    /// The store as found is damaged: a file is in none of its grammars, or two files disagree.
     Damaged(Damage),
     /// The store isn't empty, and the command wants an empty one. The name is the first one there.
     NotEmpty { name: Name },

@@ -4,8 +4,6 @@
 
 mod crash;
 mod fail;
-#[cfg(test)]
-mod fault_tests;
 mod history;
 mod mem_disk;
 mod mem_stream;
@@ -15,10 +13,6 @@ mod safe_call;
 mod safe_disk;
 mod safe_stream;
 mod table;
-#[cfg(test)]
-mod test_run;
-#[cfg(test)]
-mod tests;
 mod watch_disk;
 
 pub use fail::{CallKind, Fail};

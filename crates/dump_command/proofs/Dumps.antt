@@ -1,7 +1,9 @@
 -- Which file is found for a number, what is damaged of it, and what is printed.
 use Rattle.std.specs.Fmt.{digits}
-use Rattle.std.proofs.Common.{codes, ◌≡◌, ℕ, List, [], ◌∷◌, Option, Some, None, Result, Ok, Err, inl, inr, refl, sym, ap, subst, ◌∙◌, arith}
+use Rattle.std.proofs.Common.{codes, ◌≡◌, ℕ, List, [], ◌∷◌, Option, Some, None, Result, inl, inr, refl, sym, ap, subst, ◌∙◌, arith}
 use Rattle.log_model.specs.declared.name.Name.{Name}
+use Rattle.log_model.specs.declared.damage.Damage.{Damage}
+use Rattle.log_model.specs.declared.damage.Damage.TheVariants.{Bytes, Two}
 use Rattle.log_model.specs.Entry.{Entry}
 use Rattle.log_model.specs.Files.{Files, IsAbsent, Same}
 use Rattle.disk_images.specs.Crash.{DiskView}
@@ -13,8 +15,6 @@ use Rattle.command_ends.specs.LogFiles.{log_name, IsFound, IsDamagedLog, IsLogDa
 use Rattle.command_ends.specs.Status.{IsDamageOf, IsOrEarlier}
 use Rattle.command_ends.specs.declared.status.Status.{Status}
 use Rattle.command_ends.specs.declared.status.Status.TheVariants as ends
-use Rattle.command_ends.specs.declared.status.Damage.{Damage}
-use Rattle.command_ends.specs.declared.status.Damage.TheVariants.{Bytes}
 use Rattle.dump_command.specs.Dumped.{old_name, none_text, IsDumped, DumpDone, IsDumpDamage}
 use Rattle.dump_command.specs.Found.{HasFound, HasOldFound, IsOfNumber, found_text}
 use Rattle.dump_command.specs.declared.command.Found.{Found}
@@ -58,12 +58,14 @@ log_damage status u n = damage_of status (IsLogDamage u (log_name n)) (IsDumpDam
   where
     each : (d : Damage) → IsLogDamage u (log_name n) d → IsDumpDamage n u d
     each (Bytes name at) p = (inl p.0, p.1)
+    each (Two first second region number) p = absurd p
 
 pub old_damage : (status : Status) (u v : Files) (n : ℕ) → Same u v → IsAbsent u (log_name n) → IsDamageOf status (IsLogDamage v (old_name n)) → IsDamageOf status (IsDumpDamage n u)
 old_damage status u v n same absent = damage_of status (IsLogDamage v (old_name n)) (IsDumpDamage n u) each
   where
     each : (d : Damage) → IsLogDamage v (old_name n) d → IsDumpDamage n u d
     each (Bytes name at) p = (inr (absent, p.0), damage_back u v name at same p.1)
+    each (Two first second region number) p = absurd p
 
 -- the log was read, so nothing that is printed is damaged
 pub no_damage : (u : Files) (n : ℕ) (name : Name) (at : ℕ) (es : List Entry) (ended : Option ℕ) → IsFound u (log_name n) es ended → ((at : ℕ) → IsDamagedLog u (log_name n) at → ⊥)
@@ -82,6 +84,7 @@ log_reported u n name at ends.DiskFault may damage told (inr other) d = inr (1, 
 log_reported u n name at (ends.Damaged (Bytes m k)) may damage told (inr other) d =
     let there = subst (λ (x : Name). IsDamagedLog u x k) damage.0 damage.1 in
     absurd (none_some there.0 (sym other.0 ∙ there.1))
+log_reported u n name at (ends.Damaged (Two first second region number)) may damage told (inr other) d = absurd damage
 log_reported u n name at ends.Done may damage told (inr other) d = absurd may
 log_reported u n name at ends.Usage may damage told (inr other) d = absurd may
 log_reported u n name at (ends.Script line why) may damage told (inr other) d = absurd may

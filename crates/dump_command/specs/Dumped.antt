@@ -2,6 +2,8 @@
 use Rattle.std.specs.Prelude.{◌≡◌, ℕ, ◌⊎◌, List, [], ◌∷◌, ◌++◌, Option, codes}
 use Rattle.log_model.specs.declared.name.Name.{Name}
 use Rattle.log_model.specs.declared.name.NameKind.TheVariants as kinds
+use Rattle.log_model.specs.declared.damage.Damage.{Damage}
+use Rattle.log_model.specs.declared.damage.Damage.TheVariants.{Bytes, Two}
 use Rattle.log_model.specs.Entry.{Entry}
 use Rattle.log_model.specs.Files.{Files, IsAbsent}
 use Rattle.script_model.specs.Report.{line}
@@ -11,8 +13,6 @@ use Rattle.command_ends.specs.Invocation.{Invocation}
 use Rattle.command_ends.specs.LogFiles.{log_name, IsFound, IsDamagedLog}
 use Rattle.command_ends.specs.Ends.{Effects, EndsAs, reads}
 use Rattle.command_ends.specs.declared.status.Status.{Status}
-use Rattle.command_ends.specs.declared.status.Damage.{Damage}
-use Rattle.command_ends.specs.declared.status.Damage.TheVariants.{Bytes}
 
 abbrev pub old_name : ℕ → Name
 old_name n = record { kind = kinds.Old; region = 0; number = n }
@@ -36,9 +36,10 @@ abbrev pub dumps : ℕ → Invocation → Effects
 dumps n o = reads (λ text. DumpDone n o text) o
 
 -- what stands with each status of the command
-abbrev pub EndsDump : ℕ → Status → Invocation → Type 0 → Type 0
-EndsDump n status o rose = EndsAs (dumps n o) status rose o.taken
+abbrev pub EndsDump : ℕ → Status → Invocation → Type 0 → Type 0 → Type 0
+EndsDump n status o rose sank = EndsAs (dumps n o) status rose sank o.taken
 
 -- it is the file that is printed which is damaged there
 abbrev pub IsDumpDamage : ℕ → Files → Damage → Type 0
 IsDumpDamage n files (Bytes name at) = IsDumped files n name × IsDamagedLog files name at
+IsDumpDamage n files (Two first second region number) = ⊥

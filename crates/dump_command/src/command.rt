@@ -4,10 +4,10 @@ ghost use Rattle.std.specs.Prelude.{◌≡◌, ◌≢◌, ◌≤◌, [], ◌∷�
 ghost use Rattle.log_model.specs.declared.name.Name.{Name as TheName};
 ghost use Rattle.disk_images.specs.Calls.{Rose, HasCause};
 ghost use Rattle.script_model.specs.Outputs.{refused_memory};
-ghost use Rattle.command_ends.specs.Invocation.{invocation, IsUnchanged, GoesOn};
+ghost use Rattle.command_ends.specs.Invocation.{invocation, IsUnchanged, KeepsImages};
 ghost use Rattle.command_ends.specs.LogFiles.{IsDamagedLog, IsLogDamage, IsLogRefusal, ReportsDamage};
 ghost use Rattle.command_ends.specs.Prints.{Prints};
-ghost use Rattle.command_ends.specs.Status.{IsRefusal, refusal_line, IsDamageOf, IsOrEarlier, IsPrintEnd, IsReadingEnd};
+ghost use Rattle.command_ends.specs.Status.{refusal_line, IsDamageOf, IsOrEarlier, IsPrintEnd, IsReadingEnd};
 ghost use Rattle.dump_command.specs.Dumped.{EndsDump, IsDumped, IsDumpDamage, old_name};
 ghost use Rattle.dump_command.specs.Found.{HasFound, HasOldFound, IsOfNumber, found_text};
 
@@ -28,11 +28,12 @@ pub struct Found {
 /// Carries out `dump` for a number. It writes nothing to the disk.
 pub fn dump<D: Disk, K: Sink>(alloc: Global, number: u64, disk: &mut D, out: &mut K) -> Status
     ensures ends { IsTrue D.told → IsTrue K.told → (script : List ℕ) → EndsDump number result
-        (invocation script (D.view disk.old) (D.view disk.new) (K.taken out.old) (K.taken out.new)) (Rose (D.faults disk.old) (D.faults disk.new)) }
-    ensures refusal { IsTrue K.told → IsRefusal result → (text : List ℕ) → refusal_line result ≡ Some text
+        (invocation script (D.view disk.old) (D.view disk.new) (K.taken out.old) (K.taken out.new)) (Rose (D.faults disk.old) (D.faults disk.new))
+        (Rose (K.faults out.old) (K.faults out.new)) }
+    ensures refusal { IsTrue K.told → (text : List ℕ) → refusal_line result ≡ Some text
         → Prints (K.taken out.old) (K.taken out.new) text (Rose (K.faults out.old) (K.faults out.new)) }
     ensures leaves_disk { IsTrue D.told → IsUnchanged (D.view disk.old) (D.view disk.new) }
-    ensures moments { IsTrue D.told → GoesOn (D.view disk.old) (D.view disk.new) }
+    ensures moments { IsTrue D.told → KeepsImages (D.view disk.old) (D.view disk.new) }
     ensures status { IsReadingEnd result }
     ensures damage { IsTrue D.told → IsDamageOf result (IsDumpDamage number (D.view disk.old).files) }
     ensures damaged { IsTrue D.told → (name : TheName) (at : ℕ) → IsDumped (D.view disk.old).files number name → IsDamagedLog (D.view disk.old).files name at
@@ -56,7 +57,7 @@ fn find_either<D: Disk>(alloc: Global, number: u64, disk: &mut D) -> Result<Opti
         → ReportsDamage name result at }
     ensures refused { IfErr result IsLogRefusal }
     ensures unchanged { IsTrue D.told → IsUnchanged (D.view disk.old) (D.view disk.new) }
-    ensures moments { IsTrue D.told → GoesOn (D.view disk.old) (D.view disk.new) }
+    ensures moments { IsTrue D.told → KeepsImages (D.view disk.old) (D.view disk.new) }
     ensures cause { HasCause (D.faults disk.old) (D.faults disk.new) (IsErrOf result Status.DiskFault) }
 {
     let log = name_of(NameKind::Log, number);
@@ -75,7 +76,7 @@ fn find_old<D: Disk>(alloc: Global, number: u64, disk: &mut D) -> Result<Option<
     ensures damaged { IsTrue D.told → (at : ℕ) → IsDamagedLog (D.view disk.old).files (old_name number) at → ReportsDamage (old_name number) result at }
     ensures refused { IfErr result IsLogRefusal }
     ensures unchanged { IsTrue D.told → IsUnchanged (D.view disk.old) (D.view disk.new) }
-    ensures moments { IsTrue D.told → GoesOn (D.view disk.old) (D.view disk.new) }
+    ensures moments { IsTrue D.told → KeepsImages (D.view disk.old) (D.view disk.new) }
     ensures cause { HasCause (D.faults disk.old) (D.faults disk.new) (IsErrOf result Status.DiskFault) }
 {
     let old = name_of(NameKind::Old, number);

@@ -1,13 +1,15 @@
 -- The order of names, and the first damaged file.
-use Rattle.std.proofs.Common.{◌≡◌, ◌≢◌, ◌⊎◌, inl, inr, ℕ, Bool, true, false, ◌&&◌, List, [], ◌∷◌, ◌++◌, map, drop, length, get_or, Contains, None, refl, sym, ap, ◌∙◌, subst, arith}
-use Rattle.std.specs.Prelude.{T}
+use Rattle.std.proofs.Common.{◌≡◌, ◌≢◌, ◌⊎◌, inl, inr, ℕ, ◌<◌, Bool, true, false, ◌&&◌, List, [], ◌∷◌, ◌++◌, map, take, drop, length, get_or, Contains, None, refl, sym, ap, ◌∙◌, subst, arith}
+use Rattle.std.specs.Prelude.{T, AllPairs}
 use Rattle.std.specs.declared.cmp.Ordering.{Ordering}
 use Rattle.std.specs.declared.cmp.Ordering.TheVariants.{Less, Equal, Greater}
 use Rattle.std.specs.Ordering.{is_lt, ordering_reverse}
 use Rattle.std.specs.FinMap.{get, keys, entries, entries_sorted, is_sorted}
 use Rattle.std.specs.FinMap.Entries.{below_all}
 use Rattle.std.proofs.lemmas.Cmp.{tied_itself}
-use Rattle.std.proofs.lemmas.List.Elements.{Contains-append_cases, Contains-push_cases}
+use Rattle.std.proofs.lemmas.List.{get_or-take, length-take, get_or_default}
+use Rattle.std.proofs.lemmas.List.Kept.{AllPairs-cons}
+use Rattle.std.proofs.lemmas.List.Elements.{Contains-append_cases, Contains-push_cases, Contains-get_or}
 use Rattle.log_model.specs.declared.name.Name.{Name}
 use Rattle.log_model.specs.declared.name.NameKind.TheVariants as kinds
 use Rattle.log_model.specs.Files.{Files, name_cmp, IsPresent}
@@ -88,3 +90,21 @@ by_order files before after name at is whole damaged = record { here = damaged; 
             | inr later ↦ absurd (cc (sym lt ∙ name_cmp_total.antisymm other name ∙ ap ordering_reverse (behind (entries files) (entries_sorted files) before after name is other later)))
           ]
         ]
+
+rise_of : (es : List Pair) → T (is_sorted name_cmp es) → AllPairs (λ a b. name_cmp a b ≡ Less) (map (λ (e : Pair). e.0) es)
+rise_of [] sorted = λ i j d fewer lt. absurd (omega (arith, lt))
+rise_of (e ∷ es) sorted =
+    let names : List Name = map (λ (x : Pair). x.0) es in
+    AllPairs-cons (λ a b. name_cmp a b ≡ Less) e.0 names (λ k d lt. below_each e.0 es (first _ _ sorted) (get_or names k d) (Contains-get_or names k d lt)) (rise_of es (second _ _ sorted))
+
+-- the names of files rise
+pub names_rise : (files : Files) → AllPairs (λ a b. name_cmp a b ≡ Less) (keys files)
+names_rise files = rise_of (entries files) (entries_sorted files)
+
+-- a name is above those before it
+pub below_this : (files : Files) (names : List Name) (i : ℕ) (d : Name) → names ≡ keys files → i < length names → (m : Name) → Contains (take i names) m → name_cmp m (get_or names i d) ≡ Less
+below_this files names i d is lt m has =
+    let early : has.0 < i = omega (arith, has.1, length-take i names) in
+    let rise : AllPairs (λ a b. name_cmp a b ≡ Less) names = subst (λ (l : List Name). AllPairs (λ a b. name_cmp a b ≡ Less) l) (sym is) (names_rise files) in
+    let here : get_or names has.0 d ≡ m = get_or_default names has.0 d m (omega (arith, early, lt)) ∙ sym (get_or-take i names has.0 m early) ∙ has.2 in
+    subst (λ (n : Name). name_cmp n (get_or names i d) ≡ Less) here (rise has.0 i d early lt)

@@ -18,6 +18,7 @@ module _ (told : Type 0) (files : Files) (name : Name) (old new : List FoundStor
     ];
     all = λ is_told bytes there gate. (x, subst (λ (l : List FoundStore). Contains l x) (sym is) (Contains-push old x), named, file is_told);
     small = small;
+    added = inr (x, named, is);
   }
 
   pub store_not_there : new ≡ old → (told → (bytes : List ℕ) → get files name ≡ Some bytes → ¬ IsThere bytes) → ReadsStore told files name old new
@@ -26,4 +27,5 @@ module _ (told : Type 0) (files : Files) (name : Name) (old new : List FoundStor
     each = λ y has. inl (subst (λ (l : List FoundStore). Contains l y) is has);
     all = λ is_told bytes there gate. absurd (none is_told bytes there gate);
     small = small;
+    added = inl is;
   }

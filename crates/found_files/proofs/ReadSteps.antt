@@ -1,18 +1,20 @@
 -- One more file is read.
-use Rattle.std.proofs.Common.{◌≡◌, ◌⊎◌, inl, inr, ℕ, ◌<◌, ◌^◌, List, [], ◌∷◌, ◌++◌, length, Contains, Some, refl, sym, ap, ◌∙◌, subst}
+use Rattle.std.proofs.Common.{◌≡◌, ◌⊎◌, inl, inr, ℕ, ◌<◌, ◌^◌, List, [], ◌∷◌, ◌++◌, length, get_or, Contains, Some, refl, sym, ap, ◌∙◌, subst, arith}
 use Rattle.std.specs.FinMap.{get}
-use Rattle.std.proofs.lemmas.List.Elements.{Contains-append_left, Contains-append_right, Contains-append_cases, Contains-push, Contains-push_cases}
+use Rattle.std.specs.declared.cmp.Ordering.TheVariants.{Less}
+use Rattle.std.proofs.lemmas.List.Quantifiers.{all_pairs_push}
+use Rattle.std.proofs.lemmas.List.Elements.{Contains-append_left, Contains-append_right, Contains-append_cases, Contains-push, Contains-push_cases, Contains-get_or}
 use Rattle.log_model.specs.declared.name.Name.{Name}
 use Rattle.log_model.specs.declared.name.NameKind.{NameKind}
 use Rattle.log_model.specs.declared.name.NameKind.TheVariants as kinds
 use Rattle.log_model.specs.Entry.{Entry}
 use Rattle.log_model.specs.StoreText.{IsStore, IsThere}
-use Rattle.log_model.specs.Files.{Files, HoldsEntries, IsLogFile, IsStoreFile}
+use Rattle.log_model.specs.Files.{Files, HoldsEntries, IsLogFile, IsStoreFile, name_cmp}
 use Rattle.found_files.specs.declared.found.FoundEntry.{FoundEntry}
 use Rattle.found_files.specs.declared.found.FoundStore.{FoundStore}
 use Rattle.found_files.specs.declared.found.FoundFiles.{FoundFiles}
 use Rattle.found_files.specs.Names.{IsBadAmong}
-use Rattle.found_files.specs.Found.{place_in, placed, store_of, AreRead}
+use Rattle.found_files.specs.Found.{place_in, placed, store_of, AreRead, AreInNameOrder}
 use Rattle.found_files.specs.Checked.{ReadsOne}
 use Rattle.found_files.proofs.Placing.{none_in, is_placed, placed_is}
 
@@ -26,6 +28,7 @@ none_read told files all = record {
   from_stores = λ is_told x has. absurd (none_in x has);
   small = λ is_told m bytes has. absurd (none_in m has);
   each = λ x has. absurd (none_in x has);
+  rising = λ is_told i j d less lt. absurd (omega (arith, lt));
 }
 
 entries_or_not : (k : NameKind) → HoldsEntries k ⊎ (HoldsEntries k → ⊥)
@@ -40,7 +43,8 @@ store_or_not kinds.Edits = inr (λ is. absurd (cc is))
 store_or_not kinds.Old = inr (λ is. absurd (cc is))
 store_or_not kinds.Store = inl refl
 
-module _ (told : Type 0) (files g : Files) (same : told → g ≡ files) (all names : List Name) (name : Name) (old new : FoundFiles) (so_far : AreRead told files all names old.entries.items old.stores.items) (one : ReadsOne told g all name old new) where
+module _ (told : Type 0) (files g : Files) (same : told → g ≡ files) (all names : List Name) (name : Name) (old new : FoundFiles) (so_far : AreRead told files all names old.entries.items old.stores.items) (one : ReadsOne told g all name old new)
+    (below : told → (m : Name) → Contains names m → name_cmp m name ≡ Less) where
   entry_kept : (x : FoundEntry) → Contains old.entries.items x → Contains new.entries.items x
   entry_kept x has = elim (entries_or_not name.kind) as (λ _. Contains new.entries.items x) [
     | inl holds ↦ (let r = one.entries holds in subst (λ (l : List FoundEntry). Contains l x) (sym r.added) (Contains-append_left old.entries.items (placed name r.entries) x has))
@@ -86,6 +90,17 @@ module _ (told : Type 0) (files g : Files) (same : told → g ≡ files) (all na
       let f = (one.store store).all is_told bytes (ap (λ (f : Files). get f name) (same is_told) ∙ there) gate in
       (f.0, f.1, f.2, subst (λ (k : Files). IsStoreFile k name.region name (store_of f.0)) (same is_told) f.3)
 
+  still_rising : told → AreInNameOrder new.stores.items
+  still_rising is_told = elim (store_or_not name.kind) as (λ _. AreInNameOrder new.stores.items) [
+    | inl store ↦ elim (one.store store).added as (λ _. AreInNameOrder new.stores.items) [
+      | inl same ↦ subst AreInNameOrder (sym same) (so_far.rising is_told)
+      | inr (x, named, is) ↦ subst AreInNameOrder (sym is) (all_pairs_push (λ (y z : FoundStore). name_cmp y.name z.name ≡ Less) old.stores.items x (so_far.rising is_told) (λ k d lt. (
+          let at = so_far.each (get_or old.stores.items k d) (Contains-get_or old.stores.items k d lt) in
+          subst (λ (n : Name). name_cmp n x.name ≡ Less) (sym at.1.2) (subst (λ (n : Name). name_cmp at.1.0 n ≡ Less) (sym named) (below is_told at.1.0 at.1.1)))))
+    ]
+    | inr not ↦ subst AreInNameOrder (sym (one.no_store not)) (so_far.rising is_told)
+  ]
+
   pub one_read : AreRead told files all (names ++ name ∷ []) new.entries.items new.stores.items
   one_read = record {
     good = λ m has. elim (Contains-push_cases names name m has) as (λ _. ¬ IsBadAmong all m) [
@@ -121,4 +136,5 @@ module _ (told : Type 0) (files g : Files) (same : told → g ≡ files) (all na
       | inl before ↦ (let r = so_far.each x before in (r.0, (r.1.0, Contains-append_left names (name ∷ []) r.1.0 r.1.1, r.1.2, r.1.3)))
       | inr here ↦ (here.2, (name, Contains-push names name, here.1, here.0))
     ];
+    rising = still_rising;
   }

@@ -27,6 +27,7 @@ reordered told files all names es ds ss ts same is read = subst (λ (l : List Fo
   from_stores = read.from_stores;
   small = read.small;
   each = read.each;
+  rising = read.rising;
 })
 
 -- the same of files that are the same
@@ -40,6 +41,7 @@ of_same_files told f g same all names es ss read = record {
   from_stores = λ is_told. subst (λ (k : Files). (x : FoundStore) → Contains ss x → IsStoreFile k x.name.region x.name (store_of x)) (same is_told) (read.from_stores is_told);
   small = λ is_told. subst (λ (k : Files). (m : Name) (bytes : List ℕ) → Contains names m → m.kind ≡ kinds.Store → get k m ≡ Some bytes → length bytes < 2 ^ 64) (same is_told) (read.small is_told);
   each = read.each;
+  rising = read.rising;
 }
 
 pub found_read : (told : Type 0) (f g : Files) (same : told → f ≡ g) (names l : List Name) (is : l ≡ names) (es ds : List FoundEntry) (ss ts : List FoundStore) → ((x : FoundEntry) → Contains ds x ↔ Contains es x) → ts ≡ ss → AreRead told f l l es ss → AreRead told g names names ds ts

@@ -1,11 +1,12 @@
 -- What was read of the files of a store.
-use Rattle.std.specs.Prelude.{◌≡◌, ◌⊎◌, ◌<◌, ◌^◌, ℕ, List, ◌++◌, map, length, Contains, Some}
+use Rattle.std.specs.Prelude.{◌≡◌, ◌⊎◌, ◌<◌, ◌^◌, ℕ, List, [], ◌∷◌, ◌++◌, map, length, Contains, AllPairs, Some}
+use Rattle.std.specs.declared.cmp.Ordering.TheVariants.{Less}
 use Rattle.std.specs.FinMap.{get}
 use Rattle.log_model.specs.declared.name.Name.{Name}
 use Rattle.log_model.specs.declared.name.NameKind.TheVariants as kinds
 use Rattle.log_model.specs.Entry.{Entry}
 use Rattle.log_model.specs.StoreText.{Store, IsStore, IsThere}
-use Rattle.log_model.specs.Files.{Files, HoldsEntries, IsLogFile, IsStoreFile}
+use Rattle.log_model.specs.Files.{Files, HoldsEntries, IsLogFile, IsStoreFile, name_cmp}
 use Rattle.found_files.specs.declared.found.FoundEntry.{FoundEntry}
 use Rattle.found_files.specs.declared.found.FoundStore.{FoundStore}
 use Rattle.found_files.specs.Names.{IsBadAmong}
@@ -32,6 +33,11 @@ pub record ReadsStore (told : Type 0) (files : Files) (name : Name) (old new : L
   pub each : (x : FoundStore) → Contains new x → Contains old x ⊎ ((x.name ≡ name) × IsStore (store_of x) × (told → IsStoreFile files name.region name (store_of x)))
   pub all : told → (bytes : List ℕ) → get files name ≡ Some bytes → IsThere bytes → (x : FoundStore) × Contains new x × (x.name ≡ name) × IsStoreFile files name.region name (store_of x)
   pub small : told → (bytes : List ℕ) → get files name ≡ Some bytes → length bytes < 2 ^ 64
+  pub added : (new ≡ old) ⊎ ((x : FoundStore) × (x.name ≡ name) × (new ≡ old ++ x ∷ []))
+
+-- the stores stand in the order of their names
+abbrev pub AreInNameOrder : List FoundStore → Type 0
+AreInNameOrder ss = AllPairs (λ x y. name_cmp x.name y.name ≡ Less) ss
 
 -- these files were read: their entries and stores are those of the lists, and each name is good
 pub record AreRead (told : Type 0) (files : Files) (all names : List Name) (es : List FoundEntry) (ss : List FoundStore) : Type 0 where
@@ -43,3 +49,4 @@ pub record AreRead (told : Type 0) (files : Files) (all names : List Name) (es :
   pub from_stores : told → (x : FoundStore) → Contains ss x → IsStoreFile files x.name.region x.name (store_of x)
   pub small : told → (m : Name) (bytes : List ℕ) → Contains names m → m.kind ≡ kinds.Store → get files m ≡ Some bytes → length bytes < 2 ^ 64
   pub each : (x : FoundStore) → Contains ss x → IsStore (store_of x) × ((n : Name) × Contains names n × (x.name ≡ n) × (n.kind ≡ kinds.Store))
+  pub rising : told → AreInNameOrder ss

@@ -1,18 +1,21 @@
--- How the top call ends where it only reads a log.
+-- How the top call ends, by the command that its words name.
 use Rattle.std.proofs.Common.{◌≡◌, ℕ, List, [], ◌∷◌, Option, Some, None, refl, sym, ap, subst, ◌∙◌}
 use Rattle.log_model.specs.declared.name.Name.{Name}
+use Rattle.log_model.specs.declared.damage.Damage.{Damage}
+use Rattle.log_model.specs.declared.damage.Damage.TheVariants as damages
 use Rattle.log_model.specs.Files.{Files}
-use Rattle.load_run.specs.Words.{Word, To_show, To_dump, meaning_of}
+use Rattle.log_model.specs.Damage.{IsDamage}
+use Rattle.log_model.proofs.DamageLaws.{sound_undamaged}
+use Rattle.load_run.specs.Words.{Word, To_show, To_dump, To_recover, meaning_of}
 use Rattle.load_run.specs.declared.words.Word.{Word as CodeWord}
-use Rattle.load_run.specs.declared.words.Word.TheVariants as code
+use Rattle.disk_images.specs.Crash.{DiskView}
+use Rattle.command_ends.specs.Invocation.{AtEachMoment}
 use Rattle.command_ends.specs.LogFiles.{log_name, IsDamagedLog, IsLogDamage}
 use Rattle.dump_command.specs.Dumped.{IsDumped, IsDumpDamage}
-use Rattle.load_run.specs.Top.{IsDamageFor, IsReady}
+use Rattle.load_run.specs.Top.{MustTell, IsReady, MayLeave}
 use Rattle.command_ends.specs.Status.{IsDamageOf, IsOrEarlier, IsComplete, IsReadingEnd}
 use Rattle.command_ends.specs.declared.status.Status.{Status}
 use Rattle.command_ends.specs.declared.status.Status.TheVariants as ends
-use Rattle.command_ends.specs.declared.status.Damage.{Damage}
-use Rattle.command_ends.specs.declared.status.Damage.TheVariants as damages
 
 abbrev some_or : {A : Type 0} → A → Option A → A
 some_or a None = a
@@ -22,28 +25,37 @@ some_or a (Some b) = b
 pub word_is : (x y : CodeWord) (words : Option Word) (word : Word) → Some (meaning_of x) ≡ words → x ≡ y → words ≡ Some word → word ≡ meaning_of y
 word_is x y words word first same is = ap (some_or word) (sym is ∙ sym first) ∙ ap meaning_of same
 
+pub words_are : (x y : CodeWord) (words : Option Word) → Some (meaning_of x) ≡ words → x ≡ y → words ≡ Some (meaning_of y)
+words_are x y words first same = sym first ∙ ap (λ (w : CodeWord). Some (meaning_of w)) same
+
+-- what may stand at each moment, for the command that was read
+pub moments_of : (words command : Option Word) (script : List ℕ) (v w : DiskView) → words ≡ command → AtEachMoment (MayLeave command script v) v w → AtEachMoment (MayLeave words script v) v w
+moments_of words command script v w is over = subst (λ (o : Option Word). AtEachMoment (MayLeave o script v) v w) (sym is) over
+
 IsReported : Status → Damage → Type 0
 IsReported status damage = IsOrEarlier status (ends.Damaged damage) (ends.DiskFault ∷ [])
 
-pub show_reported : (word : Word) (status : Status) (files : Files) (damage : Damage) → word ≡ To_show → IsDamageFor word files damage
+pub show_reported : (word : Word) (status : Status) (files : Files) (damage : Damage) → word ≡ To_show → MustTell word files damage
     → ((at : ℕ) → IsDamagedLog files (log_name 1) at → IsOrEarlier status (ends.Damaged (damages.Bytes (log_name 1) at)) (ends.DiskFault ∷ []))
     → IsOrEarlier status (ends.Damaged damage) (ends.DiskFault ∷ [])
 unfolding IsReported
-show_reported word status files damage is damaged told = each damage (subst (λ (w : Word). IsDamageFor w files damage) is damaged)
+show_reported word status files damage is damaged told = each damage (subst (λ (w : Word). MustTell w files damage) is damaged)
   where
     each : (x : Damage) → IsLogDamage files (log_name 1) x → IsReported status x
     each (damages.Bytes name at) d = subst (λ (n : Name). IsReported status (damages.Bytes n at)) (sym d.0) (told at (subst (λ (n : Name). IsDamagedLog files n at) d.0 d.1))
+    each (damages.Two first second region number) d = absurd d
 
-pub dump_reported : (word : Word) (n : ℕ) (status : Status) (files : Files) (damage : Damage) → word ≡ To_dump n → IsDamageFor word files damage
+pub dump_reported : (word : Word) (n : ℕ) (status : Status) (files : Files) (damage : Damage) → word ≡ To_dump n → MustTell word files damage
     → ((name : Name) (at : ℕ) → IsDumped files n name → IsDamagedLog files name at → IsOrEarlier status (ends.Damaged (damages.Bytes name at)) (ends.DiskFault ∷ []))
     → IsOrEarlier status (ends.Damaged damage) (ends.DiskFault ∷ [])
 unfolding IsReported
-dump_reported word n status files damage is damaged told = each damage (subst (λ (w : Word). IsDamageFor w files damage) is damaged)
+dump_reported word n status files damage is damaged told = each damage (subst (λ (w : Word). MustTell w files damage) is damaged)
   where
     each : (x : Damage) → IsDumpDamage n files x → IsReported status x
     each (damages.Bytes name at) d = told name at d.0 d.1
+    each (damages.Two first second region number) d = absurd d
 
--- of a command that only reads: without a fault, and where nothing that it reads is damaged, it is done
+-- of a command without a script: without a fault, and where nothing that it reads is damaged, it is done
 reader_done : (status : Status) (P : Damage → Type 0) (d k : Type 0) → IsReadingEnd status → IsDamageOf status P → (status ≡ ends.DiskFault → d) → (status ≡ ends.SinkFault → k)
     → ((damage : Damage) → P damage → ⊥) → (d → ⊥) → (k → ⊥) → IsComplete status
 reader_done ends.Done P d k ended damage disk sink sound no_disk no_sink = tt
@@ -57,9 +69,11 @@ reader_done (ends.Damaged x) P d k ended damage disk sink sound no_disk no_sink 
 reader_done (ends.NotEmpty name) P d k ended damage disk sink sound no_disk no_sink = absurd ended
 
 sound_log : (files : Files) (name : Name) → ((at : ℕ) → IsDamagedLog files name at → ⊥) → (damage : Damage) → IsLogDamage files name damage → ⊥
+sound_log files name sound (damages.Two first second region number) damage = damage
 sound_log files name sound (damages.Bytes n at) damage = sound at (subst (λ (m : Name). IsDamagedLog files m at) damage.0 damage.1)
 
 sound_dump : (files : Files) (n : ℕ) → ((name : Name) (at : ℕ) → IsDumped files n name → IsDamagedLog files name at → ⊥) → (damage : Damage) → IsDumpDamage n files damage → ⊥
+sound_dump files n sound (damages.Two first second region number) damage = damage
 sound_dump files n sound (damages.Bytes name at) damage = sound name at damage.0 damage.1
 
 pub show_complete : (word : Word) (status : Status) (script : List ℕ) (files : Files) (d k : Type 0) → word ≡ To_show → IsReadingEnd status → IsDamageOf status (IsLogDamage files (log_name 1))
@@ -71,3 +85,9 @@ pub dump_complete : (word : Word) (n : ℕ) (status : Status) (script : List ℕ
     → (status ≡ ends.DiskFault → d) → (status ≡ ends.SinkFault → k) → IsReady word script files → (d → ⊥) → (k → ⊥) → IsComplete status
 dump_complete word n status script files d k is ended damage disk sink ready no_disk no_sink =
     reader_done status (IsDumpDamage n files) d k ended damage disk sink (sound_dump files n (subst (λ (w : Word). IsReady w script files) is ready)) no_disk no_sink
+
+pub recover_complete : (word : Word) (status : Status) (script : List ℕ) (files : Files) (d k : Type 0) → word ≡ To_recover → IsReadingEnd status → IsDamageOf status (IsDamage files)
+    → (status ≡ ends.DiskFault → d) → (status ≡ ends.SinkFault → k) → IsReady word script files → (d → ⊥) → (k → ⊥) → IsComplete status
+recover_complete word status script files d k is ended damage disk sink ready no_disk no_sink =
+    let wanted : IsReady To_recover script files = subst (λ (w : Word). IsReady w script files) is ready in
+    reader_done status (IsDamage files) d k ended damage disk sink (λ x told. (sound_undamaged files wanted.1 wanted.0).2 x told) no_disk no_sink

@@ -2,20 +2,25 @@
 use Rattle.std.specs.Prelude.{◌≡◌, ℕ, List, [], Option, Some, None}
 use Rattle.std.specs.FinMap.{keys}
 use Rattle.log_model.specs.declared.name.Name.{Name}
-use Rattle.log_model.specs.Files.{Files}
+use Rattle.log_model.specs.declared.damage.Damage.{Damage}
+use Rattle.log_model.specs.Files.{Files, IsSound}
+use Rattle.log_model.specs.Damage.{IsDamage}
+use Rattle.disk_images.specs.Crash.{DiskView, IsImageNow}
 use Rattle.script_model.specs.Fields.{Why}
 use Rattle.script_model.specs.Script.{script_fault}
 use Rattle.script_model.specs.declared.command.Command.{Command}
 use Rattle.script_model.specs.declared.command.Command.TheVariants.{Log}
+use Rattle.wal_split.specs.Moments.{WasOrAlike}
 use Rattle.command_ends.specs.Invocation.{Invocation}
 use Rattle.command_ends.specs.Ends.{Effects, EndsAs}
 use Rattle.command_ends.specs.LogFiles.{log_name, IsDamagedLog, IsLogDamage}
+use Rattle.command_ends.specs.Status.{IsRefusal}
 use Rattle.command_ends.specs.declared.status.Status.{Status}
-use Rattle.command_ends.specs.declared.status.Damage.{Damage}
-use Rattle.log_command.specs.Logged.{logs}
+use Rattle.log_command.specs.Logged.{logs, LogMayLeave}
 use Rattle.show_command.specs.Shown.{shows}
 use Rattle.dump_command.specs.Dumped.{dumps, IsDumped, IsDumpDamage}
-use Rattle.load_run.specs.Words.{Word, To_log, To_show, To_dump}
+use Rattle.recover_command.specs.Recovered.{recovers, AreSized}
+use Rattle.load_run.specs.Words.{Word, To_log, To_show, To_dump, To_recover}
 
 -- ---- what a command does
 
@@ -23,10 +28,37 @@ abbrev pub effects_of : Word → Invocation → Effects
 effects_of To_log o = logs o
 effects_of To_show o = shows o
 effects_of (To_dump n) o = dumps n o
+effects_of To_recover o = recovers o
 
 -- what stands with each status of a command
-abbrev pub Ends : Word → Status → Invocation → Type 0 → Type 0
-Ends word status o rose = EndsAs (effects_of word o) status rose o.taken
+abbrev pub Ends : Word → Status → Invocation → Type 0 → Type 0 → Type 0
+Ends word status o rose sank = EndsAs (effects_of word o) status rose sank o.taken
+
+-- what a stop at any moment may leave: a crash image of the disk as found, or what the command says
+abbrev pub MayLeave : Option Word → List ℕ → DiskView → Files → Type 0
+MayLeave None script before J = IsImageNow before J
+MayLeave (Some To_log) script before J = LogMayLeave script before J
+MayLeave (Some To_show) script before J = IsImageNow before J
+MayLeave (Some (To_dump n)) script before J = IsImageNow before J
+MayLeave (Some To_recover) script before J = WasOrAlike before J
+
+-- ---- refusals
+
+-- Where the status has a refusal line, that line alone is printed. After a fault of the disk `log` may print its replies.
+abbrev pub ComesWithLine : Option Word → Status → Type 0
+ComesWithLine None status = Unit {0}
+ComesWithLine (Some To_log) status = IsRefusal status
+ComesWithLine (Some To_show) status = Unit {0}
+ComesWithLine (Some (To_dump n)) status = Unit {0}
+ComesWithLine (Some To_recover) status = Unit {0}
+
+-- the disk stays as it was
+abbrev pub LeavesDisk : Option Word → Status → Type 0
+LeavesDisk None status = Unit {0}
+LeavesDisk (Some To_log) status = IsRefusal status
+LeavesDisk (Some To_show) status = Unit {0}
+LeavesDisk (Some (To_dump n)) status = Unit {0}
+LeavesDisk (Some To_recover) status = ⊥
 
 -- ---- which status comes only where
 
@@ -35,6 +67,7 @@ abbrev pub command_of : Word → Option Command
 command_of To_log = Some Log
 command_of To_show = None
 command_of (To_dump n) = None
+command_of To_recover = None
 
 -- these words take no script: those of no command, too
 abbrev pub TakesNoScript : Option Word → Type 0
@@ -54,11 +87,25 @@ abbrev pub IsDamageFor : Word → Files → Damage → Type 0
 IsDamageFor To_log files damage = ⊥
 IsDamageFor To_show files damage = IsLogDamage files (log_name 1) damage
 IsDamageFor (To_dump n) files damage = IsDumpDamage n files damage
+IsDamageFor To_recover files damage = IsDamage files damage
+
+-- damage that the command must tell: `recover` where the files aren't sound, and then what shows it first
+abbrev pub MustTell : Word → Files → Damage → Type 0
+MustTell To_log files damage = ⊥
+MustTell To_show files damage = IsLogDamage files (log_name 1) damage
+MustTell (To_dump n) files damage = IsDumpDamage n files damage
+MustTell To_recover files damage = (¬ IsSound files) × IsDamage files damage
 
 abbrev pub WantsEmpty : Word → Type 0
 WantsEmpty To_log = Unit {0}
 WantsEmpty To_show = ⊥
 WantsEmpty (To_dump n) = ⊥
+WantsEmpty To_recover = ⊥
+
+-- these words are of a command that wants an empty store
+abbrev pub NeedsEmpty : Option Word → Type 0
+NeedsEmpty None = ⊥
+NeedsEmpty (Some word) = WantsEmpty word
 
 -- ---- completeness
 
@@ -67,3 +114,4 @@ abbrev pub IsReady : Word → List ℕ → Files → Type 0
 IsReady To_log script files = (script_fault Log script ≡ None) × (keys files ≡ [])
 IsReady To_show script files = (at : ℕ) → IsDamagedLog files (log_name 1) at → ⊥
 IsReady (To_dump n) script files = (name : Name) (at : ℕ) → IsDumped files n name → IsDamagedLog files name at → ⊥
+IsReady To_recover script files = IsSound files × AreSized files

@@ -3,14 +3,15 @@
 ghost use Rattle.std.specs.Prelude.{◌≡◌, ℕ, ◌⊎◌, List, [], ◌∷◌, map, Contains, Option, Some, None, IsTrue};
 ghost use Rattle.std.specs.FinMap.{keys};
 ghost use Rattle.log_model.specs.declared.name.Name.{Name};
+ghost use Rattle.log_model.specs.declared.damage.Damage.{Damage as TheDamage};
+ghost use Rattle.log_model.specs.Files.{Same};
 ghost use Rattle.disk_images.specs.Calls.{Rose};
 ghost use Rattle.script_model.specs.Fields.{Why};
 ghost use Rattle.load_run.specs.Words.{Word as TheWord, word_of};
-ghost use Rattle.command_ends.specs.Invocation.{invocation, IsUnchanged, GoesOn};
+ghost use Rattle.command_ends.specs.Invocation.{invocation, IsUnchanged, GoesOn, AtEachMoment};
 ghost use Rattle.command_ends.specs.Prints.{Prints};
-ghost use Rattle.load_run.specs.Top.{Ends, TakesNoScript, IsWrongAt, IsDamageFor, WantsEmpty, HasRightScript, IsReady};
-ghost use Rattle.command_ends.specs.Status.{IsRefusal, refusal_line, IsScriptFault, IsScriptAt, IsDamageOf, IsNotEmpty, IsOrEarlier, IsComplete};
-ghost use Rattle.command_ends.specs.declared.status.Damage.{Damage as TheDamage};
+ghost use Rattle.command_ends.specs.Status.{refusal_line, IfDamaged, IfNotEmpty, IsScriptFault, IsScriptAt, IsDamageOf, IsNotEmpty, IsOrEarlier, IsComplete};
+ghost use Rattle.load_run.specs.Top.{Ends, MayLeave, ComesWithLine, LeavesDisk, TakesNoScript, IsWrongAt, IsDamageFor, MustTell, WantsEmpty, NeedsEmpty, HasRightScript, IsReady};
 
 use crate::gate::Gate;
 use crate::words::{Word, read_words};
@@ -18,13 +19,14 @@ use command_ends::{Outcome, Status, refuse};
 use disk_images::{Disk, Sink, Source};
 use dump_command::dump;
 use log_command::log;
+use recover_command::recover;
 use show_command::show;
 use std::alloc::Global;
 use std::sync::Wait;
 use std::thread::Threads;
 
-/// Carries out the command that the words name: `log`, `show` or `dump NUMBER`. The source has a script, the sink takes the output. The
-/// gate holds handlers, which these commands don't have.
+/// Carries out the command that the words name: `log`, `show`, `dump NUMBER` or `recover`. The source has a script, the sink
+/// takes the output. The gate holds handlers, which these commands don't have.
 pub fn run<R: Threads + Wait + Sync, D: Disk + Send, S: Source, K: Sink, G: Gate + Sync>(
     _rt: &R,
     alloc: Global,
@@ -37,12 +39,18 @@ pub fn run<R: Threads + Wait + Sync, D: Disk + Send, S: Source, K: Sink, G: Gate
     // What stands with each status of a command.
     ensures ends { IsTrue S.told → IsTrue D.told → IsTrue K.told → (word : TheWord) → word_of (map (λ w. w.now) words.now) ≡ Some word
         → Ends word result.status (invocation (S.left script.old) (D.view disk) (D.view result.disk) (K.taken out.old) (K.taken out.new))
-        (Rose (D.faults disk) (D.faults result.disk)) }
-    ensures refusal { IsTrue K.told → IsRefusal result.status → (text : List ℕ) → refusal_line result.status ≡ Some text
+        (Rose (D.faults disk) (D.faults result.disk)) (Rose (K.faults out.old) (K.faults out.new)) }
+    // A refusal is one line, whole unless the sink fails.
+    ensures refusal { IsTrue K.told → ComesWithLine (word_of (map (λ w. w.now) words.now)) result.status
+        → (text : List ℕ) → refusal_line result.status ≡ Some text
         → Prints (K.taken out.old) (K.taken out.new) text (Rose (K.faults out.old) (K.faults out.new)) }
-    ensures leaves_disk { IsTrue D.told → IsRefusal result.status → IsUnchanged (D.view disk) (D.view result.disk) }
-    // The images of former moments stay.
+    ensures leaves_disk { IsTrue D.told → LeavesDisk (word_of (map (λ w. w.now) words.now)) result.status
+        → IsUnchanged (D.view disk) (D.view result.disk) }
+    ensures damage_leaves { IsTrue D.told → IfDamaged result.status (Same (D.view disk).files (D.view result.disk).files) }
+    // The images of former moments stay. A stop at any moment leaves only what the command says.
     ensures moments { IsTrue D.told → GoesOn (D.view disk) (D.view result.disk) }
+    ensures any_moment { IsTrue S.told → IsTrue D.told → AtEachMoment (MayLeave (word_of (map (λ w. w.now) words.now)) (S.left script.old) (D.view disk))
+        (D.view disk) (D.view result.disk) }
     // Only a command that takes a script reads the source.
     ensures leaves_source { TakesNoScript (word_of (map (λ w. w.now) words.now)) → script.new ≡ script.old }
 
@@ -56,6 +64,7 @@ pub fn run<R: Threads + Wait + Sync, D: Disk + Send, S: Source, K: Sink, G: Gate
     ensures damage_only { IsTrue D.told → (word : TheWord) → word_of (map (λ w. w.now) words.now) ≡ Some word
         → IsDamageOf result.status (IsDamageFor word (D.view disk).files) }
     ensures not_empty_only { IsTrue D.told → IsNotEmpty result.status (D.view disk).files }
+    ensures not_empty_need { IfNotEmpty result.status (NeedsEmpty (word_of (map (λ w. w.now) words.now))) }
 
     // Which status comes exactly where, unless memory was refused or one that is decided before it came.
     ensures usage { word_of (map (λ w. w.now) words.now) ≡ None → IsOrEarlier result.status Status.Usage [] }
@@ -63,7 +72,7 @@ pub fn run<R: Threads + Wait + Sync, D: Disk + Send, S: Source, K: Sink, G: Gate
         → IsWrongAt word (S.left script.old) line why
         → IsScriptAt result.status line why ⊎ Contains (Status.Memory ∷ Status.SourceFault ∷ []) result.status }
     ensures damage { IsTrue D.told → (word : TheWord) (damage : TheDamage) → word_of (map (λ w. w.now) words.now) ≡ Some word
-        → IsDamageFor word (D.view disk).files damage
+        → MustTell word (D.view disk).files damage
         → IsOrEarlier result.status (Status.Damaged damage) (Status.DiskFault ∷ []) }
     ensures not_empty { IsTrue S.told → IsTrue D.told → (word : TheWord) (name : Name) (rest : List Name)
         → word_of (map (λ w. w.now) words.now) ≡ Some word → WantsEmpty word → HasRightScript word (S.left script.old)
@@ -87,6 +96,10 @@ pub fn run<R: Threads + Wait + Sync, D: Disk + Send, S: Source, K: Sink, G: Gate
         },
         Some(Word::Dump { number }) => Outcome {
             status: dump(alloc, number, &mut disk, out),
+            disk,
+        },
+        Some(Word::Recover) => Outcome {
+            status: recover(alloc, &mut disk, out),
             disk,
         },
         None => Outcome {

@@ -15,6 +15,8 @@ pub enum Word {
     Show,
     /// Prints the entries of the log of this number as they stand in its file.
     Dump { number: u64 },
+    /// Opens a store, and prints how far each region goes.
+    Recover,
 }
 
 /// The command that the words name.
@@ -36,6 +38,9 @@ fn read_word(word: &str) -> Option<Word>
     }
     if word == "show" {
         return Some(Word::Show);
+    }
+    if word == "recover" {
+        return Some(Word::Recover);
     }
     None
 }

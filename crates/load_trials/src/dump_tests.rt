@@ -41,7 +41,7 @@ const OF_LOG: &str = "log 1\nentry 1 1 1000 1\ncell 1 r f q 1 put v\nended 1\nen
 const OF_OLD: &str = "old 1\nentry 1 1 1000 1\ncell 1 r f q 1 put v\nended 1\nend 0\n";
 
 // What is printed for these words where one file is there, a log or an old log with so many of the bytes.
-const DUMPS: [(NameKind, usize, [&str; 2], &str); 8] = [
+const DUMPS: [(NameKind, usize, [&str; 2], &str); 9] = [
     (NameKind::Log, 85, ["dump", "1"], OF_LOG),
     (NameKind::Old, 85, ["dump", "1"], OF_OLD),
     (NameKind::Old, 85, ["dump", "01"], OF_OLD),
@@ -55,6 +55,7 @@ const DUMPS: [(NameKind, usize, [&str; 2], &str); 8] = [
     ),
     (NameKind::Log, 85, ["dump", "0x1"], "refused usage\n"),
     (NameKind::Log, 85, ["show", "1"], "refused usage\n"),
+    (NameKind::Log, 85, ["recover", "1"], "refused usage\n"),
 ];
 
 #[test]

@@ -6,6 +6,8 @@ mod dump_tests;
 #[cfg(test)]
 mod log_tests;
 #[cfg(test)]
+mod recover_tests;
+#[cfg(test)]
 mod refusal_tests;
 #[cfg(test)]
 mod show_tests;

@@ -1,15 +1,16 @@
 -- The command that writes a log.
-use Rattle.std.specs.Prelude.{◌≡◌, ℕ, zero, suc, ◌+◌, ◌-◌, ◌<◌, ◌⊎◌, List, [], ◌∷◌, ◌++◌, length, take, Some, None, codes}
+use Rattle.std.specs.Prelude.{◌≡◌, ◌≢◌, ℕ, zero, suc, ◌+◌, ◌-◌, ◌<◌, ◌⊎◌, List, [], ◌∷◌, ◌++◌, length, take, Some, None}
 use Rattle.std.specs.List.{flat_map}
+use Rattle.log_model.specs.declared.name.Name.{Name}
 use Rattle.log_model.specs.Entry.{Entry}
-use Rattle.log_model.specs.Files.{Files, content}
+use Rattle.log_model.specs.Files.{Files, content, IsAbsent, SameBut}
 use Rattle.region_model.specs.Calls.{Call, Put, Scan, Flush, Roll, Answer, PutOk, PutFault}
 use Rattle.script_model.specs.Calls.{Script, Says}
 use Rattle.script_model.specs.Report.{ReplyLine, replies_text}
 use Rattle.script_model.specs.declared.command.Command.TheVariants.{Log}
-use Rattle.disk_images.specs.Crash.{IsImageNow}
+use Rattle.disk_images.specs.Crash.{DiskView, IsImageNow}
 use Rattle.recovery.specs.Change.{HasText, HasEntries}
-use Rattle.command_ends.specs.Invocation.{Invocation, IsImageAtEntry, IsUnchanged, IsRefused}
+use Rattle.command_ends.specs.Invocation.{Invocation, IsImageAtEntry, IsUnchanged}
 use Rattle.command_ends.specs.LogFiles.{log_name}
 use Rattle.command_ends.specs.Ends.{Effects, EndsAs}
 use Rattle.command_ends.specs.declared.status.Status.{Status}
@@ -33,6 +34,20 @@ entries_in s = entries_from s.time 1 (calls_in s)
 abbrev pub LogHolds : Files → List Entry → Type 0
 LogHolds files es = HasText (log_name 1) es None (content files (log_name 1))
 
+-- no file but log 1 is there
+abbrev pub IsAlone : Files → Type 0
+IsAlone files = (m : Name) → m ≢ log_name 1 → IsAbsent files m
+
+-- No other file is there, and log 1 is absent or has the first so many of these entries.
+pub record HasFirst (es : List Entry) (files : Files) : Type 0 where
+  pub alone : IsAlone files
+  pub count : ℕ
+  pub first : HasEntries (log_name 1) (take count es) (content files (log_name 1))
+
+-- What a stop of the command may leave: an image of the disk as it was found, or the first of the script's puts.
+abbrev pub LogMayLeave : List ℕ → DiskView → Files → Type 0
+LogMayLeave text before J = IsImageNow before J ⊎ ((script : Script) × Says Log text script × HasFirst (entries_in script) J)
+
 abbrev pub put_reply : ℕ → Answer → ReplyLine
 put_reply call answer = record { handler = 1; call = call; answer = answer }
 
@@ -50,12 +65,15 @@ faults n (suc count) = put_reply n (PutFault None) ∷ faults (n + 1) count
 abbrev pub stopped_replies : ℕ → ℕ → List ReplyLine
 stopped_replies count done = oks 1 done ++ put_reply (done + 1) (PutFault (Some (done + 1))) ∷ faults (done + 2) (count - (done + 1))
 
--- Log 1 holds the script's puts in order with the numbers 1, 2 and so on, every crash leaves them, and each was answered.
+-- Log 1 holds the script's puts in order with the numbers 1, 2 and so on, every crash leaves them and no other file, and
+-- each was answered. The other files read as before.
 pub record LogDone (o : Invocation) (text : List ℕ) : Type 0 where
   pub script : Script
   pub says : Says Log o.script script
   pub reads : LogHolds o.after.files (entries_in script)
+  pub others : SameBut (log_name 1) o.before.files o.after.files
   pub images : (J : Files) → IsImageNow o.after J → LogHolds J (entries_in script)
+  pub alone : (J : Files) → IsImageNow o.after J → IsAlone J
   pub is : text ≡ replies_text (oks 1 (length (entries_in script))) 0
 
 -- A fault ended the log in the put behind the first ones: these are in each image, and that put may be.
@@ -64,21 +82,29 @@ pub record LogFailed (o : Invocation) (text : List ℕ) : Type 0 where
   pub says : Says Log o.script script
   pub done : ℕ
   pub fewer : done < length (entries_in script)
+  pub others : SameBut (log_name 1) o.before.files o.after.files
   pub images : (J : Files) → IsImageNow o.after J → LogHolds J (take done (entries_in script)) ⊎ LogHolds J (take (done + 1) (entries_in script))
+  pub alone : (J : Files) → IsImageNow o.after J → IsAlone J
   pub is : text ≡ replies_text (stopped_replies (length (entries_in script)) done) 5
 
--- nothing was begun, or log 1 is absent or has no entry
-abbrev pub NoLogBegun : Invocation → Type 0
-NoLogBegun o = (J : Files) → IsImageNow o.after J → IsImageAtEntry o J ⊎ HasEntries (log_name 1) [] (content J (log_name 1))
+-- log 1 is absent or has no entry, and no other file is there
+abbrev pub HasNone : Files → Type 0
+HasNone J = IsAlone J × HasEntries (log_name 1) [] (content J (log_name 1))
+
+-- Nothing was begun, or log 1 is absent or has no entry. The other files read as before.
+pub record NoLogBegun (o : Invocation) : Type 0 where
+  pub others : SameBut (log_name 1) o.before.files o.after.files
+  pub images : (J : Files) → IsImageNow o.after J → IsImageAtEntry o J ⊎ HasNone J
 
 -- what stands with a text that the command printed
 abbrev pub logs : Invocation → Effects
 logs o = record {
   done = λ text. LogDone o text;
-  stopped = λ text. IsRefused (codes "memory" ∷ []) text × IsUnchanged o.before o.after;
-  failed = λ text. LogFailed o text ⊎ (IsRefused (codes "disk" ∷ []) text × NoLogBegun o);
+  failed = λ text. LogFailed o text;
+  no_memory = IsUnchanged o.before o.after;
+  no_disk = NoLogBegun o;
 }
 
 -- what stands with each status of the command
-abbrev pub EndsLog : Status → Invocation → Type 0 → Type 0
-EndsLog status o rose = EndsAs (logs o) status rose o.taken
+abbrev pub EndsLog : Status → Invocation → Type 0 → Type 0 → Type 0
+EndsLog status o rose sank = EndsAs (logs o) status rose sank o.taken

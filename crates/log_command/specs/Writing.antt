@@ -4,7 +4,7 @@ use Rattle.log_model.specs.Entry.{Entry}
 use Rattle.log_model.specs.Files.{Files}
 use Rattle.disk_images.specs.Crash.{DiskView, IsImageNow}
 use Rattle.log_file.specs.Open.{OpenLog, IsOpen}
-use Rattle.log_command.specs.Logged.{LogHolds}
+use Rattle.log_command.specs.Logged.{LogHolds, HasFirst}
 use Rattle.log_command.specs.declared.writing.Written.{Written}
 use Rattle.log_command.specs.declared.writing.Written.TheVariants.{Nothing, Stopped, Whole}
 
@@ -23,3 +23,7 @@ IsWithin Whole count = Unit {0}
 -- the log has no entry
 abbrev pub IsBegun : OpenLog → DiskView → Type 0
 IsBegun log disk = IsOpen log disk []
+
+-- what a stop of the writing may leave: an image of before, or the first of the entries
+abbrev pub WasOrFirst : DiskView → List Entry → Files → Type 0
+WasOrFirst disk entries J = IsImageNow disk J ⊎ HasFirst entries J

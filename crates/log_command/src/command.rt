@@ -8,9 +8,9 @@ ghost use Rattle.script_model.specs.Calls.{Script as TheScript, Says, IsScript};
 ghost use Rattle.script_model.specs.Fields.{Why};
 ghost use Rattle.script_model.specs.Script.{script_fault};
 ghost use Rattle.script_model.specs.declared.command.Command.TheVariants.{Log};
-ghost use Rattle.command_ends.specs.Invocation.{invocation, IsUnchanged, GoesOn};
+ghost use Rattle.command_ends.specs.Invocation.{invocation, IsUnchanged, GoesOn, AtEachMoment};
 ghost use Rattle.command_ends.specs.Prints.{Prints};
-ghost use Rattle.log_command.specs.Logged.{EndsLog};
+ghost use Rattle.log_command.specs.Logged.{EndsLog, LogMayLeave};
 ghost use Rattle.command_ends.specs.Status.{IsNotEmpty, IsOrEarlier, IsRefusal, IsScriptAt, IsScriptFault, refusal_line};
 ghost use Rattle.log_command.specs.Parts.{IsFramesOf, IsLogEnd, IsScriptEnd, IsStoreRefusal, IsWritingEnd};
 
@@ -38,11 +38,13 @@ pub fn log<D: Disk, S: Source, K: Sink>(
 ) -> Status
     ensures ends { IsTrue S.told → IsTrue D.told → IsTrue K.told
         → EndsLog result (invocation (S.left source.old) (D.view disk.old) (D.view disk.new) (K.taken out.old) (K.taken out.new))
-        (Rose (D.faults disk.old) (D.faults disk.new)) }
+        (Rose (D.faults disk.old) (D.faults disk.new)) (Rose (K.faults out.old) (K.faults out.new)) }
     ensures refusal { IsTrue K.told → IsRefusal result → (text : List ℕ) → refusal_line result ≡ Some text
         → Prints (K.taken out.old) (K.taken out.new) text (Rose (K.faults out.old) (K.faults out.new)) }
     ensures leaves_disk { IsTrue D.told → IsRefusal result → IsUnchanged (D.view disk.old) (D.view disk.new) }
     ensures moments { IsTrue D.told → GoesOn (D.view disk.old) (D.view disk.new) }
+    ensures any_moment { IsTrue S.told → IsTrue D.told
+        → AtEachMoment (LogMayLeave (S.left source.old) (D.view disk.old)) (D.view disk.old) (D.view disk.new) }
     ensures status { IsLogEnd result }
     ensures script { IsTrue S.told → IsScriptFault result (λ line why. script_fault Log (S.left source.old) ≡ Some (line, why)) }
     ensures not_empty { IsTrue D.told → IsNotEmpty result (D.view disk.old).files }
@@ -67,11 +69,13 @@ fn log_script<D: Disk, K: Sink>(alloc: Global, script: &Script, disk: &mut D, ou
     requires { IsScript script.now }
     ensures ends { IsTrue D.told → IsTrue K.told → (text : List ℕ) → Says Log text script.now
         → EndsLog result (invocation text (D.view disk.old) (D.view disk.new) (K.taken out.old) (K.taken out.new))
-        (Rose (D.faults disk.old) (D.faults disk.new)) }
+        (Rose (D.faults disk.old) (D.faults disk.new)) (Rose (K.faults out.old) (K.faults out.new)) }
     ensures refusal { IsTrue K.told → IsRefusal result → (text : List ℕ) → refusal_line result ≡ Some text
         → Prints (K.taken out.old) (K.taken out.new) text (Rose (K.faults out.old) (K.faults out.new)) }
     ensures leaves_disk { IsTrue D.told → IsRefusal result → IsUnchanged (D.view disk.old) (D.view disk.new) }
     ensures moments { IsTrue D.told → GoesOn (D.view disk.old) (D.view disk.new) }
+    ensures any_moment { IsTrue D.told → (text : List ℕ) → Says Log text script.now
+        → AtEachMoment (LogMayLeave text (D.view disk.old)) (D.view disk.old) (D.view disk.new) }
     ensures status { IsScriptEnd result }
     ensures not_empty { IsTrue D.told → IsNotEmpty result (D.view disk.old).files }
     ensures full { IsTrue D.told → (name : Name) (rest : List Name) → keys (D.view disk.old).files ≡ name ∷ rest
@@ -130,8 +134,10 @@ fn log_ready<D: Disk, K: Sink>(ready: Ready, disk: &mut D, out: &mut K) -> Statu
 
     ensures ends { IsTrue D.told → IsTrue K.told → (text : List ℕ) (script : TheScript) → Says Log text script → IsFramesOf ready.prepared.frames.items script
         → EndsLog result (invocation text (D.view disk.old) (D.view disk.new) (K.taken out.old) (K.taken out.new))
-        (Rose (D.faults disk.old) (D.faults disk.new)) }
+        (Rose (D.faults disk.old) (D.faults disk.new)) (Rose (K.faults out.old) (K.faults out.new)) }
     ensures moments { IsTrue D.told → GoesOn (D.view disk.old) (D.view disk.new) }
+    ensures any_moment { IsTrue D.told → (text : List ℕ) (script : TheScript) → Says Log text script → IsFramesOf ready.prepared.frames.items script
+        → AtEachMoment (LogMayLeave text (D.view disk.old)) (D.view disk.old) (D.view disk.new) }
     ensures status { IsWritingEnd result }
     ensures disk_cause { result ≡ Status.DiskFault → Rose (D.faults disk.old) (D.faults disk.new) }
     ensures sink_cause { result ≡ Status.SinkFault → Rose (K.faults out.old) (K.faults out.new) }

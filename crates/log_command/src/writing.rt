@@ -1,20 +1,19 @@
 //! Writing the puts of a script into log 1.
 
-ghost use Rattle.std.specs.Prelude.{◌≡◌, ◌≢◌, ◌≤◌, ◌<◌, ◌+◌, ◌^◌, ◌++◌, ◌⊎◌, ◌-◌, ◌∷◌, All, ℕ, List, [], map, length, IsTrue, IfOk, IsErr, OnOk, vec_len};
+ghost use Rattle.std.specs.Prelude.{◌≡◌, ◌≢◌, ◌≤◌, ◌<◌, ◌+◌, ◌*◌, ◌^◌, ◌++◌, ◌⊎◌, ◌-◌, ◌∷◌, All, ℕ, List, [], map, length, IsTrue, IfOk, IsErr, OnOk, vec_len};
 ghost use Rattle.std.specs.List.{AllByRecursion};
 ghost use Rattle.log_model.specs.Entry.{Entry, IsEntry, entry_frame};
 ghost use Rattle.log_model.specs.declared.name.Name.{Name as TheName};
-ghost use Rattle.log_model.specs.Files.{Files, IsAbsent, content};
-ghost use Rattle.recovery.specs.Change.{HasEntries};
-ghost use Rattle.disk_images.specs.Crash.{IsImageNow};
+ghost use Rattle.log_model.specs.Files.{Files, IsAbsent, SameBut};
+ghost use Rattle.disk_images.specs.Crash.{IsImageNow, OnlyAt, Throughout};
 ghost use Rattle.disk_images.specs.Calls.{Rose};
 ghost use Rattle.script_model.specs.Calls.{IsScript, IsAmong};
 ghost use Rattle.script_calls.specs.Calls.{call_of};
-ghost use Rattle.log_file.specs.Open.{IsOpen, IsStaged};
-ghost use Rattle.command_ends.specs.Invocation.{GoesOn};
+ghost use Rattle.log_file.specs.Open.{IsOpen, IsStaged, HasEither};
+ghost use Rattle.command_ends.specs.Invocation.{AtEachMoment};
 ghost use Rattle.command_ends.specs.LogFiles.{log_name};
-ghost use Rattle.log_command.specs.Logged.{entries_from, entries_in, LogHolds};
-ghost use Rattle.log_command.specs.Writing.{IsBegun, IsStopped, IsWithin};
+ghost use Rattle.log_command.specs.Logged.{entries_from, entries_in, LogHolds, HasFirst, HasNone, IsAlone};
+ghost use Rattle.log_command.specs.Writing.{IsBegun, IsStopped, IsWithin, WasOrFirst};
 ghost use Rattle.log_command.specs.declared.writing.Written.TheVariants.{Nothing, Whole};
 
 use command_ends::LOG_1;
@@ -112,18 +111,21 @@ pub fn write_log<D: Disk>(disk: &mut D, prepared: Prepared) -> Written
         → LogHolds (D.view disk.new).files entries × ((J : Files) → IsImageNow (D.view disk.new) J → LogHolds J entries) }
     ensures stopped { IsTrue D.told → (entries : List Entry) → prepared.frames.items ≡ map entry_frame entries → AllByRecursion IsEntry entries
         → IsStopped result (D.view disk.new) entries }
-    ensures nothing { IsTrue D.told → result ≡ Nothing → (J : Files) → IsImageNow (D.view disk.new) J → IsImageNow (D.view disk.old) J
-        ⊎ HasEntries (log_name 1) [] (content J (log_name 1)) }
+    ensures nothing { IsTrue D.told → result ≡ Nothing → (J : Files) → IsImageNow (D.view disk.new) J
+        → IsImageNow (D.view disk.old) J ⊎ HasNone J }
+    ensures alone { IsTrue D.told → result ≢ Nothing → (entries : List Entry) → prepared.frames.items ≡ map entry_frame entries → AllByRecursion IsEntry entries
+        → (J : Files) → IsImageNow (D.view disk.new) J → IsAlone J }
+    ensures others { IsTrue D.told → SameBut (log_name 1) (D.view disk.old).files (D.view disk.new).files }
     ensures within { IsWithin result (vec_len prepared.frames) }
-    ensures moments { IsTrue D.told → (entries : List Entry) → prepared.frames.items ≡ map entry_frame entries → AllByRecursion IsEntry entries
-        → GoesOn (D.view disk.old) (D.view disk.new) }
+    ensures any_moment { IsTrue D.told → (entries : List Entry) → prepared.frames.items ≡ map entry_frame entries → AllByRecursion IsEntry entries
+        → AtEachMoment (WasOrFirst (D.view disk.old) entries) (D.view disk.old) (D.view disk.new) }
     ensures later { D.faults disk.old ≤ D.faults disk.new }
     ensures cause { result ≢ Whole → Rose (D.faults disk.old) (D.faults disk.new) }
 {
     // A name that was removed before may come back after a crash: it is pinned as gone.
-    if disk.settle().is_err() {
+    let Ok(()) = disk.settle() else {
         return Written::Nothing;
-    }
+    };
     // Until the file's sync a crash leaves it absent or without entries.
     let Ok(mut log) = LogFile::begin_with(disk, LOG_1, prepared.stage) else {
         return Written::Nothing;
@@ -145,8 +147,10 @@ fn commit_each<D: Disk>(disk: &mut D, log: &mut LogFile, frames: &[EntryBytes]) 
     ensures within { IsWithin result (length frames.now) }
     ensures some { result ≢ Nothing }
     ensures name { log.new.name ≡ log.old.name }
-    ensures moments { IsTrue D.told → (entries : List Entry) → frames.now ≡ map entry_frame entries → AllByRecursion IsEntry entries
-        → GoesOn (D.view disk.old) (D.view disk.new) }
+    ensures others { IsTrue D.told → SameBut (log_name 1) (D.view disk.old).files (D.view disk.new).files }
+    ensures any_moment { IsTrue D.told → (entries : List Entry) → frames.now ≡ map entry_frame entries → AllByRecursion IsEntry entries
+        → ((J : Files) → IsImageNow (D.view disk.old) J → IsAlone J)
+        → Throughout (HasFirst entries) (4 * length frames.now) (D.view disk.old) (D.view disk.new) }
     ensures later { D.faults disk.old ≤ D.faults disk.new }
     ensures cause { result ≢ Whole → Rose (D.faults disk.old) (D.faults disk.new) }
 {
@@ -169,11 +173,10 @@ fn commit_one<D: Disk>(disk: &mut D, log: &mut LogFile, frame: &EntryBytes) -> R
     ensures committed { IsTrue D.told → (entries : List Entry) (e : Entry) → IsOpen log.old (D.view disk.old) entries → frame.now ≡ entry_frame e → IsEntry e
         → OnOk result (IsOpen log.new (D.view disk.new) (entries ++ e ∷ [])) }
     ensures any_moment { IsTrue D.told → (entries : List Entry) (e : Entry) → IsOpen log.old (D.view disk.old) entries → frame.now ≡ entry_frame e → IsEntry e
-        → (J : Files) → IsImageNow (D.view disk.new) J → LogHolds J entries ⊎ LogHolds J (entries ++ e ∷ []) }
+        → Throughout (OnlyAt (log_name 1) (HasEither (log_name 1) entries (entries ++ e ∷ [])) (D.view disk.old)) 4 (D.view disk.old) (D.view disk.new) }
     ensures empty { OnOk result (IsStaged log.new []) }
     ensures name { log.new.name ≡ log.old.name }
-    ensures moments { IsTrue D.told → (entries : List Entry) (e : Entry) → IsOpen log.old (D.view disk.old) entries → frame.now ≡ entry_frame e
-        → IsEntry e → GoesOn (D.view disk.old) (D.view disk.new) }
+    ensures others { IsTrue D.told → SameBut (log_name 1) (D.view disk.old).files (D.view disk.new).files }
     ensures later { D.faults disk.old ≤ D.faults disk.new }
     ensures cause { IsErr result → Rose (D.faults disk.old) (D.faults disk.new) }
 {

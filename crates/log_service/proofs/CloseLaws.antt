@@ -1,5 +1,5 @@
 -- What stands in a device's half at the close is what the close hands on.
-use Rattle.std.proofs.Common.{◌≡◌, inl, inr, ℕ, zero, suc, ◌+◌, ◌-◌, ◌<◌, ◌≤◌, Bool, true, false, true≢false, List, [], ◌∷◌, ◌++◌, length, take, drop, get_or, Contains, refl, sym, ap, ◌∙◌, subst, arith, append_assoc, length-append, take-append-drop}
+use Rattle.std.proofs.Common.{◌≡◌, ℕ, suc, ◌+◌, ◌-◌, ◌<◌, ◌≤◌, Bool, true, false, true≢false, List, [], ◌∷◌, ◌++◌, length, take, drop, get_or, refl, sym, ap, ◌∙◌, subst, arith, append_assoc, length-append, take-append-drop}
 use Rattle.std.specs.Prelude.{◌↔◌}
 use Rattle.std.proofs.Math.Logic.{∥∥₁_map, ∥∥₁_map₂}
 use Rattle.std.proofs.lemmas.List.{append-nil}
@@ -9,13 +9,13 @@ use Rattle.log_model.specs.Entry.{Entry}
 use Rattle.log_model.specs.Files.{Files}
 use Rattle.log_model.specs.Recovered.{IsRecovered, IsContent, IsLast, entries_of, is_of}
 use Rattle.recovery.specs.Change.{RecoversWith, LastsWith, last_of}
-use Rattle.recovery.specs.Kept.{IsLike, IsOrderly, lasts}
+use Rattle.recovery.specs.Kept.{IsOrderly, lasts}
 use Rattle.recovery.proofs.Likes.{like_recovers, with_both, some_alike}
 use Rattle.recovery.proofs.Lasts.{like_lasts}
 use Rattle.recovery.proofs.Rising.{last_of-append}
 use Rattle.disk_images.specs.Crash.{DiskView, IsImageNow, Since}
 use Rattle.disk_images.proofs.Moments.{since_weaker}
-use Rattle.std.specs.Prelude.{Option, Some, slice_get}
+use Rattle.std.specs.Prelude.{Option, Some}
 use Rattle.std.proofs.lemmas.Option.{slice_get_within}
 use Rattle.crossbeam_queue.specs.Passes.{view}
 use Rattle.append_ring.specs.declared.pass.RingPass.{RingPass}

@@ -1,5 +1,5 @@
 -- One load more is committed, or the device fails over it.
-use Rattle.std.proofs.Common.{◌≡◌, ◌≢◌, inl, inr, ℕ, zero, suc, ◌+◌, ◌-◌, ◌^◌, ◌<◌, ◌≤◌, ◌==◌, Bool, true, false, min, List, [], ◌∷◌, ◌++◌, length, take, get_or, Option, Some, None, refl, sym, ap, ◌∙◌, subst, arith, append_assoc, length-append, le_refl}
+use Rattle.std.proofs.Common.{◌≡◌, inl, inr, ℕ, zero, suc, ◌+◌, ◌-◌, ◌<◌, ◌≤◌, ◌==◌, Bool, true, false, List, [], ◌∷◌, ◌++◌, length, take, get_or, refl, sym, ap, ◌∙◌, subst, arith, length-append, le_refl}
 use Rattle.std.specs.Prelude.{if◌then◌else◌, OnOk, OnErr, IsErr, Result, Ok, Err}
 use Rattle.std.proofs.Math.Logic.{∥∥₁_map₂}
 use Rattle.std.proofs.lemmas.List.{take_all}
@@ -8,29 +8,31 @@ use Rattle.std.proofs.lemmas.Bool.Decides.{nat_tests}
 use Rattle.log_berth.specs.Words.{NoMore}
 use Rattle.log_service.specs.Numbers.{told_numbers}
 use Rattle.log_service.proofs.Numbers.{told_synced, told_stored, told_closed, told_past}
-use Rattle.log_model.specs.Entry.{Entry, IsEntry, entry_frame}
+use Rattle.log_model.specs.Entry.{Entry}
 use Rattle.log_model.specs.Files.{Files}
 use Rattle.recovery.specs.Change.{RecoversSome}
-use Rattle.recovery.specs.Kept.{Kept, IsLike, IsOrderly, lasts}
+use Rattle.recovery.specs.Kept.{IsLike, IsOrderly}
 use Rattle.recovery.proofs.Likes.{like_recovers}
 use Rattle.recovery.proofs.Lasts.{like_lasts}
 use Rattle.recovery.proofs.Longer.{longer, from_base}
-use Rattle.disk_images.specs.Crash.{DiskView, IsImageNow, Throughout, Since}
-use Rattle.disk_images.specs.Calls.{IsTrueDisk, Rose, HasCause}
+use Rattle.disk_images.specs.Crash.{DiskView, Throughout, Since}
+use Rattle.disk_images.specs.Calls.{IsTrueDisk, Rose}
 use Rattle.disk_images.proofs.Moments.{since_on, since_weaker, weaker, at_end}
 use Rattle.append_ring.specs.Rules.{base_of, of}
-use Rattle.log_trucks.specs.Held.{Held, IsHeld, AreHeld}
+use Rattle.log_trucks.specs.Held.{Held, AreHeld}
 use Rattle.log_ledger.specs.History.{History, committed_in}
 use Rattle.log_ledger.specs.Books.{Books, IsServed}
 use Rattle.log_device.specs.declared.device.Device.{Device}
+use Rattle.log_device.specs.Bears.{Bears}
 use Rattle.log_device.specs.Leaves.{Leaves}
 use Rattle.log_device.specs.Whole.{IsWhole, NoneFell, books_of}
-use Rattle.log_service.specs.Trucks.{IsSpelled, AreSpelled, FollowOn, FollowFrom, onward, come_to}
+use Rattle.log_service.specs.Trucks.{AreSpelled, FollowOn, FollowFrom, onward, come_to}
 use Rattle.log_service.specs.Loads.{all_trucks, AreInOrder}
 use Rattle.log_service.specs.Commits.{all_staged_in, AreServed}
-use Rattle.log_service.specs.Halves.{BeganWith, Stands, Fell, RecoversHeld}
-use Rattle.log_service.proofs.Chains.{follow_back, come_append}
+use Rattle.log_service.specs.Halves.{BearsFew, Stands, Fell, RecoversHeld}
+use Rattle.log_service.proofs.Chains.{follow_back}
 use Rattle.log_service.proofs.ItemLaws.{all_with}
+use Rattle.log_service.proofs.Tied.{KeepsFew, logs_up_to}
 
 pub held_append : (xs ys : List Held) (ds es : List Entry) → AreHeld xs ds → AreHeld ys es → AreHeld (xs ++ ys) (ds ++ es)
 held_append [] ys [] es f g = g
@@ -82,19 +84,38 @@ module _ (found : Files) (first : List ℕ) (popped load : List Held) (h : Histo
   all_more : AreHeld popped h.kept.durable → h.kept.staged ≡ [] → AreHeld (popped ++ load) (h.kept.durable ++ (h.kept.staged ++ es))
   all_more all none = subst (λ (l : List Entry). AreHeld (popped ++ load) (h.kept.durable ++ (l ++ es))) (sym none) (held_append popped load h.kept.durable es all held)
 
-  pub stands_more : {D : Type 0} (d e : Device D) (v w : DiskView) → Stands found first d v popped h → IsWhole e w (committed_in (all_staged_in h es)) → Stands found first e w (popped ++ load) (committed_in (all_staged_in h es))
-  stands_more d e v w s whole = record {
+  pub stands_more : {D : Type 0} (d e : Device D) (v w : DiskView) → Stands found first d v popped h → IsWhole e w (committed_in (all_staged_in h es)) → KeepsFew (books_of d) (books_of e) → Stands found first e w (popped ++ load) (committed_in (all_staged_in h es))
+  stands_more d e v w s whole kept = record {
     whole = whole;
     began = record { base = s.began.base; first = s.began.first };
     idle = refl;
     all = all_more s.all s.idle;
     none_may_go = s.none_may_go;
+    few = λ n up. kept n (s.few n up);
   }
 
-  pub falls : {D : Type 0} (d e : Device D) (v w : DiskView) → IsTrueDisk v → Stands found first d v popped h → IsOrderly (all_staged_in h es).kept
+  -- the names in each image
+  bears_more : {D : Type 0} (d : Device D) (v w : DiskView) (s : Stands found first d v popped h) → Throughout (Bears h.kept.base (books_of d).next_store s.whole.file.name.number) 4 v w → BearsFew found w (all_staged_in h es)
+  bears_more d v w s names = record {
+    next_store = (books_of d).next_store;
+    last = s.whole.file.name.number;
+    names = λ J now.
+        subst (λ (b : Files). Bears b (books_of d).next_store s.whole.file.name.number J) s.began.base
+        (at_end (Bears h.kept.base (books_of d).next_store s.whole.file.name.number) 4 v w names J now);
+    logs = λ n up.
+        (let low = s.whole.keeps.few n (logs_up_to found first h n s.began up) in
+        let was = length-append h.kept.durable h.kept.staged in
+        let now = length-append h.kept.durable (h.kept.staged ++ es) in
+        let more = length-append h.kept.staged es in
+        omega (arith, low, was, now, more));
+    stores = λ n up r. let low = s.few n up r in omega (arith, low, s.whole.counted.stored r);
+  }
+
+  pub falls : {D : Type 0} (d e : Device D) (v w : DiskView) → IsTrueDisk v → (s : Stands found first d v popped h) → IsOrderly (all_staged_in h es).kept
       → ((r : ℕ) → 0 < r → r ≤ length first → IsServed (books_of d) r) → (books_of e).synced ≡ (books_of d).synced → (books_of e).stored ≡ (books_of d).stored → (books_of e).closed ≡ (books_of d).closed
-      → Throughout (Leaves (books_of d).stored (books_of d).closed v.files es) 4 v w → Fell found first e w (popped ++ load) (all_staged_in h es)
-  falls d e v w sound s orderly served synced stored closed over = record {
+      → Throughout (Leaves (books_of d).stored (books_of d).closed v.files es) 4 v w
+      → Throughout (Bears h.kept.base (books_of d).next_store s.whole.file.name.number) 4 v w → Fell found first e w (popped ++ load) (all_staged_in h es)
+  falls d e v w sound s orderly served synced stored closed over names = record {
     files = v.files;
     like = like_staged h es v.files (s.whole.keeps.images v.files sound.reads).like;
     orderly = orderly;
@@ -107,6 +128,7 @@ module _ (found : Files) (first : List ℕ) (popped load : List Held) (h : Histo
     left = λ J now.
         subst (λ (p : List ℕ × List ℕ × List Entry). Leaves p.0 p.1 v.files p.2 J) (λ i. (sym stored i, sym closed i, ap (λ (l : List Entry). l ++ es) (sym s.idle) i))
         (at_end (Leaves (books_of d).stored (books_of d).closed v.files es) 4 v w over J now);
+    names = bears_more d v w s names;
   }
 
   -- what recovered with a beginning of the popped ones does so with a beginning of more
@@ -145,6 +167,7 @@ fell_more found first d disk popped load h f = record {
   synced = f.synced;
   stored = f.stored;
   left = f.left;
+  names = f.names;
 }
 
 pub rose_before : (first before now : ℕ) → first ≤ before → Rose before now → Rose first now

@@ -11,3 +11,6 @@ pub mod CloseLaws
 pub mod Tied
 pub mod IdlePasses
 pub mod Popped
+pub mod Bounds
+pub mod FilesLeft
+pub mod Crossing

@@ -1,6 +1,8 @@
 -- What is popped from the ring of loads, and from both rings at the close.
-use Rattle.std.proofs.Common.{◌≡◌, ◌+◌, ◌-◌, ℕ, suc, List, [], ◌∷◌, ◌++◌, refl, sym, ap, ◌∙◌, subst, arith}
-use Rattle.std.specs.Prelude.{Option, Some, None, MatchOption, slice_set}
+use Rattle.std.proofs.Common.{◌≡◌, ◌-◌, ℕ, suc, List, [], ◌∷◌, ◌++◌, refl, sym, ap, ◌∙◌, subst, arith}
+use Rattle.std.specs.Prelude.{Option, Some, None, MatchOption, slice_get, slice_set}
+use Rattle.std.proofs.Props.{props}
+use Rattle.std.proofs.Math.Logic.{∥∥₁_map, ∥∥₁_elim}
 use Rattle.std.proofs.lemmas.List.{append-nil}
 use Rattle.atomic_table.specs.Seated.{TableId}
 use Rattle.append_ring.specs.declared.knows.Knows.{Knows}
@@ -46,20 +48,35 @@ all_popped pushed loads load held items tie empty none same =
     ∙ (ap (λ (p : List Held × Option Item). all_trucks pushed ++ (p.0 ++ appended (held_in p.1))) {x = ([], None)} {y = (load, held)} (λ i. (sym empty i, sym none i)) ∙ tie))
 
 module _ {T : Type 0} (id : TableId) (lasts : List ℕ) where
-  each_new : (k : ℕ) (places : List (Option (RingPass T))) → AreNew id lasts k places → EachThere (λ p. p.pass.table_id ≡ id) places
+  named_prop : (p : RingPass T) → IsProp (p.pass.table_id ≡ id)
+  named_prop p = hlevel props
+
+  each_new : (k : ℕ) (places : List (Option (RingPass T))) → ∥ AreNew id lasts k places ∥₁ → EachThere (λ p. p.pass.table_id ≡ id) places
   each_new k [] new = tt
-  each_new k (None ∷ places) new = absurd new
-  each_new k (Some p ∷ places) new = (new.0.0, each_new (suc k) places (subst (λ (j : ℕ). AreNew id lasts j places) (omega arith) new.1))
+  each_new k (None ∷ places) new = absurd (∥∥₁_elim new (λ a b. absurd a) (λ n. n))
+  each_new k (Some p ∷ places) new = (
+    ∥∥₁_elim new (named_prop p) (λ n. n.0.0),
+    each_new (suc k) places (∥∥₁_map new (λ n. subst (λ (j : ℕ). AreNew id lasts j places) (omega arith) n.1)),
+  )
+
+  -- the first pass is handed out
+  pub idle_out : (places : List (Option (RingPass T))) → ∥ AreNewAfter id lasts 0 1 places ∥₁ → (rest : List (Option (RingPass T))) × (places ≡ None ∷ rest) × ∥ AreNew id lasts 1 rest ∥₁
+  idle_out [] new = absurd (∥∥₁_elim new (λ a b. absurd a) (λ n. n))
+  idle_out (Some p ∷ places) new = absurd (∥∥₁_elim new (λ a b. absurd a) (λ n. n))
+  idle_out (None ∷ places) new = (places, refl, new)
+
+  -- its place is empty
+  pub idle_empty : (places : List (Option (RingPass T))) (pass : RingPass T) → ∥ AreNewAfter id lasts 0 1 places ∥₁ → pass.region ≡ 1 → slice_get places (pass.region - 1) ≡ Some None
+  idle_empty places pass new first = let o = idle_out places new in λ i. slice_get (o.1 i) (first i - 1)
 
   -- the first pass is back in its place
-  pub idle_back : (places : List (Option (RingPass T))) (pass : RingPass T) → AreNewAfter id lasts 0 1 places → pass.pass.table_id ≡ id → pass.region ≡ 1 → EachThere (λ p. p.pass.table_id ≡ id) (slice_set places (pass.region - 1) (Some pass))
-  idle_back [] pass new of first = absurd new
-  idle_back (Some p ∷ places) pass new of first = absurd new
-  idle_back (None ∷ places) pass new of first =
-      subst (λ (i : ℕ). EachThere (λ p. p.pass.table_id ≡ id) (slice_set (None ∷ places) i (Some pass))) (sym (ap (λ (r : ℕ). r - 1) first)) (of, each_new 1 places new)
+  pub idle_back : (places : List (Option (RingPass T))) (pass : RingPass T) → ∥ AreNewAfter id lasts 0 1 places ∥₁ → pass.pass.table_id ≡ id → pass.region ≡ 1 → EachThere (λ p. p.pass.table_id ≡ id) (slice_set places (pass.region - 1) (Some pass))
+  idle_back places pass new of first =
+      let o = idle_out places new in
+      subst (λ (q : List (Option (RingPass T)) × ℕ). EachThere (λ p. p.pass.table_id ≡ id) (slice_set q.0 q.1 (Some pass))) (λ i. (sym o.1 i, sym (ap (λ (r : ℕ). r - 1) first) i)) (of, each_new 1 o.0 o.2)
 
   -- what holds of all holds of that one
-  pub idle_first : (is_so : RingPass T → Type 0) (places : List (Option (RingPass T))) (pass : RingPass T) → AreNewAfter id lasts 0 1 places → pass.region ≡ 1 → EachThere is_so (slice_set places (pass.region - 1) (Some pass)) → is_so pass
-  idle_first is_so [] pass new first all = absurd new
-  idle_first is_so (Some p ∷ places) pass new first all = absurd new
-  idle_first is_so (None ∷ places) pass new first all = (subst (λ (i : ℕ). EachThere is_so (slice_set (None ∷ places) i (Some pass))) (ap (λ (r : ℕ). r - 1) first) all).0
+  pub idle_first : (is_so : RingPass T → Type 0) (places : List (Option (RingPass T))) (pass : RingPass T) → ∥ AreNewAfter id lasts 0 1 places ∥₁ → pass.region ≡ 1 → EachThere is_so (slice_set places (pass.region - 1) (Some pass)) → is_so pass
+  idle_first is_so places pass new first all =
+      let o = idle_out places new in
+      (subst (λ (q : List (Option (RingPass T)) × ℕ). EachThere is_so (slice_set q.0 q.1 (Some pass))) {x = (places, pass.region - 1)} {y = (None ∷ o.0, 0)} (λ i. (o.1 i, ap (λ (r : ℕ). r - 1) first i)) all).0

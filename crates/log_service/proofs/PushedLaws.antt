@@ -1,18 +1,15 @@
 -- What images hold of the entries pushed, once a service is closed.
-use Rattle.std.proofs.Common.{◌≡◌, ◌≢◌, inl, inr, ℕ, zero, suc, ◌+◌, ◌<◌, ◌≤◌, ◌==◌, Bool, true, false, List, [], ◌∷◌, ◌++◌, length, take, get_or, filter, Some, refl, sym, ap, ◌∙◌, subst, arith, append_assoc, length-append}
+use Rattle.std.proofs.Common.{◌≡◌, ℕ, ◌+◌, ◌==◌, Bool, true, false, List, [], ◌∷◌, ◌++◌, length, take, refl, sym, ap, ◌∙◌, subst, arith, length-append}
 use Rattle.std.specs.Prelude.{if◌then◌else◌, cond}
-use Rattle.std.proofs.lemmas.Bool.{cases_eq}
 use Rattle.std.proofs.lemmas.Bool.Decides.{nat_tests}
-use Rattle.std.specs.FinMap.{get}
-use Rattle.cell_model.specs.Order.{VersionKey, Payload, Content}
-use Rattle.log_model.specs.Entry.{Entry, IsEntry, entry_frame}
+use Rattle.cell_model.specs.Order.{Content}
+use Rattle.log_model.specs.Entry.{Entry, entry_frame}
 use Rattle.log_model.specs.LogText.{opened}
-use Rattle.log_model.specs.Frame.{IsEntryAt}
 use Rattle.log_model.proofs.FrameLaws.{same_entry}
 use Rattle.log_model.specs.Files.{Files, IsFit}
-use Rattle.log_model.specs.Recovered.{IsRecovered, IsContent, IsLast, put_entries, entries_of, is_of}
-use Rattle.recovery.specs.Change.{RecoversWith, LastsWith, RecoversSome, last_of}
-use Rattle.recovery.specs.Kept.{IsLike, IsOrderly, AreRising, raised, lasts}
+use Rattle.log_model.specs.Recovered.{IsRecovered, IsContent, IsLast, put_entries, entries_of}
+use Rattle.recovery.specs.Change.{RecoversWith, LastsWith, last_of}
+use Rattle.recovery.specs.Kept.{AreRising, raised}
 use Rattle.recovery.proofs.Contents.{content_with, rising_new}
 use Rattle.recovery.proofs.Numbers.{recovered_low}
 use Rattle.std.specs.Global.{Box}

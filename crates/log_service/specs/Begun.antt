@@ -11,7 +11,7 @@ use Rattle.log_ledger.specs.History.{History}
 use Rattle.log_ledger.specs.Books.{IsServed}
 use Rattle.log_device.specs.declared.device.Device.{Device}
 use Rattle.log_device.specs.Whole.{IsWhole, IsBroken, IsIdle, log_of, books_of}
-use Rattle.log_service.specs.Halves.{BeganWith}
+use Rattle.log_service.specs.Halves.{BeganWith, HasFewStores}
 
 -- the consumer's pass and the regions' passes of a ring are new, and these are the numbers before the regions' first ones
 pub record AreNewParts {T : Type 0} (id : TableId) (lasts : List ℕ) (of : TableId) (seen : Knows T) (passes : List (Option (RingPass T))) : Type 0 where
@@ -40,3 +40,5 @@ pub record BeginsAs {D : Type 0} (found : Files) (first : List ℕ) (d : Device 
   pub none_durable : h.kept.durable ≡ []
   pub none_staged : h.kept.staged ≡ []
   pub no_logs : h.logs ≡ []
+  -- the regions' next stores have numbers at most one above those found
+  pub few : HasFewStores found (books_of d)

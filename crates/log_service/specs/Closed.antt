@@ -6,7 +6,6 @@ use Rattle.log_model.specs.Entry.{Entry}
 use Rattle.log_model.specs.declared.name.NameKind.TheVariants as kinds
 use Rattle.log_model.specs.Files.{Files, IsLogFile, IsLastLog, IsFit, IsSound, IsPresent}
 use Rattle.log_model.specs.Recovered.{IsRecovered, IsStored, IsContent, IsLast, IsFlushed, RecoversAlike, put_entries}
-use Rattle.recovery.specs.Change.{RecoversSome}
 use Rattle.disk_images.specs.Crash.{DiskView, IsImageNow, Since}
 use Rattle.append_ring.specs.Rules.{base_of}
 use Rattle.append_ring.specs.declared.pass.RingPass.{RingPass}
@@ -59,3 +58,12 @@ pub record Pushed (found : Files) (passes : List (Option (RingPass Item))) (r : 
   pub region : pass.region ≡ r
   pub content : IsContent (IsRecovered found r) c
   pub entries : HasPushedEntries pass pushed
+
+-- What the files hold besides. Each image is sound where the files found were, with numbers that leave room for those given since, and each
+-- region above these recovers as it did. Where the log isn't broken, no log but the last one is wholly flushed.
+pub record LeavesFiles (found : Files) (disk : DiskView) (broken : Bool) (regions : ℕ) : Type 0 where
+  pub sound : (J : Files) → IsImageNow disk J → IsSound found → ((m : Name) → IsPresent found m → m.number ≤ 2 ^ 61 + 1) → IsSound J
+  pub others : (J : Files) (r : ℕ) → IsImageNow disk J → regions < r → RecoversAlike found J r
+  pub archived : broken ≡ false → (name : Name) (entries : List Entry) → IsLogFile disk.files name entries → name.kind ≡ kinds.Log
+      → (IsLastLog disk.files name → ⊥)
+      → (e : Entry) × Contains entries e × ((n : ℕ) → IsFlushed disk.files e.region n → n < e.number)

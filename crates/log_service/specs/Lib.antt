@@ -8,6 +8,7 @@ pub mod Numbers
 pub mod Halves
 pub mod Moves
 pub mod Places
+pub mod Bundles
 pub mod Commits
 pub mod Ties
 pub mod Closed

@@ -1,12 +1,12 @@
 -- What a consumer's turn moves.
-use Rattle.std.specs.Prelude.{◌≡◌, ◌⊎◌, ℕ, ◌+◌, ◌<◌, ◌≤◌, Bool, false, ◌||◌, List, [], ◌∷◌, ◌++◌, length, Option, Some, None}
+use Rattle.std.specs.Prelude.{◌≡◌, ◌⊎◌, ℕ, ◌+◌, ◌<◌, Bool, false, ◌||◌, List, [], ◌∷◌, ◌++◌, length, Option, Some, None}
 use Rattle.crossbeam_queue.specs.Fifo.{Held as HeldAt}
 use Rattle.crossbeam_queue.specs.Passes.{view}
 use Rattle.append_ring.specs.declared.knows.Knows.{Knows}
 use Rattle.append_ring.specs.declared.pass.RingPass.{RingPass}
 use Rattle.append_ring.specs.Rules.{Possible}
 use Rattle.append_ring.specs.Parts.{EachThere, IsDrained}
-use Rattle.log_trucks.specs.Held.{Held, held_of}
+use Rattle.log_trucks.specs.Held.{Held}
 use Rattle.log_service.specs.declared.consumer.ConsumerHalf.{ConsumerHalf}
 use Rattle.log_service.specs.declared.name.Naming.{Ghosts}
 use Rattle.log_service.specs.declared.item.Item.{Item}
@@ -42,6 +42,10 @@ IsTooLong b = (truck : _) × (b.held ≡ Some (items.Append truck)) × (4194304 
 -- at a moment the ring of items held so many, and that of loads
 abbrev pub HadItems : ℕ → Knows Item → Type 0
 HadItems n v = HeldAt n (Possible region_of number_of IsWholeItem (λ _ _. Unit {0}) v)
+
+-- an item wasn't pushed under this pass, and came back: at a moment the ring held 1,024 items
+abbrev pub IsGivenBack : RingPass Item → RingPass Item → Item → Item → Type 0
+IsGivenBack before after item back = (back ≡ item) × (view after.pass ≡ view before.pass) × HadItems 1024 (view before.pass)
 
 abbrev pub WasEmpty : Knows Item → Type 0
 WasEmpty v = HadItems 0 v

@@ -1,7 +1,7 @@
 -- Trucks in a row: what each keeps, and whether their numbers follow one another.
-use Rattle.std.specs.Prelude.{◌≡◌, ℕ, ◌+◌, ◌<◌, ◌≤◌, ◌==◌, if◌then◌else◌, List, [], ◌∷◌, ◌++◌, length, Option, Some, None}
+use Rattle.std.specs.Prelude.{◌≡◌, ℕ, ◌+◌, ◌≤◌, ◌==◌, if◌then◌else◌, List, [], ◌∷◌, length}
 use Rattle.log_model.specs.Entry.{Entry, IsEntry, entry_frame}
-use Rattle.log_trucks.specs.Held.{Held, IsHeld, AreHeld}
+use Rattle.log_trucks.specs.Held.{Held}
 use Rattle.append_ring.specs.Rules.{base_of}
 
 -- the bytes spell an entry of the truck's region and number

@@ -1,9 +1,8 @@
 //! A device's roll and flush, with the closed logs that may go behind them.
 ghost use Rattle.std.specs.Prelude.{◌≡◌, ◌≤◌, ◌↔◌, ℕ, get_or, Err, IsTrue, IfOk, OnOk, IsErrOf};
-ghost use Rattle.disk_images.specs.Calls.{HasCause};
 ghost use Rattle.log_ledger.specs.History.{History};
 ghost use Rattle.log_ledger.specs.Books.{IsServed};
-ghost use Rattle.log_device.specs.Whole.{IsWhole, IsBroken, disk_of, books_of};
+ghost use Rattle.log_device.specs.Whole.{IsBroken, disk_of, books_of, HasHistory, CausesFault};
 ghost use Rattle.log_service.specs.Ties.{KeepsTies, KeepsNumbers};
 
 use disk_images::Disk;
@@ -16,14 +15,14 @@ pub(crate) fn roll_archived<D: Disk>(
     alloc: Global,
 ) -> Result<Rolled, RollRefusal>
     requires unbroken { IsBroken device.old → ⊥ }
-    requires whole { IsTrue D.told → ∥ ((h : History) × IsWhole device.old (D.view (disk_of device.old)) h) ∥₁ }
+    requires whole { IsTrue D.told → ∥ ((h : History) × HasHistory D.Disk device.old h) ∥₁ }
 
     ensures ties { IsTrue D.told → KeepsTies device.old device.new (D.view (disk_of device.old)) (D.view (disk_of device.new)) }
     ensures numbers { KeepsNumbers device.old device.new }
     ensures closed { OnOk result ((books_of device.new).closed ≡ (books_of device.new).synced) }
     ensures nothing { (n : ℕ) → result ≡ Err (RollRefusal.NothingToRoll n) → (books_of device.new).closed ≡ (books_of device.new).synced }
     ensures broken { IsErrOf result RollRefusal.WriteFault ↔ IsBroken device.new }
-    ensures cause { HasCause (D.faults (disk_of device.old)) (D.faults (disk_of device.new)) (IsErrOf result RollRefusal.WriteFault) }
+    ensures cause { CausesFault D.Disk device.old device.new (IsErrOf result RollRefusal.WriteFault) }
 {
     let rolled = match device.roll(alloc) {
         Ok(rolled) => rolled,
@@ -43,14 +42,15 @@ pub(crate) fn flush_archived<D: Disk>(
 ) -> Result<u64, DeviceFlush>
     requires unbroken { IsBroken device.old → ⊥ }
     requires served { IsServed (books_of device.old) region }
-    requires whole { IsTrue D.told → ∥ ((h : History) × IsWhole device.old (D.view (disk_of device.old)) h) ∥₁ }
+    requires whole { IsTrue D.told → ∥ ((h : History) × HasHistory D.Disk device.old h) ∥₁ }
 
     ensures ties { IsTrue D.told → KeepsTies device.old device.new (D.view (disk_of device.old)) (D.view (disk_of device.new)) }
     ensures numbers { KeepsNumbers device.old device.new }
     ensures flushed { IfOk result (λ n. (n ≡ get_or (books_of device.old).drawn region 0) × (get_or (books_of device.new).stored region 0 ≡ n)) }
-    ensures nothing { (n : ℕ) → result ≡ Err (DeviceFlush.Nothing n) → (get_or (books_of device.old).drawn region 0 ≤ n) × (get_or (books_of device.new).stored region 0 ≡ n) }
+    ensures nothing { (n : ℕ) → result ≡ Err (DeviceFlush.Nothing n) → (get_or (books_of device.old).drawn region 0 ≤ n)
+        × (get_or (books_of device.new).stored region 0 ≡ n) }
     ensures broken { IsErrOf result DeviceFlush.WriteFault ↔ IsBroken device.new }
-    ensures cause { HasCause (D.faults (disk_of device.old)) (D.faults (disk_of device.new)) (IsErrOf result DeviceFlush.WriteFault) }
+    ensures cause { CausesFault D.Disk device.old device.new (IsErrOf result DeviceFlush.WriteFault) }
 {
     let number = match device.flush(alloc, region) {
         Ok(number) => number,

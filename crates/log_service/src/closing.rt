@@ -6,7 +6,7 @@ ghost use Rattle.disk_images.specs.Calls.{Rose};
 ghost use Rattle.append_ring.specs.Rules.{base_of};
 ghost use Rattle.append_ring.specs.Parts.{EachThere};
 ghost use Rattle.log_berth.specs.Standing.{AreBack, AllSaw};
-ghost use Rattle.log_service.specs.Closed.{CommitsRegion, CommitsSince, Pushed};
+ghost use Rattle.log_service.specs.Closed.{CommitsRegion, CommitsSince, LeavesFiles, Pushed};
 
 use crate::item::Item;
 use crate::name::Naming;
@@ -44,16 +44,18 @@ impl<D: Disk, N: Naming> LogService<D, N> {
         ensures saw { AllSaw seats.devices.seats result.synced result.broken }
         // Each image has each region's content at the start with the first of the entries pushed: all that the words tell of, and all of
         // them where the log isn't broken.
-        ensures commits { IsTrue D.told → (r : ℕ) (c : Content) (pushed : List Entry) → Pushed N.base passes r c pushed → ∥ CommitsRegion (D.view result.disk) result.broken self.regions result.synced N.lasts r c pushed ∥₁ }
+        ensures commits { IsTrue D.told → (r : ℕ) (c : Content) (pushed : List Entry) → Pushed N.base passes r c pushed
+            → ∥ CommitsRegion (D.view result.disk) result.broken self.regions result.synced N.lasts r c pushed ∥₁ }
         // So it was at each moment since the start.
-        ensures since { IsTrue D.told → (r : ℕ) (c : Content) (pushed : List Entry) → Pushed N.base passes r c pushed → ∥ CommitsSince N.start (D.view result.disk) r (base_of N.lasts r) c pushed ∥₁ }
+        ensures since { IsTrue D.told → (r : ℕ) (c : Content) (pushed : List Entry) → Pushed N.base passes r c pushed
+            → ∥ CommitsSince N.start (D.view result.disk) r (base_of N.lasts r) c pushed ∥₁ }
+        ensures leaves { IsTrue D.told → ∥ LeavesFiles N.base (D.view result.disk) result.broken self.regions ∥₁ }
         ensures faults { N.faults ≤ D.faults result.disk }
         ensures cause { result.broken ≡ true → Rose N.faults (D.faults result.disk) }
     {
         let LogService {
             ring,
             hand,
-            mut idle,
             consumer,
             device,
             regions: _,
@@ -69,7 +71,7 @@ impl<D: Disk, N: Naming> LogService<D, N> {
             broken: _,
         } = device.close(devices);
         settle_items(rt, &ring, &passes, &hand, &mut mover, &mut committer);
-        let (items, pass) = mover.into_passes();
+        let (items, pass, mut idle) = mover.into_passes();
         idle.put_back(pass);
         settle_loads(rt, &hand, &idle, &mut committer);
         let (device, loads) = committer.into_parts();

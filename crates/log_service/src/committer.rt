@@ -30,11 +30,14 @@ pub struct DeviceHalf<D: Disk, N: Naming> {
     ghost served: { (r : ℕ) → 0 < r → r ≤ length N.lasts → IsServed (books_of device) r },
     ghost idle: { IsIdle (log_of device) },
     // All that was drawn is committed.
-    ghost drawn: { (IsBroken device → ⊥) → (r : ℕ) → 0 < r → r ≤ length N.lasts → get_or (books_of device).drawn r 0 ≡ come_to (base_of N.lasts) (all_trucks (view consumer.pass).popped) r },
+    ghost drawn: { (IsBroken device → ⊥) → (r : ℕ) → 0 < r → r ≤ length N.lasts
+        → get_or (books_of device).drawn r 0 ≡ come_to (base_of N.lasts) (all_trucks (view consumer.pass).popped) r },
     ghost synced: { (IsBroken device → ⊥) → (books_of device).synced ≡ (books_of device).drawn },
     // While the device isn't broken, all that was popped is committed.
-    ghost stands: { IsTrue D.told → (IsBroken device → ⊥) → ∥ ((h : History) × Stands N.base N.lasts device (D.view (disk_of device)) (all_trucks (view consumer.pass).popped) h) ∥₁ },
-    ghost fell: { IsTrue D.told → IsBroken device → ∥ ((h : History) × Fell N.base N.lasts device (D.view (disk_of device)) (all_trucks (view consumer.pass).popped) h) ∥₁ },
+    ghost stands: { IsTrue D.told → (IsBroken device → ⊥)
+        → ∥ ((h : History) × Stands N.base N.lasts device (D.view (disk_of device)) (all_trucks (view consumer.pass).popped) h) ∥₁ },
+    ghost fell: { IsTrue D.told → IsBroken device → ∥ ((h : History)
+        × Fell N.base N.lasts device (D.view (disk_of device)) (all_trucks (view consumer.pass).popped) h) ∥₁ },
     // At each moment since the start each image recovers to the base with a beginning of what was popped.
     ghost since: { IsTrue D.told → ∥ Since N.start (RecoversHeld N.base (all_trucks (view consumer.pass).popped)) (D.view (disk_of device)) ∥₁ },
     ghost cause: { ∥ HasCause N.faults (D.faults (disk_of device)) (IsBroken device) ∥₁ },

@@ -2,10 +2,9 @@
 ghost use Rattle.std.specs.Prelude.{◌≡◌, ◌++◌, ℕ, List, [], ◌∷◌, length};
 ghost use Rattle.crossbeam_queue.specs.Passes.{view};
 ghost use Rattle.disk_images.specs.Calls.{Rose};
-ghost use Rattle.log_berth.specs.Words.{NoMore};
 ghost use Rattle.log_trucks.specs.Held.{Held};
-ghost use Rattle.log_device.specs.Whole.{IsBroken, disk_of, books_of};
-ghost use Rattle.log_service.specs.Numbers.{told_numbers};
+ghost use Rattle.log_device.specs.Whole.{IsBroken, disk_of};
+ghost use Rattle.log_service.specs.Numbers.{TellsLater};
 ghost use Rattle.log_service.specs.Moves.{WasFull};
 
 use crate::committer::DeviceHalf;
@@ -34,10 +33,12 @@ impl<D: Disk, N: Naming> DeviceHalf<D, N> {
         requires hand { hand.now.id ≡ N.hand }
         requires unbroken { IsBroken self.old.device → ⊥ }
 
-        ensures committed { (n : ℕ) → result ≡ Commit.Committed n → (load : List Held) × ((view self.new.consumer.pass).popped ≡ (view self.old.consumer.pass).popped ++ load ∷ []) × (n ≡ length load) × (IsBroken self.new.device → ⊥) }
-        ensures clean { result ≡ Commit.Clean → (view self.new.consumer.pass ≡ view self.old.consumer.pass) × (self.new.device ≡ self.old.device) × WasFull 0 (view self.old.consumer.pass) }
+        ensures committed { (n : ℕ) → result ≡ Commit.Committed n → (load : List Held)
+            × ((view self.new.consumer.pass).popped ≡ (view self.old.consumer.pass).popped ++ load ∷ []) × (n ≡ length load) × (IsBroken self.new.device → ⊥) }
+        ensures clean { result ≡ Commit.Clean → (view self.new.consumer.pass ≡ view self.old.consumer.pass)
+            × (self.new.device ≡ self.old.device) × WasFull 0 (view self.old.consumer.pass) }
         ensures fault { result ≡ Commit.WriteFault → IsBroken self.new.device × Rose (D.faults (disk_of self.old.device)) (D.faults (disk_of self.new.device)) }
-        ensures later { NoMore (told_numbers self.old.regions (books_of self.old.device)) (told_numbers self.new.regions (books_of self.new.device)) }
+        ensures later { TellsLater self.old.regions self.old.device self.new.regions self.new.device }
         ensures same { self.new.regions ≡ self.old.regions }
     {
         let Some(load) = hand.pop(rt, &mut self.consumer) else {

@@ -2,6 +2,7 @@
 ghost use Rattle.std.specs.Prelude.{◌≡◌, ◌++◌, [], length, Some};
 ghost use Rattle.crossbeam_queue.specs.Passes.{view};
 ghost use Rattle.append_ring.specs.Rules.{base_of};
+ghost use Rattle.append_ring.specs.Parts.{AreNewAfter};
 ghost use Rattle.log_service.specs.declared.item.Item.TheVariants as items;
 ghost use Rattle.log_service.specs.Items.{appended, held_in};
 ghost use Rattle.log_service.specs.Trucks.{AreSpelled, FollowFrom};
@@ -11,7 +12,7 @@ ghost use Rattle.log_service.specs.Props.{spelled_prop, follow_prop};
 use crate::item::Item;
 use crate::load::Load;
 use crate::name::Naming;
-use append_ring::{ConsumerPass, RingPass};
+use append_ring::{ConsumerPass, RingPass, RingPasses};
 use log_berth::Ware;
 use std::marker::PhantomData;
 
@@ -21,11 +22,15 @@ pub struct ConsumerHalf<N: Naming> {
     pub(crate) load: Load,
     pub(crate) held: Option<Item>,
     pub(crate) hand: RingPass<Load>,
+    // The passes of the ring of loads that are never used, since all loads are of region 1. They lie in a ware, since the service, which
+    // threads share, may hold no pass.
+    pub(crate) idle: RingPasses<Load>,
     // A sync request was moved since the last hand-over.
     pub(crate) asked: bool,
     pub(crate) of: PhantomData<N>,
     ghost ring: { (consumer.pass.table_id ≡ N.ring) × ((view consumer.pass).lasts ≡ N.lasts) },
     ghost to: { (hand.pass.table_id ≡ N.hand) × (hand.region ≡ 1) × ((view hand.pass).lasts ≡ N.lasts) },
+    ghost rest: { ∥ AreNewAfter N.hand N.lasts 0 1 idle ∥₁ × (length idle ≡ length N.lasts) },
     // What was popped is in this order in the loads that were handed over, in the own load, and held.
     ghost tie: { all_trucks (view hand.pass).pushed ++ (load ++ appended (held_in held)) ≡ appended (view consumer.pass).popped },
     ghost spelled: { AreSpelled (load ++ appended (held_in held)) } by { spelled_prop (load ++ appended (held_in held)) },
@@ -40,6 +45,7 @@ impl<N: Naming> Drop for ConsumerHalf<N> {
             load: _,
             held: _,
             hand: _,
+            idle: _,
             asked: _,
             of: _,
         } = self;
@@ -64,18 +70,19 @@ impl<N: Naming> Ware for ConsumerHalf<N> {
 }
 
 impl<N: Naming> ConsumerHalf<N> {
-    /// Its two passes. What it has besides is let go.
-    pub(crate) fn into_passes(self) -> (ConsumerPass<Item>, RingPass<Load>)
-        ensures { (result.0 ≡ self.consumer) × (result.1 ≡ self.hand) }
+    /// Its passes. What it has besides is let go.
+    pub(crate) fn into_passes(self) -> (ConsumerPass<Item>, RingPass<Load>, RingPasses<Load>)
+        ensures { (result.0 ≡ self.consumer) × (result.1 ≡ self.hand) × (result.2 ≡ self.idle) }
     {
         let ConsumerHalf {
             consumer,
             load: _,
             held: _,
             hand,
+            idle,
             asked: _,
             of: _,
         } = self;
-        (consumer, hand)
+        (consumer, hand, idle)
     }
 }

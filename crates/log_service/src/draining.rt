@@ -1,9 +1,8 @@
 //! What was moved is committed, by who has both turns.
 ghost use Rattle.std.specs.Prelude.{◌≡◌, ◌<◌, ◌≤◌, [], get_or, IsTrue, IsFalse};
 ghost use Rattle.crossbeam_queue.specs.Passes.{view};
-ghost use Rattle.log_berth.specs.Words.{NoMore};
 ghost use Rattle.log_device.specs.Whole.{IsBroken, books_of};
-ghost use Rattle.log_service.specs.Numbers.{told_numbers};
+ghost use Rattle.log_service.specs.Numbers.{TellsLater};
 ghost use Rattle.log_service.specs.Moves.{WasFull};
 
 use crate::committer::DeviceHalf;
@@ -30,8 +29,9 @@ impl<N: Naming> ConsumerHalf<N> {
         ensures failed { IsTrue result → IsBroken committer.new.device }
         ensures unbroken { IsFalse result → IsBroken committer.new.device → ⊥ }
         ensures done { IsFalse result → (self.new.load ≡ []) × WasFull 0 (view committer.new.consumer.pass) }
-        ensures later { NoMore (told_numbers committer.old.regions (books_of committer.old.device)) (told_numbers committer.new.regions (books_of committer.new.device)) }
-        ensures same { (committer.new.regions ≡ committer.old.regions) × (self.new.held ≡ self.old.held) × (view self.new.consumer.pass ≡ view self.old.consumer.pass) }
+        ensures later { TellsLater committer.old.regions committer.old.device committer.new.regions committer.new.device }
+        ensures same { (committer.new.regions ≡ committer.old.regions) × (self.new.held ≡ self.old.held)
+            × (view self.new.consumer.pass ≡ view self.old.consumer.pass) }
     {
         for _load in rt.forever() {
             self.push_load(rt, hand);
@@ -64,7 +64,7 @@ impl<N: Naming> ConsumerHalf<N> {
         ensures failed { IsTrue result → IsBroken committer.new.device }
         ensures unbroken { IsFalse result → IsBroken committer.new.device → ⊥ }
         ensures done { IsFalse result → upto ≤ get_or (books_of committer.new.device).synced region 0 }
-        ensures later { NoMore (told_numbers committer.old.regions (books_of committer.old.device)) (told_numbers committer.new.regions (books_of committer.new.device)) }
+        ensures later { TellsLater committer.old.regions committer.old.device committer.new.regions committer.new.device }
         ensures same { committer.new.regions ≡ committer.old.regions }
     {
         for _turn in rt.forever() {

@@ -2,9 +2,8 @@
 ghost use Rattle.std.specs.Prelude.{◌≡◌, ◌≤◌, ◌<◌, ◌↔◌, ℕ, true, [], get_or, Err, IfOk, OnOk, IsErrOf};
 ghost use Rattle.crossbeam_queue.specs.Passes.{view};
 ghost use Rattle.disk_images.specs.Calls.{Rose};
-ghost use Rattle.log_berth.specs.Words.{NoMore};
 ghost use Rattle.log_device.specs.Whole.{IsBroken, disk_of, books_of};
-ghost use Rattle.log_service.specs.Numbers.{told_numbers, seen_stored};
+ghost use Rattle.log_service.specs.Numbers.{TellsLater, seen_stored};
 ghost use Rattle.log_service.specs.Moves.{WasFull};
 ghost use Rattle.log_service.specs.Places.{IsSeatOf, IsLaterSeat};
 
@@ -29,10 +28,11 @@ impl<D: Disk, N: Naming> DeviceHalf<D, N> {
         requires unbroken { IsBroken self.old.device → ⊥ }
         requires region { (0 < region) × (region ≤ self.old.regions) }
         ensures flushed { IfOk result (λ n. (get_or (books_of self.old.device).synced region 0 ≤ n) × (get_or (books_of self.new.device).stored region 0 ≡ n)) }
-        ensures nothing { (n : ℕ) → result ≡ Err (DeviceFlush.Nothing n) → (get_or (books_of self.old.device).synced region 0 ≤ n) × (get_or (books_of self.new.device).stored region 0 ≡ n) }
+        ensures nothing { (n : ℕ) → result ≡ Err (DeviceFlush.Nothing n) → (get_or (books_of self.old.device).synced region 0 ≤ n)
+            × (get_or (books_of self.new.device).stored region 0 ≡ n) }
         ensures broken { IsErrOf result DeviceFlush.WriteFault ↔ IsBroken self.new.device }
         ensures fault { IsErrOf result DeviceFlush.WriteFault → Rose (D.faults (disk_of self.old.device)) (D.faults (disk_of self.new.device)) }
-        ensures later { NoMore (told_numbers self.old.regions (books_of self.old.device)) (told_numbers self.new.regions (books_of self.new.device)) }
+        ensures later { TellsLater self.old.regions self.old.device self.new.regions self.new.device }
         ensures same { (self.new.regions ≡ self.old.regions) × (view self.new.consumer.pass ≡ view self.old.consumer.pass) }
     {
         flush_archived(&mut self.device, alloc, region)
@@ -56,7 +56,7 @@ impl<N: Naming> ConsumerHalf<N> {
         ensures flushed { IfOk result (λ n. (upto ≤ n) × (get_or (books_of committer.new.device).stored region 0 ≡ n)) }
         ensures nothing { (n : ℕ) → result ≡ Err (DeviceFlush.Nothing n) → (upto ≤ n) × (get_or (books_of committer.new.device).stored region 0 ≡ n) }
         ensures broken { IsErrOf result DeviceFlush.WriteFault ↔ IsBroken committer.new.device }
-        ensures later { NoMore (told_numbers committer.old.regions (books_of committer.old.device)) (told_numbers committer.new.regions (books_of committer.new.device)) }
+        ensures later { TellsLater committer.old.regions committer.old.device committer.new.regions committer.new.device }
         // The loads in the ring were committed until it was empty at one moment, and the own load with them.
         ensures drained { OnOk result ((self.new.load ≡ []) × WasFull 0 (view committer.new.consumer.pass)) }
         ensures same { committer.new.regions ≡ committer.old.regions }

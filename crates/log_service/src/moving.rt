@@ -31,8 +31,10 @@ impl<N: Naming> ConsumerHalf<N> {
     fn refill<R: Wait>(&mut self, rt: &R, ring: &Ring<Item>) -> bool
         requires { ring.now.id ≡ N.ring }
         ensures there { IsTrue result → IsSome self.new.held }
-        ensures popped { IsTrue result → (more : List TheItem) × ((view self.new.consumer.pass).popped ≡ (view self.old.consumer.pass).popped ++ more) × (held_in self.new.held ≡ held_in self.old.held ++ more) }
-        ensures empty { IsFalse result → (self.old.held ≡ None) × (self.new.held ≡ None) × ((view self.new.consumer.pass) ≡ (view self.old.consumer.pass)) × WasEmpty (view self.old.consumer.pass) }
+        ensures popped { IsTrue result → (more : List TheItem)
+            × ((view self.new.consumer.pass).popped ≡ (view self.old.consumer.pass).popped ++ more) × (held_in self.new.held ≡ held_in self.old.held ++ more) }
+        ensures empty { IsFalse result → (self.old.held ≡ None) × (self.new.held ≡ None)
+            × ((view self.new.consumer.pass) ≡ (view self.old.consumer.pass)) × WasEmpty (view self.old.consumer.pass) }
         ensures same { (self.new.load ≡ self.old.load) × (self.new.asked ≡ self.old.asked) × (view self.new.hand.pass ≡ view self.old.hand.pass) }
     {
         if self.held.is_some() {
@@ -48,8 +50,10 @@ impl<N: Naming> ConsumerHalf<N> {
     /// Moves the held item, unless it doesn't fit.
     fn put(&mut self) -> bool
         requires { IsSome self.old.held }
-        ensures moved { IsTrue result → (x : TheItem) × (self.old.held ≡ Some x) × (self.new.held ≡ None) × (self.new.load ≡ self.old.load ++ appended (x ∷ [])) × (self.new.asked ≡ (self.old.asked || is_sync x)) }
-        ensures full { IsFalse result → (self.new.held ≡ self.old.held) × (self.new.load ≡ self.old.load) × (self.new.asked ≡ self.old.asked) × IsTooLong (bench_of self.new) }
+        ensures moved { IsTrue result → (x : TheItem) × (self.old.held ≡ Some x) × (self.new.held ≡ None)
+            × (self.new.load ≡ self.old.load ++ appended (x ∷ [])) × (self.new.asked ≡ (self.old.asked || is_sync x)) }
+        ensures full { IsFalse result → (self.new.held ≡ self.old.held) × (self.new.load ≡ self.old.load)
+            × (self.new.asked ≡ self.old.asked) × IsTooLong (bench_of self.new) }
         ensures same { ((view self.new.consumer.pass) ≡ (view self.old.consumer.pass)) × (view self.new.hand.pass ≡ view self.old.hand.pass) }
     {
         let Some(item) = self.held.take() else {
@@ -78,7 +82,8 @@ impl<N: Naming> ConsumerHalf<N> {
     /// Moves up to 64 items: first the held one, then popped ones. An append goes into the load, and a sync request is noted.
     pub(crate) fn move_items<R: Wait>(&mut self, rt: &R, ring: &Ring<Item>) -> Moves
         requires { ring.now.id ≡ N.ring }
-        ensures moved { (n : ℕ) → result ≡ Moves.Moved n → (1 ≤ n) × (n ≤ 64) × ((xs : List TheItem) × (length xs ≡ n) × HasMoved (bench_of self.old) (bench_of self.new) xs) }
+        ensures moved { (n : ℕ) → result ≡ Moves.Moved n → (1 ≤ n) × (n ≤ 64)
+            × ((xs : List TheItem) × (length xs ≡ n) × HasMoved (bench_of self.old) (bench_of self.new) xs) }
         ensures empty { result ≡ Moves.Empty → HasMoved (bench_of self.old) (bench_of self.new) [] × WasEmpty (view self.new.consumer.pass) }
         ensures full { result ≡ Moves.StageFull → HasMoved (bench_of self.old) (bench_of self.new) [] × IsTooLong (bench_of self.new) }
     {

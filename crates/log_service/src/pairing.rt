@@ -28,9 +28,11 @@ impl<D: Disk, N: Naming> LogService<D, N> {
     ) -> (Turn<ConsumerHalf<N>>, Turn<DeviceHalf<D, N>>)
         requires seat { IsSeatOf self.now seat.old }
         ensures berths { (seat.new.consumer.berth ≡ self.now.consumer) × (seat.new.device.berth ≡ self.now.device) }
-        ensures turns { (seat.new.consumer.knows.turn ≡ true) × (seat.new.device.knows.turn ≡ true) × (turn_id result.0 ≡ self.now.consumer) × (turn_id result.1 ≡ self.now.device) }
+        ensures turns { (seat.new.consumer.knows.turn ≡ true) × (seat.new.device.knows.turn ≡ true)
+            × (turn_id result.0 ≡ self.now.consumer) × (turn_id result.1 ≡ self.now.device) }
         ensures consumer { (seat.new.consumer.knows.broken ≡ false) × NoMore seat.new.consumer.knows.seen [] }
-        ensures device { (broken_of result.1.ware.device ≡ seat.new.device.knows.broken) × NoMore seat.new.device.knows.seen (told_numbers result.1.ware.regions (books_of result.1.ware.device)) }
+        ensures device { (broken_of result.1.ware.device ≡ seat.new.device.knows.broken)
+            × NoMore seat.new.device.knows.seen (told_numbers result.1.ware.regions (books_of result.1.ware.device)) }
         ensures later { IsLaterSeat seat.old seat.new }
     {
         for _try in rt.forever() {
@@ -57,14 +59,16 @@ impl<D: Disk, N: Naming> LogService<D, N> {
         turn: Turn<DeviceHalf<D, N>>,
     )
         requires berths { (seat.old.consumer.berth ≡ self.now.consumer) × (seat.old.device.berth ≡ self.now.device) }
-        requires turns { (seat.old.consumer.knows.turn ≡ true) × (seat.old.device.knows.turn ≡ true) × (turn_id mover ≡ self.now.consumer) × (turn_id turn ≡ self.now.device) }
+        requires turns { (seat.old.consumer.knows.turn ≡ true) × (seat.old.device.knows.turn ≡ true)
+            × (turn_id mover ≡ self.now.consumer) × (turn_id turn ≡ self.now.device) }
         requires consumer { (seat.old.consumer.knows.broken ≡ false) × NoMore seat.old.consumer.knows.seen [] }
         requires whole { seat.old.device.knows.broken ≡ false }
         requires device { NoMore seat.old.device.knows.seen (told_numbers turn.ware.regions (books_of turn.ware.device)) }
         ensures seat { IsSeatOf self.now seat.new }
         ensures later { IsLaterSeat seat.old seat.new }
         ensures broken { broken_of turn.ware.device ≡ seat.new.device.knows.broken }
-        ensures raised { seat.new.device.knows.broken ≡ false → (i : ℕ) → i < 3 * self.now.regions → slice_index seat.new.device.knows.seen i ≡ slice_index (told_numbers turn.ware.regions (books_of turn.ware.device)) i }
+        ensures raised { seat.new.device.knows.broken ≡ false → (i : ℕ) → i < 3 * self.now.regions
+            → slice_index seat.new.device.knows.seen i ≡ slice_index (told_numbers turn.ware.regions (books_of turn.ware.device)) i }
     {
         tell_all(&self.device, &mut seat.device, &turn, 3 * self.regions);
         self.device.give(&mut seat.device, turn);

@@ -12,7 +12,8 @@ pub(crate) fn raise_all<W: Ware>(berth: &Berth<W>, seat: &mut BerthSeat, turn: &
     requires turn { (seat.old.knows.turn ≡ true) × (turn_id turn.now ≡ berth.now.id) }
     requires whole { seat.old.knows.broken ≡ false }
     requires below { NoMore seat.old.knows.seen (W.numbers turn.now.ware) }
-    ensures seat { (seat.new.berth ≡ seat.old.berth) × (seat.new.knows.turn ≡ true) × (seat.new.knows.broken ≡ false) × (seat.new.knows.tally ≡ seat.old.knows.tally) }
+    ensures seat { (seat.new.berth ≡ seat.old.berth) × (seat.new.knows.turn ≡ true) × (seat.new.knows.broken ≡ false)
+        × (seat.new.knows.tally ≡ seat.old.knows.tally) }
     ensures later { NoMore seat.old.knows.seen seat.new.knows.seen }
     ensures below { NoMore seat.new.knows.seen (W.numbers turn.now.ware) }
     ensures all { (i : ℕ) → i < words → slice_index seat.new.knows.seen i ≡ slice_index (W.numbers turn.now.ware) i }

@@ -2,9 +2,8 @@
 ghost use Rattle.std.specs.Prelude.{◌≡◌, ◌≤◌, ◌<◌, ◌↔◌, ℕ, true, [], Err, IfOk, OnOk, IsErrOf};
 ghost use Rattle.crossbeam_queue.specs.Passes.{view};
 ghost use Rattle.disk_images.specs.Calls.{Rose};
-ghost use Rattle.log_berth.specs.Words.{NoMore};
 ghost use Rattle.log_device.specs.Whole.{IsBroken, disk_of, books_of};
-ghost use Rattle.log_service.specs.Numbers.{told_numbers, seen_synced, seen_closed};
+ghost use Rattle.log_service.specs.Numbers.{TellsLater, seen_synced, seen_closed};
 ghost use Rattle.log_service.specs.Moves.{WasFull};
 ghost use Rattle.log_service.specs.Places.{IsSeatOf, IsLaterSeat};
 
@@ -30,7 +29,7 @@ impl<D: Disk, N: Naming> DeviceHalf<D, N> {
         ensures nothing { (n : ℕ) → result ≡ Err (RollRefusal.NothingToRoll n) → (books_of self.new.device).closed ≡ (books_of self.new.device).synced }
         ensures broken { IsErrOf result RollRefusal.WriteFault ↔ IsBroken self.new.device }
         ensures fault { IsErrOf result RollRefusal.WriteFault → Rose (D.faults (disk_of self.old.device)) (D.faults (disk_of self.new.device)) }
-        ensures later { NoMore (told_numbers self.old.regions (books_of self.old.device)) (told_numbers self.new.regions (books_of self.new.device)) }
+        ensures later { TellsLater self.old.regions self.old.device self.new.regions self.new.device }
         ensures same { (self.new.regions ≡ self.old.regions) × (view self.new.consumer.pass ≡ view self.old.consumer.pass) }
     {
         roll_archived(&mut self.device, alloc)
@@ -49,9 +48,10 @@ impl<N: Naming> ConsumerHalf<N> {
         requires hand { hand.now.id ≡ N.hand }
         requires unbroken { IsBroken committer.old.device → ⊥ }
         ensures closed { OnOk result ((books_of committer.new.device).closed ≡ (books_of committer.new.device).synced) }
-        ensures nothing { (n : ℕ) → result ≡ Err (RollRefusal.NothingToRoll n) → (books_of committer.new.device).closed ≡ (books_of committer.new.device).synced }
+        ensures nothing { (n : ℕ) → result ≡ Err (RollRefusal.NothingToRoll n)
+            → (books_of committer.new.device).closed ≡ (books_of committer.new.device).synced }
         ensures broken { IsErrOf result RollRefusal.WriteFault ↔ IsBroken committer.new.device }
-        ensures later { NoMore (told_numbers committer.old.regions (books_of committer.old.device)) (told_numbers committer.new.regions (books_of committer.new.device)) }
+        ensures later { TellsLater committer.old.regions committer.old.device committer.new.regions committer.new.device }
         // The loads in the ring were committed until it was empty at one moment, and the own load with them.
         ensures drained { OnOk result ((self.new.load ≡ []) × WasFull 0 (view committer.new.consumer.pass)) }
         ensures same { committer.new.regions ≡ committer.old.regions }
@@ -80,8 +80,10 @@ impl<D: Disk, N: Naming> LogService<D, N> {
         requires seat { IsSeatOf self.now seat.old }
         ensures seat { IsSeatOf self.now seat.new }
         ensures later { IsLaterSeat seat.old seat.new }
-        ensures closed { IfOk result (λ _. (r : ℕ) → 0 < r → r ≤ self.now.regions → seen_synced seat.old.device.knows r ≤ seen_closed self.now.regions seat.new.device.knows r) }
-        ensures nothing { (n : ℕ) → result ≡ Err (RollRefusal.NothingToRoll n) → (r : ℕ) → 0 < r → r ≤ self.now.regions → seen_synced seat.old.device.knows r ≤ seen_closed self.now.regions seat.new.device.knows r }
+        ensures closed { IfOk result (λ _. (r : ℕ) → 0 < r → r ≤ self.now.regions
+            → seen_synced seat.old.device.knows r ≤ seen_closed self.now.regions seat.new.device.knows r) }
+        ensures nothing { (n : ℕ) → result ≡ Err (RollRefusal.NothingToRoll n) → (r : ℕ) → 0 < r → r ≤ self.now.regions
+            → seen_synced seat.old.device.knows r ≤ seen_closed self.now.regions seat.new.device.knows r }
         ensures fault { IsErrOf result RollRefusal.WriteFault ↔ (seat.new.device.knows.broken ≡ true) }
     {
         let (mut mover, mut turn) = self.take_both(rt, seat);

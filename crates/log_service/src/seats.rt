@@ -1,5 +1,6 @@
 //! The seats of a service.
-ghost use Rattle.std.specs.Prelude.{◌≡◌, ◌∷◌, ◌++◌, ◌<◌, [], length, MatchOption};
+ghost use Rattle.std.specs.Prelude.{◌≡◌, ◌<◌, [], length, MatchOption};
+ghost use Rattle.log_service.specs.Bundles.{IsBehind, IsHandedOut};
 
 use log_berth::{LogSeat as BerthSeat, LogSeats as BerthSeats};
 
@@ -21,7 +22,8 @@ pub struct LogSeats {
 impl LogSeats {
     /// A seat, or None exactly after the last. It takes no memory.
     pub fn next(&mut self) -> Option<LogSeat>
-        ensures { MatchOption result ((self.old.devices.seats ≡ []) × (self.new ≡ self.old)) (λ seat. (self.old.consumers.seats ≡ self.new.consumers.seats ++ seat.consumer ∷ []) × (self.old.devices.seats ≡ self.new.devices.seats ++ seat.device ∷ []) × (self.new.consumers.room ≡ self.old.consumers.room) × (self.new.devices.room ≡ self.old.devices.room)) }
+        ensures { MatchOption result ((self.old.devices.seats ≡ []) × (self.new ≡ self.old))
+            (λ seat. IsHandedOut self.old.consumers self.new.consumers self.old.devices self.new.devices seat) }
     {
         let consumer = self.consumers.next();
         let device = self.devices.next();
@@ -34,7 +36,7 @@ impl LogSeats {
     /// Takes a seat back. It takes no memory.
     pub fn put_back(&mut self, seat: LogSeat)
         requires room { (length self.old.consumers.seats < self.old.consumers.room) × (length self.old.devices.seats < self.old.devices.room) }
-        ensures back { (self.new.consumers.seats ≡ self.old.consumers.seats ++ seat.consumer ∷ []) × (self.new.devices.seats ≡ self.old.devices.seats ++ seat.device ∷ []) }
+        ensures back { IsBehind self.old.consumers self.new.consumers self.old.devices self.new.devices seat }
         ensures rooms { (self.new.consumers.room ≡ self.old.consumers.room) × (self.new.devices.room ≡ self.old.devices.room) }
     {
         let LogSeat { consumer, device } = seat;

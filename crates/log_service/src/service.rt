@@ -4,14 +4,14 @@ ghost use Rattle.crossbeam_queue.specs.Passes.{view};
 ghost use Rattle.append_ring.specs.Rules.{Follows, HasPushed};
 ghost use Rattle.append_ring.specs.Parts.{last_pushed};
 ghost use Rattle.log_service.specs.Items.{region_of, number_of, IsWholeItem};
-ghost use Rattle.log_service.specs.Moves.{HadItems};
+ghost use Rattle.log_service.specs.Moves.{IsGivenBack};
 
 use crate::committer::DeviceHalf;
 use crate::consumer::ConsumerHalf;
 use crate::item::Item;
 use crate::load::Load;
 use crate::name::Naming;
-use append_ring::{Full, Ring, RingPass, RingPasses};
+use append_ring::{Full, Ring, RingPass};
 use disk_images::Disk;
 use log_berth::Berth;
 use std::marker::Model;
@@ -21,8 +21,6 @@ use std::sync::Wait;
 pub struct LogService<D: Disk, N: Naming> {
     pub(crate) ring: Ring<Item>,
     pub(crate) hand: Ring<Load>,
-    // The passes of the ring of loads that are never used: all loads are of region 1.
-    pub(crate) idle: RingPasses<Load>,
     pub(crate) consumer: Berth<ConsumerHalf<N>>,
     pub(crate) device: Berth<DeviceHalf<D, N>>,
     pub(crate) regions: u32,
@@ -30,14 +28,22 @@ pub struct LogService<D: Disk, N: Naming> {
 
 impl<D: Disk, N: Naming> Model for LogService<D, N> {
     ghost use Rattle.std.specs.Prelude.{◌≡◌, ◌*◌, ◌≤◌, length};
-    ghost use Rattle.append_ring.specs.Parts.{AreNewAfter};
     ghost use Rattle.log_service.specs.Places.{Place};
 
     ghost Value = { Place };
 
-    ghost view = { λ s. record { ring = s.ring.id; hand = s.hand.id; consumer = s.consumer.id; device = s.device.id; regions = s.regions; seats = s.device.seats } };
+    ghost view = { λ s. record {
+      ring = s.ring.id;
+      hand = s.hand.id;
+      consumer = s.consumer.id;
+      device = s.device.id;
+      regions = s.regions;
+      seats = s.device.seats;
+    } };
 
-    ghost invariant = { λ s. (s.ring.id ≡ N.ring) × (s.hand.id ≡ N.hand) × (s.ring.capacity ≡ 1024) × (s.hand.capacity ≡ 2) × (s.consumer.regions ≡ 1) × (s.device.regions ≡ 3 * s.regions) × (s.regions ≡ length N.lasts) × (s.regions ≤ 64) × (s.consumer.seats ≡ s.device.seats) × (AreNewAfter N.hand N.lasts 0 1 s.idle × (length s.idle ≡ length N.lasts)) };
+    ghost invariant = { λ s. (s.ring.id ≡ N.ring) × (s.hand.id ≡ N.hand) × (s.ring.capacity ≡ 1024) × (s.hand.capacity ≡ 2)
+        × (s.consumer.regions ≡ 1) × (s.device.regions ≡ 3 * s.regions) × (s.regions ≡ length N.lasts) × (s.regions ≤ 64)
+        × (s.consumer.seats ≡ s.device.seats) };
 }
 
 impl<D: Disk, N: Naming> LogService<D, N> {
@@ -54,7 +60,8 @@ impl<D: Disk, N: Naming> LogService<D, N> {
         requires whole { IsWholeItem item }
         requires follows { Follows number_of (last_pushed number_of pass.old) item }
         ensures same { (pass.new.pass.table_id ≡ pass.old.pass.table_id) × (pass.new.region ≡ pass.old.region) }
-        ensures pushed { MatchResult result (λ _. HasPushed (view pass.old.pass) item (view pass.new.pass)) (λ full. (full.item ≡ item) × (view pass.new.pass ≡ view pass.old.pass) × HadItems 1024 (view pass.old.pass)) }
+        ensures pushed { MatchResult result (λ _. HasPushed (view pass.old.pass) item (view pass.new.pass))
+            (λ full. IsGivenBack pass.old pass.new item full.item) }
     {
         self.ring.push(rt, pass, item)
     }

@@ -2,9 +2,8 @@
 ghost use Rattle.std.specs.Prelude.{◌≡◌, length, IsTrue};
 ghost use Rattle.crossbeam_queue.specs.Passes.{view};
 ghost use Rattle.append_ring.specs.Parts.{EachThere, IsDrained};
-ghost use Rattle.log_berth.specs.Words.{NoMore};
-ghost use Rattle.log_device.specs.Whole.{IsBroken, books_of};
-ghost use Rattle.log_service.specs.Numbers.{told_numbers};
+ghost use Rattle.log_device.specs.Whole.{IsBroken};
+ghost use Rattle.log_service.specs.Numbers.{TellsLater};
 ghost use Rattle.log_service.specs.Moves.{bench_of, IsAllMoved};
 
 use crate::committer::DeviceHalf;
@@ -55,7 +54,7 @@ impl<D: Disk, N: Naming> DeviceHalf<D, N> {
     /// Pops a load, and commits it unless the device is broken.
     fn settle_one<R: Wait>(&mut self, rt: &R, hand: &Ring<Load>)
         requires hand { hand.now.id ≡ N.hand }
-        ensures later { NoMore (told_numbers self.old.regions (books_of self.old.device)) (told_numbers self.new.regions (books_of self.new.device)) }
+        ensures later { TellsLater self.old.regions self.old.device self.new.regions self.new.device }
         ensures broken { IsBroken self.old.device → IsBroken self.new.device }
         ensures same { self.new.regions ≡ self.old.regions }
     {
@@ -80,7 +79,7 @@ pub(crate) fn settle_items<D: Disk, N: Naming, R: Wait>(
     requires there { EachThere (λ p. p.pass.table_id ≡ ring.now.id) passes.now }
     requires all { length passes.now ≡ length N.lasts }
     ensures moved { IsAllMoved (bench_of mover.new) passes.now }
-    ensures later { NoMore (told_numbers committer.old.regions (books_of committer.old.device)) (told_numbers committer.new.regions (books_of committer.new.device)) }
+    ensures later { TellsLater committer.old.regions committer.old.device committer.new.regions committer.new.device }
     ensures broken { IsBroken committer.old.device → IsBroken committer.new.device }
     ensures same { committer.new.regions ≡ committer.old.regions }
 {
@@ -106,7 +105,7 @@ pub(crate) fn settle_loads<D: Disk, N: Naming, R: Wait>(
     requires there { EachThere (λ p. p.pass.table_id ≡ hand.now.id) passes.now }
     requires all { length passes.now ≡ length N.lasts }
     ensures drained { EachThere (IsDrained (λ _. 1) (view committer.new.consumer.pass).popped) passes.now }
-    ensures later { NoMore (told_numbers committer.old.regions (books_of committer.old.device)) (told_numbers committer.new.regions (books_of committer.new.device)) }
+    ensures later { TellsLater committer.old.regions committer.old.device committer.new.regions committer.new.device }
     ensures broken { IsBroken committer.old.device → IsBroken committer.new.device }
     ensures same { committer.new.regions ≡ committer.old.regions }
 {

@@ -1,7 +1,7 @@
 //! How a service is started: first its rings, without a name, and then the service, over a name that names them.
 ghost use Rattle.std.specs.Prelude.{◌≡◌, ◌<◌, ◌≤◌, ◌*◌, ℕ, [], length, replicate, IsTrue, IfOk, IfErr};
 ghost use Rattle.crossbeam_queue.specs.Passes.{view};
-ghost use Rattle.append_ring.specs.Parts.{IsNew};
+ghost use Rattle.append_ring.specs.Parts.{IsNew, AreNewAfter};
 ghost use Rattle.log_berth.specs.Words.{starts};
 ghost use Rattle.log_berth.specs.Standing.{fresh};
 ghost use Rattle.log_ledger.specs.History.{History};
@@ -51,8 +51,10 @@ impl Rings {
     /// its first drawn one.
     pub fn new(alloc: Global, lasts: &[u64]) -> Result<Rings, NoMemory>
         requires { (0 < length lasts.now) × (length lasts.now ≤ 64) }
-        ensures items { IfOk result (λ r. (r.items.ring.capacity ≡ 1024) × AreNewParts r.items.ring.id lasts.now r.items.consumer.pass.table_id (view r.items.consumer.pass) r.items.passes) }
-        ensures loads { IfOk result (λ r. (r.loads.ring.capacity ≡ 2) × AreNewParts r.loads.ring.id lasts.now r.loads.consumer.pass.table_id (view r.loads.consumer.pass) r.loads.passes) }
+        ensures items { IfOk result (λ r. (r.items.ring.capacity ≡ 1024)
+            × AreNewParts r.items.ring.id lasts.now r.items.consumer.pass.table_id (view r.items.consumer.pass) r.items.passes) }
+        ensures loads { IfOk result (λ r. (r.loads.ring.capacity ≡ 2)
+            × AreNewParts r.loads.ring.id lasts.now r.loads.consumer.pass.table_id (view r.loads.consumer.pass) r.loads.passes) }
     {
         let items = Ring::new(alloc, lasts)?;
         let loads = Ring::of_capacity(alloc, lasts, LOADS)?;
@@ -61,16 +63,22 @@ impl Rings {
 }
 
 /// The consumer's half at the start.
-fn first_half<N: Naming>(consumer: ConsumerPass<Item>, hand: RingPass<Load>) -> ConsumerHalf<N>
+fn first_half<N: Naming>(
+    consumer: ConsumerPass<Item>,
+    hand: RingPass<Load>,
+    idle: RingPasses<Load>,
+) -> ConsumerHalf<N>
     requires ring { consumer.pass.table_id ≡ N.ring }
     requires consumer { ((view consumer.pass).lasts ≡ N.lasts) × ((view consumer.pass).popped ≡ []) }
     requires hand { IsNew N.hand N.lasts 1 hand }
+    requires idle { AreNewAfter N.hand N.lasts 0 1 idle × (length idle ≡ length N.lasts) }
 {
     ConsumerHalf {
         consumer,
         load: Load::new(),
         held: None,
         hand,
+        idle,
         asked: false,
         of: PhantomData,
     }
@@ -111,8 +119,10 @@ impl<D: Disk, N: Naming> LogService<D, N> {
     ) -> Result<ServiceParts<D, N>, ServiceRefusal<D>>
         requires seats { 0 < seats }
         requires regions { (regions ≡ length N.lasts) × (0 < regions) × (regions ≤ 64) }
-        requires items { (rings.items.ring.capacity ≡ 1024) × AreParts N.ring N.lasts rings.items.ring.id rings.items.consumer.pass.table_id (view rings.items.consumer.pass) rings.items.passes }
-        requires loads { (rings.loads.ring.capacity ≡ 2) × AreParts N.hand N.lasts rings.loads.ring.id rings.loads.consumer.pass.table_id (view rings.loads.consumer.pass) rings.loads.passes }
+        requires items { (rings.items.ring.capacity ≡ 1024)
+            × AreParts N.ring N.lasts rings.items.ring.id rings.items.consumer.pass.table_id (view rings.items.consumer.pass) rings.items.passes }
+        requires loads { (rings.loads.ring.capacity ≡ 2)
+            × AreParts N.hand N.lasts rings.loads.ring.id rings.loads.consumer.pass.table_id (view rings.loads.consumer.pass) rings.loads.passes }
         requires device { IsFresh N.lasts device }
         requires whole { IsTrue D.told → ∥ ((h : History) × BeginsAs N.base N.lasts device (D.view (disk_of device)) h) ∥₁ }
         requires start { IsTrue D.told → N.start ≡ (D.view (disk_of device)).clock }
@@ -120,8 +130,11 @@ impl<D: Disk, N: Naming> LogService<D, N> {
 
         ensures service { IfOk result (λ p. (p.service.ring ≡ N.ring) × (p.service.regions ≡ regions) × (p.service.seats ≡ seats)) }
         ensures passes { IfOk result (λ p. p.passes ≡ rings.items.passes) }
-        ensures consumers { IfOk result (λ p. (p.seats.consumers.seats ≡ replicate seats (fresh p.service.consumer (starts 1 []))) × (seats ≤ p.seats.consumers.room)) }
-        ensures devices { IfOk result (λ p. (p.seats.devices.seats ≡ replicate seats (fresh p.service.device (starts (3 * regions) (told_numbers regions (books_of device))))) × (seats ≤ p.seats.devices.room)) }
+        ensures consumers { IfOk result (λ p. (p.seats.consumers.seats ≡ replicate seats (fresh p.service.consumer (starts 1 [])))
+            × (seats ≤ p.seats.consumers.room)) }
+        ensures devices { IfOk result (λ p. (p.seats.devices.seats
+            ≡ replicate seats (fresh p.service.device (starts (3 * regions) (told_numbers regions (books_of device)))))
+            × (seats ≤ p.seats.devices.room)) }
         ensures refused { IfErr result (λ r. r.device ≡ device) }
     {
         let Rings { items, loads } = rings;
@@ -129,7 +142,7 @@ impl<D: Disk, N: Naming> LogService<D, N> {
         let Some(hand) = idle.next() else {
             unreachable!()
         };
-        let mover = first_half(items.consumer, hand);
+        let mover = first_half(items.consumer, hand, idle);
         let Ok(
             BerthParts {
                 berth: consumer,
@@ -150,7 +163,6 @@ impl<D: Disk, N: Naming> LogService<D, N> {
                 service: LogService {
                     ring: items.ring,
                     hand: loads.ring,
-                    idle,
                     consumer,
                     device: berth,
                     regions,

@@ -79,12 +79,16 @@ impl<D: Disk, N: Naming> LogService<D, N> {
 
         ensures seat { IsSeatOf self.now seat.new }
         ensures later { IsLaterSeat seat.old seat.new }
-        ensures busy { result ≡ SyncTurn.Busy → FoundTaken seat.old.consumer.knows seat.new.consumer.knows ⊎ FoundTaken seat.old.device.knows seat.new.device.knows }
-        ensures clean { result ≡ SyncTurn.Clean → HadTurn seat.old.consumer.knows seat.new.consumer.knows × HadTurn seat.old.device.knows seat.new.device.knows }
-        ensures synced { (n : ℕ) → result ≡ SyncTurn.Synced n → HadTurn seat.old.consumer.knows seat.new.consumer.knows × HadTurn seat.old.device.knows seat.new.device.knows }
+        ensures busy { result ≡ SyncTurn.Busy → FoundTaken seat.old.consumer.knows seat.new.consumer.knows
+            ⊎ FoundTaken seat.old.device.knows seat.new.device.knows }
+        ensures clean { result ≡ SyncTurn.Clean → HadTurn seat.old.consumer.knows seat.new.consumer.knows
+            × HadTurn seat.old.device.knows seat.new.device.knows }
+        ensures synced { (n : ℕ) → result ≡ SyncTurn.Synced n → HadTurn seat.old.consumer.knows seat.new.consumer.knows
+            × HadTurn seat.old.device.knows seat.new.device.knows }
         ensures fault { result ≡ SyncTurn.WriteFault → seat.new.device.knows.broken ≡ true }
         ensures broken { result ≡ SyncTurn.Broken → seat.new.device.knows.broken ≡ true }
-        ensures whole { ((n : ℕ) → result ≡ SyncTurn.Synced n → seat.new.device.knows.broken ≡ false) × (result ≡ SyncTurn.Clean → seat.new.device.knows.broken ≡ false) }
+        ensures whole { ((n : ℕ) → result ≡ SyncTurn.Synced n → seat.new.device.knows.broken ≡ false)
+            × (result ≡ SyncTurn.Clean → seat.new.device.knows.broken ≡ false) }
     {
         let Ok(mut turn) = self.consumer.take(&mut seat.consumer) else {
             return SyncTurn::Busy;

@@ -1,15 +1,21 @@
 -- What a flush's steps come to.
-use Rattle.std.proofs.Common.{◌≡◌, ◌≢◌, ℕ, ◌+◌, ◌<◌, ◌≤◌, Bool, true, List, Contains, Option, Some, None, refl, sym, ap, ◌∙◌, subst, arith}
+use Rattle.std.proofs.Common.{◌≡◌, ◌≢◌, ℕ, ◌+◌, ◌<◌, ◌≤◌, Bool, true, List, Contains, Option, Some, None, Result, Ok, Err, refl, sym, ap, ◌∙◌, subst, arith}
 use mathlib.Core.List.{IsPrefix}
 use Rattle.region_model.specs.Journal.{Base, Caller, Edit, last_of}
-use Rattle.region_model.specs.Calls.{Answer, FlushBusy, FlushFault}
+use Rattle.region_model.specs.Calls.{Answer, FlushNothing, FlushBusy, FlushFault, FlushMemory}
+use Rattle.log_device.specs.declared.error.DeviceFlush.{DeviceFlush}
+use Rattle.log_device.specs.declared.error.DeviceFlush.TheVariants as device
+use Rattle.region_lock.specs.Answers.{refused_flush}
 use Rattle.region_model.specs.Lawful.{flushed_of}
 use Rattle.region_model.specs.Lines.{Line, edits_in, last_in}
 use Rattle.log_service.specs.declared.seats.LogSeat.{LogSeat}
 use Rattle.log_service.specs.Numbers.{seen_stored}
 use Rattle.log_service.specs.Places.{IsLaterSeat}
 use Rattle.region_lock.specs.Calls.{FlushesAt}
-use Rattle.region_lock.specs.Parts.{AreBelow}
+use Rattle.hand_register.specs.declared.known.Record.{Record}
+use Rattle.region_state.specs.States.{write_point}
+use Rattle.region_lock.specs.Marks.{IsLooked, IsLookedAt}
+use Rattle.region_lock.specs.Parts.{Part, AreBelow}
 use Rattle.region_lock.proofs.Knowns.{at_region, later_at, quiet_at, last_same, below_edits}
 
 -- a flush that found no other one under way
@@ -28,6 +34,19 @@ flush_at n base flushes caller answer r r' own own' shown shown' told told' seat
   stays = λ b. (words.fault b).0;
 }
 
+-- a flush that the log refused
+pub refused_at : (n : ℕ) (base : Base) (flushes : List Caller) (caller : Caller) (refusal : DeviceFlush) (r r' : ℕ) (own own' shown shown' : List Line) (told told' : List ℕ) (seat seat' : LogSeat) (upto : ℕ)
+    → r' ≡ r → own' ≡ own → told' ≡ told → IsPrefix shown shown' → IsLaterSeat seat seat' → last_in base shown ≤ upto → AreBelow (upto + 1) own
+    → ((m : ℕ) → refusal ≡ DeviceFlush.Nothing m → (upto ≤ m) × (m ≤ seen_stored n seat'.device.knows r)) → (refusal ≡ DeviceFlush.WriteFault → seat'.device.knows.broken ≡ true)
+    → FlushesAt base flushes caller (refused_flush refusal) (at_region n r own shown told seat) (at_region n r' own' shown' told' seat') seat.device.knows.broken seat'.device.knows.broken
+refused_at n base flushes caller device.Memory r r' own own' shown shown' told told' seat seat' upto same mine spent later words above below number fault =
+    flush_at n base flushes caller FlushMemory r r' own own' shown shown' told told' seat seat' upto same mine spent later words above below (λ m some. absurd (cc some)) (λ h c is. absurd (cc is)) (λ is. absurd (cc is))
+refused_at n base flushes caller device.WriteFault r r' own own' shown shown' told told' seat seat' upto same mine spent later words above below number fault =
+    flush_at n base flushes caller FlushFault r r' own own' shown shown' told told' seat seat' upto same mine spent later words above below (λ m some. absurd (cc some)) (λ h c is. absurd (cc is)) (λ is. fault refl)
+refused_at n base flushes caller (device.Nothing k) r r' own own' shown shown' told told' seat seat' upto same mine spent later words above below number fault =
+    flush_at n base flushes caller (FlushNothing k) r r' own own' shown shown' told told' seat seat' upto same mine spent later words above below
+    (λ m some. subst (λ (j : ℕ). (upto ≤ j) × (j ≤ seen_stored n seat'.device.knows r)) (cc some) (number k refl)) (λ h c is. absurd (cc is)) (λ is. absurd (cc is))
+
 -- a flush that found another one under way
 pub busy_at : (n : ℕ) (base : Base) (flushes : List Caller) (caller by : Caller) (r r' : ℕ) (own own' shown shown' : List Line) (told told' : List ℕ) (seat seat' : LogSeat)
     → r' ≡ r → own' ≡ own → told' ≡ told → IsPrefix shown shown' → IsLaterSeat seat seat' → by.handler ≢ caller.handler → Contains flushes by
@@ -43,3 +62,9 @@ busy_at n base flushes caller by r r' own own' shown shown' told told' seat seat
   fault = λ is. absurd (cc is);
   stays = λ b. (words.fault b).0;
 }
+
+-- what a look under the lock answers, of a pass that had seen no more than the write point
+pub look_at : (seen : ℕ) (flushes : List Caller) (by : Caller) (old new : Part) (mine mine' : Record Line) (result : Result ℕ Caller) → IsLooked flushes by old mine result new mine' → seen ≤ write_point old.state
+    → IsLookedAt seen flushes by mine result mine'
+look_at seen flushes by old new mine mine' (Ok n) looked within = let point : n ≡ write_point old.state = looked.0 in (omega (arith, point, within), looked.3, looked.4)
+look_at seen flushes by old new mine mine' (Err c) looked within = (looked.2, looked.3, looked.4)

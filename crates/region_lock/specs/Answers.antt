@@ -6,6 +6,8 @@ use Rattle.region_model.specs.Calls.{Answer, PutOk, PutMemory, PutFault, PutSpen
 use Rattle.kv_cell.specs.declared.batch.Durability.{Durability}
 use Rattle.kv_cell.specs.declared.batch.Durability.TheVariants as durability
 use Rattle.kv_cell.specs.declared.error.NoMemory.{NoMemory}
+use Rattle.log_device.specs.declared.error.DeviceFlush.{DeviceFlush}
+use Rattle.log_device.specs.declared.error.DeviceFlush.TheVariants as device
 use Rattle.log_device.specs.declared.error.Rolled.{Rolled}
 use Rattle.log_device.specs.declared.error.RollRefusal.{RollRefusal}
 use Rattle.log_device.specs.declared.error.RollRefusal.TheVariants as roll
@@ -35,6 +37,12 @@ flush_answer (Err flush.Memory) = FlushMemory
 flush_answer (Err flush.WriteFault) = FlushFault
 flush_answer (Err (flush.Nothing n)) = FlushNothing n
 flush_answer (Err (flush.Flushing by)) = FlushBusy by.handler by.call
+
+-- a flush that the log refused
+abbrev pub refused_flush : DeviceFlush → Answer
+refused_flush device.Memory = FlushMemory
+refused_flush device.WriteFault = FlushFault
+refused_flush (device.Nothing n) = FlushNothing n
 
 abbrev pub roll_answer : Result Rolled RollRefusal → Answer
 roll_answer (Ok rolled) = RollOk rolled.closed rolled.entries

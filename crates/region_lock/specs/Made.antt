@@ -1,5 +1,5 @@
 -- What a region is made of.
-use Rattle.std.specs.Prelude.{◌≡◌, ℕ, zero, suc, ◌+◌, List, [], ◌∷◌}
+use Rattle.std.specs.Prelude.{◌≡◌, ℕ, ◌+◌, List, [], ◌∷◌}
 use Rattle.atomic_table.specs.Seated.{TableId}
 use Rattle.logbook.specs.Pages.{Book}
 use Rattle.hand_register.specs.Desks.{AreParts, record_of}
@@ -29,9 +29,7 @@ module _ {N : Type 0} {g : Ghosts N} where
   abbrev pub IsFreshPass : ℕ → ℕ → RegionPass N g → Type 0
   IsFreshPass r h p = (p.viewer.region ≡ r) × (p.viewer.lines ≡ []) × (p.hand.number ≡ h) × (record_of p.hand ≡ empty) × (record_of p.told ≡ empty)
 
-  -- such passes of so many handlers, h and up
-  abbrev pub AreFreshPasses : ℕ → ℕ → ℕ → List (RegionPass N g) → Type 0
-  AreFreshPasses r h zero [] = Unit {0}
-  AreFreshPasses r h zero (p ∷ ps) = ⊥
-  AreFreshPasses r h (suc n) [] = ⊥
-  AreFreshPasses r h (suc n) (p ∷ ps) = IsFreshPass r h p × AreFreshPasses r (h + 1) n ps
+  -- such passes of handlers h and up
+  abbrev pub AreFreshPasses : ℕ → ℕ → List (RegionPass N g) → Type 0
+  AreFreshPasses r h [] = Unit {0}
+  AreFreshPasses r h (p ∷ ps) = IsFreshPass r h p × AreFreshPasses r (h + 1) ps

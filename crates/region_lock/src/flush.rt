@@ -1,10 +1,10 @@
 //! A flush of one region, between its mark's being set and being taken away.
 
-ghost use Rattle.std.specs.Prelude.{◌≡◌, ◌≤◌, Contains};
+ghost use Rattle.std.specs.Prelude.{◌≡◌, ◌≤◌, Err, Contains};
 ghost use Rattle.hand_register.specs.Desks.{record_of, with_mark};
 ghost use Rattle.region_model.specs.Lines.{last_in};
 ghost use Rattle.log_service.specs.Places.{IsSeatOf, IsLaterSeat};
-ghost use Rattle.region_lock.specs.Answers.{flush_answer};
+ghost use Rattle.region_lock.specs.Answers.{flush_answer, refused_flush};
 ghost use Rattle.region_lock.specs.Calls.{FlushesAt};
 ghost use Rattle.region_lock.specs.Marks.{IsLookedAt};
 ghost use Rattle.region_lock.specs.Passes.{IsAtService, SameButMark, SamePass, known_of};
@@ -101,8 +101,17 @@ pub fn flush_in<
     unmark(rt, lock, at);
     match flushed {
         Ok(number) => Ok(number),
-        Err(DeviceFlush::Memory) => Err(FlushRefusal::Memory),
-        Err(DeviceFlush::WriteFault) => Err(FlushRefusal::WriteFault),
-        Err(DeviceFlush::Nothing { flushed }) => Err(FlushRefusal::Nothing { flushed }),
+        Err(refusal) => Err(refusal_of(refusal)),
+    }
+}
+
+/// The log's refusal as the flush's.
+fn refusal_of(refusal: DeviceFlush) -> FlushRefusal
+    ensures { flush_answer (Err result) ≡ refused_flush refusal }
+{
+    match refusal {
+        DeviceFlush::Memory => FlushRefusal::Memory,
+        DeviceFlush::WriteFault => FlushRefusal::WriteFault,
+        DeviceFlush::Nothing { flushed } => FlushRefusal::Nothing { flushed },
     }
 }

@@ -1,6 +1,6 @@
 //! How a region is made: its seeds without a name, and then its lock and its passes under one.
 
-ghost use Rattle.std.specs.Prelude.{◌≡◌, ◌<◌, ◌≤◌, ◌^◌, [], replicate, IfOk};
+ghost use Rattle.std.specs.Prelude.{◌≡◌, ◌<◌, ◌≤◌, ◌^◌, [], length, replicate, IfOk};
 ghost use Rattle.hand_register.specs.Desks.{AreFresh};
 ghost use Rattle.append_ring.specs.Parts.{IsNew};
 ghost use Rattle.append_ring.specs.Rules.{base_of};
@@ -76,7 +76,7 @@ fn passes_of<N: Naming + region_versions::Naming>(
     requires hands { AreFresh (N.desk front.now.region) 1 hands.hands.items }
     requires tellers { AreFresh (N.spent front.now.region) 1 tellers.hands.items }
     requires viewers { viewers.viewers.items ≡ replicate handlers front.now }
-    ensures { IfOk result (λ passes. AreFreshPasses front.now.region 1 handlers passes.items) }
+    ensures { IfOk result (λ passes. AreFreshPasses front.now.region 1 passes.items × (length passes.items ≡ handlers)) }
 {
     let mut hands = hands;
     let mut tellers = tellers;
@@ -107,7 +107,7 @@ pub fn named<N: Naming + log_service::Naming + region_versions::Naming, R: Wait 
     requires pass { IsNew N.ring N.lasts seeds.state.region pass }
     requires last { base_of N.lasts seeds.state.region ≡ seeds.state.base.last }
     ensures region { IfOk result (λ p. (p.locked.state.region ≡ seeds.state.region) × (p.locked.state.lines ≡ [])) }
-    ensures passes { IfOk result (λ p. AreFreshPasses seeds.state.region 1 handlers p.passes.items) }
+    ensures passes { IfOk result (λ p. AreFreshPasses seeds.state.region 1 p.passes.items × (length p.passes.items ≡ handlers)) }
 {
     let RegionSeeds {
         mut state,

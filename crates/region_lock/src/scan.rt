@@ -66,12 +66,18 @@ pub fn scan_in<N: Naming + region_versions::Naming>(
     ensures region { at.new.viewer.region ≡ at.old.viewer.region }
     ensures hand { (at.new.hand ≡ at.old.hand) × (at.new.told ≡ at.old.told) }
 {
-    let version = view_in(at)?;
-    let cells = cells_of(alloc, &version, from, to)?;
-    Ok(ScanReply {
-        point: version.point(),
-        cells,
-    })
+    let Ok(version) = view_in(at) else {
+        return Err(NoMemory);
+    };
+    match cells_of(alloc, &version, from, to) {
+        Ok(cells) => {
+            Ok(ScanReply {
+                point: version.point(),
+                cells,
+            })
+        }
+        Err(_) => Err(NoMemory),
+    }
 }
 
 /// The point of the version that is shown, not below one that the pass has seen. The pass has then seen it. It takes no memory.

@@ -1,10 +1,9 @@
 -- What stands in a region's files, and what its replay makes of it.
-use Rattle.std.proofs.Common.{◌≡◌, ◌≢◌, ◌⊎◌, inl, inr, ℕ, ◌+◌, ◌<◌, ◌≤◌, ◌^◌, List, [], ◌∷◌, ◌++◌, length, get_or, Contains, Some, refl, sym, ap, ◌∙◌, subst, arith}
+use Rattle.std.proofs.Common.{◌≡◌, ◌≢◌, ◌⊎◌, inl, inr, ℕ, ◌+◌, ◌<◌, ◌≤◌, ◌^◌, List, [], ◌∷◌, ◌++◌, max, Contains, Some, refl, sym, ap, ◌∙◌, subst, arith}
 use Rattle.std.specs.FinMap.{get, empty}
 use Rattle.std.specs.List.{AllByRecursion}
 use Rattle.std.proofs.lemmas.Bool.{cases_lt}
-use Rattle.std.proofs.lemmas.List.{get_or_default}
-use Rattle.std.proofs.lemmas.List.Elements.{Contains-get_or}
+use Rattle.std.proofs.lemmas.List.Elements.{Contains-append_left, Contains-push, Contains-push_cases}
 use Rattle.cell_model.specs.Cell.{Cell}
 use Rattle.cell_model.specs.Order.{VersionKey, Payload, Content, NumberedCell}
 use Rattle.cell_model.specs.Merge.{at_number, put_numbered}
@@ -25,7 +24,7 @@ use Rattle.region_replay.specs.Cuts.{IsUnflushedCut, EditsFlushed, EditsUpTo}
 use Rattle.wal_split.specs.Held.{IsHeld}
 use Rattle.region_replay.specs.Names.{store_name, IsElsewhere}
 use Rattle.region_replay.specs.Ready.{IsOf, IsWithin}
-use Rattle.region_replay.specs.Regions.{AreInTurn, IsTop, IsInOrder, IsFound}
+use Rattle.region_replay.specs.Regions.{IsTop, IsInOrder, IsFound}
 use Rattle.region_replay.proofs.Joining.{still_flushes}
 use Rattle.region_replay.proofs.Showing.{alike_between}
 use Rattle.region_replay.proofs.Sorting.{none_in, is_first, is_later, got_has, put_entries_all, one_sort, first_or_later}
@@ -61,7 +60,7 @@ content_low xs n each v p is =
 
 -- ---- what holds on any disk
 
-module _ (x : RegionFiles) (order : IsInOrder x) (to : ℕ) (top : IsTop x.unflushed.items x.flushed to) where
+module _ {told : Type 0} (x : RegionFiles) (order : IsInOrder told x) (to : ℕ) (top : IsTop x.unflushed.items x.flushed to) where
   pub to_high : x.flushed ≤ to
   to_high = elim top.reached as (λ _. x.flushed ≤ to) [
     | inl (e, has, is) ↦ (let above = order.above e has in omega (arith, above, is))
@@ -99,7 +98,7 @@ module _ (x : RegionFiles) (order : IsInOrder x) (to : ℕ) (top : IsTop x.unflu
   cut_within = entries_within (λ n. (x.flushed + 1 ≤ n) × (n ≤ to)) x.unflushed.items (λ e has. (let above = order.above e has in omega (arith, above), top.bound e has))
 
 -- a name of no store and no edits file of the region is another one than those
-module _ (x : RegionFiles) (order : IsInOrder x) (m : Name) (other : IsElsewhere x.region m) where
+module _ {told : Type 0} (x : RegionFiles) (order : IsInOrder told x) (m : Name) (other : IsElsewhere x.region m) where
   pub no_store : m ≢ store_name x.region x.next_store
   no_store is = other (inl (ap (λ (k : Name). k.kind) is)) (ap (λ (k : Name). k.region) is)
 
@@ -108,7 +107,7 @@ module _ (x : RegionFiles) (order : IsInOrder x) (m : Name) (other : IsElsewhere
 
 -- ---- what holds of the files
 
-module _ (files : Files) (x : RegionFiles) (order : IsInOrder x) (found : IsFound files x) where
+module _ (files : Files) {told : Type 0} (x : RegionFiles) (order : IsInOrder told x) (found : IsFound files x) where
   pub logged_cases : (e : Entry) → IsLogged files e → e.region ≡ x.region → Contains x.unflushed.items e ⊎ (e.number ≤ x.flushed)
   logged_cases e logged region = elim (cases_lt x.flushed e.number) as (λ _. Contains x.unflushed.items e ⊎ (e.number ≤ x.flushed)) [
     | inl above ↦ inl (found.unflushed.all e logged region (λ n f. (let low = found.flushed.bound n f in omega (arith, low, above))))
@@ -190,10 +189,11 @@ module _ (files : Files) (x : RegionFiles) (order : IsInOrder x) (found : IsFoun
         back v p u = ap (λ (c : Content). get c v) (put_entries_all x.unflushed.items empty) ∙ (cut_has x.unflushed.items v p found.unflushed.apart).1 (u.entry, found.unflushed.all u.entry u.logged u.region u.above, u.puts)
 
 -- what the region is opened with, once its files are replayed
-pub replayed_of : (base : Files) (u w : DiskView) → IsTrueDisk u → IsTrueDisk w → IsHeld base u → IsHeld base w → (x : RegionFiles) (order : IsInOrder x) (found : IsFound u.files x) (to next : ℕ) → IsTop x.unflushed.items x.flushed to
+pub replayed_of : (base : Files) (u w : DiskView) → IsTrueDisk u → IsTrueDisk w → IsHeld base u → IsHeld base w → {told : Type 0} (x : RegionFiles) (order : IsInOrder told x) (found : IsFound u.files x) (to next : ℕ) → IsTop x.unflushed.items x.flushed to
     → FlushesTo w.files x.region to ⊎ (to ≡ 0) → ((m : Name) → m.kind ≡ kinds.Store → m.region ≡ x.region → IsPresent w.files m → m.number < next)
+    → ((n : ℕ) → ((m : Name) → m.kind ≡ kinds.Store → m.region ≡ x.region → IsPresent w.files m → m.number ≤ n) → next ≤ n + 1 + to)
     → (b : Base) → b.content ≡ put_numbered empty (x.stored ++ entries_cells x.unflushed.items) → b.last ≡ to → IsOf u.files w.files x.region (record { base = b; flushed = to; next_store = next })
-replayed_of base u w true_u true_w held_u held_w x order found to next top flushed below b is last =
+replayed_of base u w true_u true_w held_u held_w x order found to next top flushed below few b is last =
     let now : IsLast u.files x.region to = is_last u.files x order found to top in
     let then : IsLast w.files x.region to = ((alike_between base u.files w.files (held_u.alike u.files true_u.reads) (held_w.alike w.files true_w.reads) x.region).last to).0 now in
     record {
@@ -201,10 +201,11 @@ replayed_of base u w true_u true_w held_u held_w x order found to next top flush
       last = subst (λ (n : ℕ). IsLast u.files x.region n) (sym last) now;
       flushed = record { reached = flushed; bound = λ m f. then.bound m (inl f) };
       next = below;
+      few = few;
     }
 
 -- of a region's stores one alone is new
-pub next_below : (u w : DiskView) (x : RegionFiles) (order : IsInOrder x) (found : IsFound u.files x)
+pub next_below : (u w : DiskView) {told : Type 0} (x : RegionFiles) (order : IsInOrder told x) (found : IsFound u.files x)
     → ((m : Name) → m ≢ store_name x.region x.next_store → ((n : Name) → Contains x.edits.items n → m ≢ n) → content w.files m ≡ content u.files m)
     → (m : Name) → m.kind ≡ kinds.Store → m.region ≡ x.region → IsPresent w.files m → m.number < x.next_store + 1
 next_below u w x order found others m store region here = elim (name_cases m (store_name x.region x.next_store)) as (λ _. m.number < x.next_store + 1) [
@@ -215,29 +216,56 @@ next_below u w x order found others m store region here = elim (name_cases m (st
       omega (arith, low)
 ]
 
+-- and so the number of the next one is above it by no more than one
+pub next_few : (u w : DiskView) {told : Type 0} (x : RegionFiles) (order : IsInOrder told x) (found : IsFound u.files x)
+    → ((m : Name) → m ≢ store_name x.region x.next_store → ((n : Name) → Contains x.edits.items n → m ≢ n) → content w.files m ≡ content u.files m)
+    → (n : ℕ) → ((m : Name) → m.kind ≡ kinds.Store → m.region ≡ x.region → IsPresent w.files m → m.number ≤ n) → x.next_store ≤ n + 1
+next_few u w x order found others n bound = found.few n (λ m store region here. bound m store region (λ gone. (
+    let low = found.next m store region here in
+    let other : m ≢ store_name x.region x.next_store = λ is. (let number : m.number ≡ x.next_store = ap (λ (k : Name). k.number) is in omega (arith, low, number)) in
+    let same = others m other (λ k has is. absurd (cc (sym store ∙ ap (λ (i : Name). i.kind) is ∙ order.edits.kind k has))) in
+    here (sym same ∙ gone))))
+
 -- ---- the last sequence id
 
 pub none_top : (es : List Entry) (n : ℕ) → es ≡ [] → IsTop es n n
 none_top es n none = record { reached = inr (none, refl); bound = λ e has. absurd (none_in e (subst (λ (l : List Entry). Contains l e) none has)) }
 
-pub last_top : (es : List Entry) (none k : ℕ) (d : Entry) → AreInTurn es → k + 1 ≡ length es → IsTop es none (get_or es k d).number
-last_top es none k d turn is = record {
-  reached = inl (get_or es k d, Contains-get_or es k d (omega (arith, is)), refl);
-  bound = λ e has. elim (cases_lt has.0 k) as (λ _. e.number ≤ (get_or es k d).number) [
-    | inl before ↦ (let less = turn has.0 k d before (omega (arith, is)) in let here : (get_or es has.0 d).number ≡ e.number = ap (λ (y : Entry). y.number) (get_or_default es has.0 d e has.1 ∙ has.2) in omega (arith, less, here))
-    | inr after ↦ (let same : has.0 ≡ k = omega (arith, after, has.1, is) in let here : (get_or es k d).number ≡ e.number = ap (λ (y : Entry). y.number) (ap (λ (j : ℕ). get_or es j d) (sym same) ∙ get_or_default es has.0 d e has.1 ∙ has.2) in omega (arith, here))
-  ];
-}
+-- one entry more
+pub last_more : (es : List Entry) (none n : ℕ) (e : Entry) → IsTop es none n → none < e.number → IsTop (es ++ e ∷ []) none (max n e.number)
+last_more es none n e top above = elim (cases_lt n e.number) as (λ _. IsTop (es ++ e ∷ []) none (max n e.number)) [
+  | inl higher ↦ (let is : e.number ≡ max n e.number = omega (arith, higher) in record {
+    reached = inl (e, Contains-push es e, is);
+    bound = λ d has. elim (Contains-push_cases es e d has) as (λ _. d.number ≤ max n e.number) [
+      | inl before ↦ (let low = top.bound d before in omega (arith, low, higher))
+      | inr same ↦ (let k : e.number ≡ d.number = ap (λ (y : Entry). y.number) same in omega (arith, k))
+    ];
+  })
+  | inr lower ↦ (let is : n ≡ max n e.number = omega (arith, lower) in record {
+    reached = elim top.reached as (λ _. ((d : Entry) × Contains (es ++ e ∷ []) d × (d.number ≡ max n e.number)) ⊎ ((es ++ e ∷ [] ≡ []) × (max n e.number ≡ none))) [
+      | inl (d, has, same) ↦ inl (d, Contains-append_left es (e ∷ []) d has, same ∙ is)
+      | inr (empty, same) ↦ absurd (omega (arith, same, above, lower))
+    ];
+    bound = λ d has. elim (Contains-push_cases es e d has) as (λ _. d.number ≤ max n e.number) [
+      | inl before ↦ (let low = top.bound d before in omega (arith, low, lower))
+      | inr same ↦ (let k : e.number ≡ d.number = ap (λ (y : Entry). y.number) same in omega (arith, k, lower))
+    ];
+  })
+]
 
 -- where nothing is unflushed the stores are all there is
 pub no_cells : (x : RegionFiles) (cut : List NumberedCell) (c : Content) → x.unflushed.items ≡ [] → cut ≡ [] → c ≡ put_numbered empty (x.stored ++ cut) → c ≡ put_numbered empty (x.stored ++ entries_cells x.unflushed.items)
 no_cells x cut c none empty_cut is = is ∙ ap (λ (cs : List NumberedCell). put_numbered empty (x.stored ++ cs)) (empty_cut ∙ sym (ap entries_cells none))
 
-pub dropped_of : (base : Files) (u w : DiskView) → IsTrueDisk u → IsTrueDisk w → IsHeld base u → IsHeld base w → (x : RegionFiles) (order : IsInOrder x) (found : IsFound u.files x) → x.unflushed.items ≡ []
+pub dropped_of : (base : Files) (u w : DiskView) → IsTrueDisk u → IsTrueDisk w → IsHeld base u → IsHeld base w → {told : Type 0} (x : RegionFiles) (order : IsInOrder told x) (found : IsFound u.files x) → x.unflushed.items ≡ []
     → ((m : Name) → ((n : Name) → Contains x.edits.items n → m ≢ n) → content w.files m ≡ content u.files m)
     → (b : Base) → b.content ≡ put_numbered empty (x.stored ++ entries_cells x.unflushed.items) → b.last ≡ x.flushed → IsOf u.files w.files x.region (record { base = b; flushed = x.flushed; next_store = x.next_store })
 dropped_of base u w true_u true_w held_u held_w x order found none others b is last =
     replayed_of base u w true_u true_w held_u held_w x order found x.flushed x.next_store (none_top x.unflushed.items x.flushed none)
     (elim found.flushed.reached as (λ _. FlushesTo w.files x.region x.flushed ⊎ (x.flushed ≡ 0)) [ inl f ↦ inl (still_flushes u w x.edits.items x.region x.flushed order.edits others f) | inr zero ↦ inr zero ])
-    (λ m store region here. found.next m store region (λ gone. here (others m (λ n has is. absurd (cc (sym store ∙ ap (λ (k : Name). k.kind) is ∙ order.edits.kind n has))) ∙ gone)))
+    (λ m store region here. found.next m store region (λ gone. here (same_store m store ∙ gone)))
+    (λ n bound. (let low = found.few n (λ m store region here. bound m store region (λ gone. here (sym (same_store m store) ∙ gone))) in omega (arith, low)))
     b is last
+  where
+    same_store : (m : Name) → m.kind ≡ kinds.Store → content w.files m ≡ content u.files m
+    same_store m store = others m (λ n has is. absurd (cc (sym store ∙ ap (λ (k : Name). k.kind) is ∙ order.edits.kind n has)))

@@ -77,7 +77,7 @@ module _ (told : Type 0) (first v w : DiskView) (all ys rest : List RegionFiles)
   pub next_there : (t : told) (base : Files) → IsHeld base first → AreFound first.files all → (m : Name) → Contains x.edits.items m → (c : List ℕ) × Reads v.files m c
   next_there t base held found m has = (let text = ((so_far.found t base held found).each x (is_first x rest)).texts m has in (text.2.bytes, text.2.there))
 
-  module _ (true_v : told → IsTrueDisk v) (true_first : told → IsTrueDisk first) (orders : (z : RegionFiles) → Contains all z → IsInOrder z) (among : (z : RegionFiles) → Contains (x ∷ rest) z → Contains all z) (before : (z : RegionFiles) → Contains ys z → x.region ≢ z.region) (behind : (z : RegionFiles) → Contains rest z → x.region ≢ z.region)
+  module _ (true_v : told → IsTrueDisk v) (true_first : told → IsTrueDisk first) (orders : (z : RegionFiles) → Contains all z → IsInOrder told z) (among : (z : RegionFiles) → Contains (x ∷ rest) z → Contains all z) (before : (z : RegionFiles) → Contains ys z → x.region ≢ z.region) (behind : (z : RegionFiles) → Contains rest z → x.region ≢ z.region)
       (moments : told → (base : Files) → IsHeld base v → IsFound v.files x → During (AllAlike base) v w) where
     pub moments_on : told → (base : Files) → IsHeld base first → AreFound first.files all → During (AllAlike base) first w
     moments_on t base held found =
@@ -118,7 +118,7 @@ module _ (told : Type 0) (first v w : DiskView) (all ys rest : List RegionFiles)
       ];
     }
       where
-        order : IsInOrder x
+        order : IsInOrder told x
         order = orders x (among x (is_first x rest))
 
         here : (t : told) (base : Files) → IsHeld base first → AreFound first.files all → IsFound v.files x
@@ -137,7 +137,7 @@ among_all {A} all ys x rest is z has = subst (λ (l : List A). Contains l z) (sy
 
 -- ---- the end
 
-module _ (base : Files) (u v w : DiskView) (xs : List RegionFiles) (orders : (z : RegionFiles) → Contains xs z → IsInOrder z) (found : AreAllFound u.files xs) (none : HaveNoEdits v.files xs) (names : NoNewNames u.files v.files xs) where
+module _ (base : Files) (u v w : DiskView) (xs : List RegionFiles) {told : Type 0} (orders : (z : RegionFiles) → Contains xs z → IsInOrder told z) (found : AreAllFound u.files xs) (none : HaveNoEdits v.files xs) (names : NoNewNames u.files v.files xs) where
   pub none_logged : HasNoLogs v.files
   none_logged m holds = elim (present_cases v.files m) as (λ _. IsAbsent v.files m) [
     | inl gone ↦ gone

@@ -12,7 +12,7 @@ use Rattle.recovery.proofs.Stores.{store_kept}
 use Rattle.recovery.specs.Alike.{AllAlike}
 use Rattle.region_replay.specs.Cuts.{AreEdits, EditsFlushed, EditsUpTo}
 
-module _ (v w : DiskView) (name : Name) (names : List Name) (store : name.kind ≡ kinds.Store) (edits : AreEdits names) (touches : Touches name v w) where
+module _ (v w : DiskView) (name : Name) (names : List Name) (store : name.kind ≡ kinds.Store) {told : Type 0} (edits : AreEdits told names) (touches : Touches name v w) where
   pub same_edits : (m : Name) → Contains names m → content w.files m ≡ content v.files m
   same_edits m has = touches.others m (λ is. absurd (cc (sym (edits.kind m has) ∙ ap (λ (x : Name). x.kind) is ∙ store)))
 
@@ -22,7 +22,7 @@ module _ (v w : DiskView) (name : Name) (names : List Name) (store : name.kind �
       (u.0, u.1, subst (λ (o : Option (List ℕ)). HasText m u.0 u.1 o) (sym (same_edits m has)) u.2, λ e member. (let b = u.3 e member in (to, subst (λ (r : ℕ). FlushesTo w.files r to) (sym b.0) flushes, b.1)))
 
 -- the store stays where edits files go
-pub still_flushes : (v w : DiskView) (names : List Name) (r to : ℕ) → AreEdits names → ((m : Name) → ((n : Name) → Contains names n → m ≢ n) → content w.files m ≡ content v.files m) → FlushesTo v.files r to → FlushesTo w.files r to
+pub still_flushes : (v w : DiskView) (names : List Name) (r to : ℕ) {told : Type 0} → AreEdits told names → ((m : Name) → ((n : Name) → Contains names n → m ≢ n) → content w.files m ≡ content v.files m) → FlushesTo v.files r to → FlushesTo w.files r to
 still_flushes v w names r to edits others f =
     (f.0, f.1, store_kept v.files w.files (λ m store. others m (λ n has is. absurd (cc (sym store ∙ ap (λ (x : Name). x.kind) is ∙ edits.kind n has)))) r f.0 f.1 f.2, f.3)
 

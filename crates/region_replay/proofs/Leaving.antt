@@ -37,18 +37,18 @@ none_gone told v names = record {
   held = λ is_told base held flushed. (held, at_once (AllAlike base) v held.alike);
 }
 
-module _ (told : Type 0) (first v w : DiskView) (names : List Name) (count : ℕ) (x : Name) (there : count < length names) (edits : AreEdits names) (so_far : Going told first v names count) where
+module _ (told : Type 0) (first v w : DiskView) (names : List Name) (count : ℕ) (x : Name) (there : count < length names) (edits : AreEdits told names) (so_far : Going told first v names count) where
   abbrev pub this : Name
   this = get_or names count x
 
   pub among : Contains names this
   among = Contains-get_or names count x there
 
-  this_else : IsElse (take count names) this
-  this_else n has = edits.apart count x n there has
+  this_else : told → IsElse (take count names) this
+  this_else is_told n has = edits.apart is_told count x n there has
 
   pub same_now : told → content v.files this ≡ content first.files this
-  same_now is_told = so_far.others is_told this this_else
+  same_now is_told = so_far.others is_told this (this_else is_told)
 
   kind : this.kind ≡ kinds.Edits
   kind = edits.kind this among
@@ -75,7 +75,7 @@ module _ (told : Type 0) (first v w : DiskView) (names : List Name) (count : ℕ
           (removes is_told).others m (other this (subst (λ (l : List Name). Contains l this) (sym (take_more names count x there)) (Contains-push (take count names) this)))
           ∙ so_far.others is_told m (λ n has. other n (subst (λ (l : List Name). Contains l n) (sym (take_more names count x there)) (Contains-append_left (take count names) (this ∷ []) n has)));
       left = λ is_told m has. elim (Contains-push_cases (take count names) this m (subst (λ (l : List Name). Contains l m) (take_more names count x there) has)) as (λ _. IsAbsent w.files m) [
-        | inl before ↦ (removes is_told).others m (λ is. edits.apart count x m there before (sym is)) ∙ so_far.left is_told m before
+        | inl before ↦ (removes is_told).others m (λ is. edits.apart is_told count x m there before (sym is)) ∙ so_far.left is_told m before
         | inr is ↦ subst (λ (n : Name). IsAbsent w.files n) is (done is_told)
       ];
       held = λ is_told base held flushed.

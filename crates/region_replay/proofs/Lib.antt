@@ -7,3 +7,7 @@ pub mod Showing
 pub mod Finding
 pub mod Passing
 pub mod InTurn
+pub mod Shares
+pub mod Lists
+pub mod RegionsFound
+pub mod AllFound

@@ -41,7 +41,7 @@ flushed_on r I J same n f = record {
 }
 
 -- an entry of an edits file of a region is of that region
-entry_region : (files : Files) (m : Name) (l : List Entry) (e : Entry) → IsLogFile files m l → Contains l e → 1 ≤ m.region → e.region ≡ m.region
+pub entry_region : (files : Files) (m : Name) (l : List Entry) (e : Entry) → IsLogFile files m l → Contains l e → 1 ≤ m.region → e.region ≡ m.region
 entry_region files m l e file member given = go file.text
   where
     go : IsLogText (key_of m) file.bytes l file.ended → e.region ≡ m.region
@@ -65,8 +65,8 @@ logged_on I J r same none given e region logged =
 
 -- what stands in a region's files stands there where they are the same
 pub found_on : (I J : Files) (x : RegionFiles) → SameOf x.region I J → ((m : Name) → m.kind ≡ kinds.Log → IsAbsent I m) → ((m : Name) → m.kind ≡ kinds.Log → IsAbsent J m) → ((m : Name) → m.kind ≡ kinds.Edits → IsPresent I m → 1 ≤ m.region) → ((m : Name) → m.kind ≡ kinds.Edits → IsPresent J m → 1 ≤ m.region)
-    → IsInOrder x → IsFound I x → IsFound J x
-found_on I J x same none_i none_j given_i given_j order f = record {
+    → {told : Type 0} → IsInOrder told x → IsFound I x → IsFound J x
+found_on I J x same none_i none_j given_i given_j {told} order f = record {
   stores = f.stores;
   are_stores = record {
     each = λ y has. (let s = f.are_stores.each y has in (s.0, store_on x.region I J same s.0 y.1 s.1, s.2));
@@ -88,6 +88,7 @@ found_on I J x same none_i none_j given_i given_j order f = record {
       record { name = d.name; entries = d.entries; file = record { kind = d.file.kind; bytes = d.file.bytes; there = same d.name (inr d.kind) (sym of ∙ region) ∙ d.file.there; ended = d.file.ended; text = d.file.text }; kind = d.kind; member = d.member });
   flushed = flushed_on x.region I J same x.flushed f.flushed;
   next = λ m store region here. f.next m store region (λ gone. here (same m (inl store) region ∙ gone));
+  few = λ n bound. f.few n (λ m store region here. bound m store region (λ gone. here (sym (same m (inl store) region) ∙ gone)));
   texts = λ m has. (
       let t = f.texts m has in
       (t.0, t.1, subst (λ (o : Option (List ℕ)). HasText m t.0 t.1 o) (sym (same m (inr (order.edits.kind m has)) (order.of m has))) t.2, t.3));
@@ -101,6 +102,7 @@ of_on old I J r y same f = record {
   last = f.last;
   flushed = flushed_on r I J same y.flushed f.flushed;
   next = λ m store region here. f.next m store region (λ gone. here (same m (inl store) region ∙ gone));
+  few = λ n bound. f.few n (λ m store region here. bound m store region (λ gone. here (sym (same m (inl store) region) ∙ gone)));
 }
 
 -- files that recover alike give the same
@@ -110,6 +112,7 @@ of_alike old now new r y alike f = record {
   last = ((alike r).last y.base.last).1 f.last;
   flushed = f.flushed;
   next = f.next;
+  few = f.few;
 }
 
 edits_cases : (k : NameKind) → (k ≡ kinds.Edits) ⊎ (k ≢ kinds.Edits)
@@ -119,7 +122,7 @@ edits_cases kinds.Store = inr (λ is. absurd cc)
 edits_cases kinds.Edits = inl refl
 
 -- a name of another region's files is none of this one's
-module _ (x : RegionFiles) (order : IsInOrder x) (I J : Files) (others : (m : Name) → m ≢ store_name x.region x.next_store → ((n : Name) → Contains x.edits.items n → m ≢ n) → content J m ≡ content I m) where
+module _ {told : Type 0} (x : RegionFiles) (order : IsInOrder told x) (I J : Files) (others : (m : Name) → m ≢ store_name x.region x.next_store → ((n : Name) → Contains x.edits.items n → m ≢ n) → content J m ≡ content I m) where
   pub else_same : (m : Name) → IsElsewhere x.region m → content J m ≡ content I m
   else_same m other = others m (no_store x order m other) (no_edits x order m other)
 

@@ -6,3 +6,4 @@ pub mod Regions
 pub mod Names
 pub mod Whole
 pub mod Opened
+pub mod Dealt

@@ -30,6 +30,8 @@ pub record IsOf (old new : Files) (r : ℕ) (x : Found) : Type 0 where
   pub last : IsLast old r x.base.last
   pub flushed : IsFlushed new r x.flushed
   pub next : (m : Name) → m.kind ≡ kinds.Store → m.region ≡ r → IsPresent new m → m.number < x.next_store
+  -- the next store's number is above those of the region's stores by no more than the flushed sequence id and one
+  pub few : (n : ℕ) → ((m : Name) → m.kind ≡ kinds.Store → m.region ≡ r → IsPresent new m → m.number ≤ n) → x.next_store ≤ n + 1 + x.flushed
 
 -- by this a proof tells such values apart
 abbrev pub coded_found : Coded Found

@@ -15,7 +15,7 @@ pub struct RegionFiles {
     pub region: u32,
     /// The cells of its store files, in the order of the files' numbers.
     pub stored: NumberedCells,
-    /// The entries above the flushed sequence id, each once, in the order of their sequence ids.
+    /// The entries above the flushed sequence id, each once.
     pub unflushed: Vec<Entry>,
     /// The last flushed sequence id, 0 where there is no store file.
     pub flushed: u64,

@@ -1,10 +1,11 @@
 //! The cells of a region.
 
-ghost use Rattle.std.specs.Prelude.{◌≡◌, ◌++◌, IfOk, OnOk};
+ghost use Rattle.std.specs.Prelude.{◌≡◌, ◌++◌, ◌<◌, Contains, IfOk, OnOk};
 ghost use Rattle.std.specs.FinMap.{empty};
 ghost use Rattle.cell_model.specs.Merge.{at_number, put_numbered};
+ghost use Rattle.log_model.specs.Entry.{Entry as TheEntry};
 ghost use Rattle.region_replay.specs.Bases.{entries_cells};
-ghost use Rattle.region_replay.specs.Regions.{IsTop, AreInTurn};
+ghost use Rattle.region_replay.specs.Regions.{IsTop};
 
 use entry_frame::Entry;
 use kv_cell::{Cell, NoMemory, NumberedCells};
@@ -70,15 +71,14 @@ pub(crate) fn base_of(
     Ok(Base { cells, last })
 }
 
-/// The last one's sequence id of entries in the order of their sequence ids, and this one where there is none.
+/// The greatest sequence id of these entries, and this one, which they are all above, where there is none.
 pub(crate) fn last_number(entries: &[Entry], none: u64) -> u64
-    requires { AreInTurn entries.now }
+    requires { (e : TheEntry) → Contains entries.now e → none < e.number }
     ensures { IsTop entries.now none result }
 {
-    let len = entries.len();
-    if len == 0 {
-        return none;
+    let mut last = none;
+    for entry in entries {
+        last = last.max(entry.number);
     }
-    let last = &entries[len - 1];
-    last.number
+    last
 }

@@ -3,8 +3,10 @@
 #![tactic(auto)]
 
 mod clearing;
+mod dealing;
 mod found;
 mod gathering;
+mod grouping;
 mod laws;
 mod recovering;
 mod region;

@@ -1,19 +1,26 @@
 //! The whole opening of a store.
 
-ghost use Rattle.std.specs.Prelude.{◌≡◌, length, IsTrue, IfOk, OnOk, IsErrOf};
-ghost use Rattle.log_model.specs.Files.{IsSound};
+ghost use Rattle.std.specs.Prelude.{◌≡◌, ◌≤◌, ◌+◌, ℕ, Contains, length, IsTrue, IfOk, OnOk, IsErrOf};
+ghost use Rattle.log_model.specs.declared.name.Name.{Name as TheName};
+ghost use Rattle.log_model.specs.Files.{Files, IsPresent, IsSound};
 ghost use Rattle.log_model.specs.Damage.{IsDamage};
 ghost use Rattle.disk_images.specs.Calls.{HasCause};
 ghost use Rattle.recovery.specs.Alike.{AllAlike};
 ghost use Rattle.found_files.specs.Refusal.{IfDamage};
+ghost use Rattle.wal_split.specs.Held.{IsSplit};
+ghost use Rattle.wal_split.specs.Left.{IsInRange, AreLeft};
 ghost use Rattle.wal_split.specs.Moments.{During, WasOrAlike};
 ghost use Rattle.region_replay.specs.Cleared.{IsReady};
 ghost use Rattle.region_replay.specs.Opened.{AreOf, AtMostOneHigher};
 
 use crate::found::Recovered;
+use crate::grouping::regions_of;
+use crate::whole::replay_all;
 use disk_images::Disk;
 use found_files::SplitRefusal;
+use log_file::FileRefusal;
 use std::alloc::Global;
+use wal_split::{SplitFiles, split_read};
 
 /// Opens a store: makes its files durable and checks them, splits its logs, replays each region, and makes durable that no
 /// log and no edits file is left. Each file is read once. A crash at any moment is answered by opening again.
@@ -31,7 +38,38 @@ pub fn recover_all<D: Disk>(alloc: Global, disk: &mut D) -> Result<Recovered, Sp
     ensures damaged { IsTrue D.told → IfDamage result (λ damage. IsDamage (D.view disk.old).files damage × ((D.view disk.new).files ≡ (D.view disk.old).files)) }
     ensures cause { HasCause (D.faults disk.old) (D.faults disk.new) (IsErrOf result SplitRefusal.DiskFault) }
 {
-    let _ = alloc;
-    let _ = &*disk;
-    Err(SplitRefusal::Memory)
+    match split_read(alloc, disk) {
+        Ok(split) => recover_split(alloc, disk, split),
+        Err(e) => Err(e),
+    }
+}
+
+/// Replays each region of a store that was split, from what the split handed on.
+fn recover_split<D: Disk>(
+    alloc: Global,
+    disk: &mut D,
+    split: SplitFiles,
+) -> Result<Recovered, SplitRefusal>
+    requires range { IsInRange split }
+    requires left { IsTrue D.told → AreLeft (D.view disk.old).files split }
+    requires split { IsTrue D.told → IsSplit (D.view disk.old) }
+
+    ensures any_moment { IsTrue D.told → During (AllAlike (D.view disk.old).files) (D.view disk.old) (D.view disk.new) }
+    ensures ready { IsTrue D.told → OnOk result (IsReady (D.view disk.new)) }
+    ensures alike { IsTrue D.told → OnOk result (AllAlike (D.view disk.old).files (D.view disk.new).files) }
+    ensures names { IsTrue D.told → OnOk result ((n : ℕ) → ((m : TheName) → IsPresent (D.view disk.old).files m → m.number ≤ n + 1)
+        → ((m : TheName) → Contains split.names m → m.number ≤ n)
+        → (m : TheName) → IsPresent (D.view disk.new).files m → m.number ≤ n + 1) }
+    ensures regions { IfOk result (λ xs. length xs ≡ 64) }
+    ensures recovered { IsTrue D.told → (old : Files) → AllAlike old (D.view disk.old).files
+        → IfOk result (λ xs. AreOf old (D.view disk.new).files 1 xs) }
+    ensures undamaged { IfDamage result (λ damage. ⊥) }
+    ensures cause { HasCause (D.faults disk.old) (D.faults disk.new) (IsErrOf result SplitRefusal.DiskFault) }
+{
+    let regions = regions_of(alloc, split)?;
+    match replay_all(alloc, disk, regions) {
+        Ok(replayed) => Ok(Recovered::of(replayed)),
+        Err(FileRefusal::Memory) => Err(SplitRefusal::Memory),
+        Err(FileRefusal::DiskFault) => Err(SplitRefusal::DiskFault),
+    }
 }

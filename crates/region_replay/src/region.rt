@@ -28,7 +28,7 @@ pub fn replay_region<D: Disk>(
     disk: &mut D,
     found: RegionFiles,
 ) -> Result<Replayed, FileRefusal>
-    requires order { IsInOrder found }
+    requires order { IsInOrder (IsTrue D.told) found }
     requires absent { IsTrue D.told → IsAbsent (D.view disk.old).files (store_name found.region found.next_store)
         × (¬ (D.view disk.old).gone (store_name found.region found.next_store)) }
     requires there { IsTrue D.told → (m : TheName) → Contains found.edits.items m → ∥ ((c : List ℕ)
@@ -60,7 +60,7 @@ fn drop_edits<D: Disk>(
     disk: &mut D,
     found: RegionFiles,
 ) -> Result<Replayed, FileRefusal>
-    requires order { IsInOrder found }
+    requires order { IsInOrder (IsTrue D.told) found }
     requires none { found.unflushed.items ≡ [] }
     requires there { IsTrue D.told → (m : TheName) → Contains found.edits.items m → ∥ ((c : List ℕ)
         × Reads (D.view disk.old).files m c) ∥₁ }
@@ -98,7 +98,7 @@ fn store_region<D: Disk>(
     disk: &mut D,
     found: RegionFiles,
 ) -> Result<Replayed, FileRefusal>
-    requires order { IsInOrder found }
+    requires order { IsInOrder (IsTrue D.told) found }
     requires some { found.unflushed.items ≢ [] }
     requires absent { IsTrue D.told → IsAbsent (D.view disk.old).files (store_name found.region found.next_store)
         × (¬ (D.view disk.old).gone (store_name found.region found.next_store)) }

@@ -1,6 +1,6 @@
 //! The replay of the regions, one after the other.
 
-ghost use Rattle.std.specs.Prelude.{◌≡◌, ◌++◌, ◌∷◌, [], ◌≤◌, ◌+◌, List, Contains, IsTrue, IfOk, OnOk, IsErr, IsErrOf};
+ghost use Rattle.std.specs.Prelude.{◌≡◌, ◌++◌, ◌∷◌, [], ◌≤◌, ◌+◌, List, Contains, length, IsTrue, IfOk, OnOk, IsErr, IsErrOf};
 ghost use Rattle.log_model.specs.Files.{Files};
 ghost use Rattle.disk_images.specs.Calls.{HasCause};
 ghost use Rattle.recovery.specs.Alike.{AllAlike};
@@ -23,7 +23,7 @@ pub fn replay_regions<D: Disk>(
     disk: &mut D,
     regions: Vec<RegionFiles>,
 ) -> Result<Vec<Replayed>, FileRefusal>
-    requires order { (x : TheFiles) → Contains regions.items x → IsInOrder x }
+    requires order { (x : TheFiles) → Contains regions.items x → IsInOrder (IsTrue D.told) x }
     requires apart { AreApart regions.items }
     requires found { IsTrue D.told → ∥ ((base : Files) × IsHeld base (D.view disk.old)
         × AreFound (D.view disk.old).files regions.items) ∥₁ }
@@ -41,6 +41,7 @@ pub fn replay_regions<D: Disk>(
     ensures names { IsTrue D.told → (base : Files) → IsHeld base (D.view disk.old)
         → AreFound (D.view disk.old).files regions.items
         → OnOk result (NoNewNames (D.view disk.old).files (D.view disk.new).files regions.items) }
+    ensures count { IfOk result (λ xs. length xs.items ≡ length regions.items) }
     ensures cause { HasCause (D.faults disk.old) (D.faults disk.new) (IsErrOf result FileRefusal.DiskFault) }
 {
     let mut replayed = Vec::new(alloc);

@@ -33,7 +33,7 @@ pub fn replay_found<D: Disk>(
     requires kind { name.kind ≡ kinds.Store }
     requires range { (1 ≤ from) × (from ≤ to) × (to < 2 ^ 48) }
     requires within { IsWithin from to cut }
-    requires edits { AreEdits names.now }
+    requires edits { AreEdits (IsTrue D.told) names.now }
     requires there { IsTrue D.told → (m : TheName) → Contains names.now m → ∥ ((c : List ℕ)
         × Reads (D.view disk.old).files m c) ∥₁ }
 

@@ -1,6 +1,6 @@
 //! The end of an opening, from what was read of the regions.
 
-ghost use Rattle.std.specs.Prelude.{◌≡◌, ◌≤◌, ◌+◌, Contains, IsTrue, IfOk, OnOk, IsErrOf};
+ghost use Rattle.std.specs.Prelude.{◌≡◌, ◌≤◌, ◌+◌, Contains, length, IsTrue, IfOk, OnOk, IsErrOf};
 ghost use Rattle.log_model.specs.Files.{Files};
 ghost use Rattle.disk_images.specs.Calls.{HasCause};
 ghost use Rattle.recovery.specs.Alike.{AllAlike};
@@ -9,7 +9,7 @@ ghost use Rattle.wal_split.specs.Moments.{During};
 ghost use Rattle.region_replay.specs.declared.found.RegionFiles.{RegionFiles as TheFiles};
 ghost use Rattle.region_replay.specs.Cleared.{IsReady};
 ghost use Rattle.region_replay.specs.Regions.{IsInOrder};
-ghost use Rattle.region_replay.specs.Whole.{AreApart, AreFound, AreAllFound, AllOf};
+ghost use Rattle.region_replay.specs.Whole.{AreApart, AreFound, AreAllFound, AllOf, NoNewNames};
 
 use crate::clearing::clear;
 use crate::found::{RegionFiles, Replayed};
@@ -26,7 +26,7 @@ pub fn replay_all<D: Disk>(
     disk: &mut D,
     regions: Vec<RegionFiles>,
 ) -> Result<Vec<Replayed>, FileRefusal>
-    requires order { (x : TheFiles) → Contains regions.items x → IsInOrder x }
+    requires order { (x : TheFiles) → Contains regions.items x → IsInOrder (IsTrue D.told) x }
     requires apart { AreApart regions.items }
     requires found { IsTrue D.told → ∥ ((base : Files) × IsHeld base (D.view disk.old)
         × AreFound (D.view disk.old).files regions.items) ∥₁ }
@@ -38,9 +38,13 @@ pub fn replay_all<D: Disk>(
         → AreAllFound (D.view disk.old).files regions.items → OnOk result (AllAlike base (D.view disk.new).files) }
     ensures ready { IsTrue D.told → (base : Files) → IsHeld base (D.view disk.old)
         → AreAllFound (D.view disk.old).files regions.items → OnOk result (IsReady (D.view disk.new)) }
+    ensures names { IsTrue D.told → (base : Files) → IsHeld base (D.view disk.old)
+        → AreAllFound (D.view disk.old).files regions.items
+        → OnOk result (NoNewNames (D.view disk.old).files (D.view disk.new).files regions.items) }
     ensures replayed { IsTrue D.told → (base : Files) → IsHeld base (D.view disk.old)
         → AreAllFound (D.view disk.old).files regions.items
         → IfOk result (λ xs. AllOf (D.view disk.old).files (D.view disk.new).files regions.items xs.items) }
+    ensures count { IfOk result (λ xs. length xs.items ≡ length regions.items) }
     ensures cause { HasCause (D.faults disk.old) (D.faults disk.new) (IsErrOf result FileRefusal.DiskFault) }
 {
     let replayed = replay_regions(alloc, disk, regions)?;

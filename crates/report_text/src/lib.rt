@@ -27,6 +27,3 @@ pub use script_calls::{
 pub use short_line::Line;
 pub use tokens::append_token;
 pub use words::{append, append_number, append_numbers};
-
-#[cfg(test)]
-mod tests;

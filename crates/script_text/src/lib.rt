@@ -22,8 +22,3 @@ pub use numbers::number;
 pub use parse::parse_script;
 pub use script_calls::{Call, CallList, HandlerList, Script};
 pub use script_model::Command;
-
-#[cfg(test)]
-mod limit_tests;
-#[cfg(test)]
-mod tests;

@@ -1,5 +1,5 @@
 -- What is shown of the entries that were found.
-use Rattle.std.proofs.Common.{◌≡◌, inl, inr, ap, refl, List, ℕ}
+use Rattle.std.proofs.Common.{inl, inr, ap, refl, List, ℕ}
 use Rattle.log_model.specs.Entry.{Entry}
 use Rattle.disk_images.specs.Crash.{DiskView}
 use Rattle.script_model.specs.Outputs.{show_text}

@@ -18,5 +18,5 @@ abbrev pub shows : Invocation → Effects
 shows o = reads (λ text. ShowDone o text) o
 
 -- what stands with each status of the command
-abbrev pub EndsShow : Status → Invocation → Type 0 → Type 0
-EndsShow status o rose = EndsAs (shows o) status rose o.taken
+abbrev pub EndsShow : Status → Invocation → Type 0 → Type 0 → Type 0
+EndsShow status o rose sank = EndsAs (shows o) status rose sank o.taken

@@ -3,10 +3,10 @@
 ghost use Rattle.std.specs.Prelude.{◌≡◌, ◌≢◌, ◌≤◌, [], ◌∷◌, ℕ, List, Option, Some, IsTrue, IfOk, IfErr, IsErrOf};
 ghost use Rattle.disk_images.specs.Calls.{Rose, HasCause};
 ghost use Rattle.script_model.specs.Outputs.{show_text, refused_memory};
-ghost use Rattle.command_ends.specs.Invocation.{invocation, IsUnchanged, GoesOn};
+ghost use Rattle.command_ends.specs.Invocation.{invocation, IsUnchanged, KeepsImages};
 ghost use Rattle.command_ends.specs.LogFiles.{log_name, IsDamagedLog, IsLogDamage, IsLogRefusal, ReportsDamage};
 ghost use Rattle.command_ends.specs.Prints.{Prints};
-ghost use Rattle.command_ends.specs.Status.{IsRefusal, refusal_line, IsDamageOf, IsOrEarlier, IsPrintEnd, IsReadingEnd};
+ghost use Rattle.command_ends.specs.Status.{refusal_line, IsDamageOf, IsOrEarlier, IsPrintEnd, IsReadingEnd};
 ghost use Rattle.show_command.specs.Parts.{HasLogEntries};
 ghost use Rattle.show_command.specs.Shown.{EndsShow};
 
@@ -20,11 +20,12 @@ use std::alloc::Global;
 /// Carries out `show`. It writes nothing to the disk.
 pub fn show<D: Disk, K: Sink>(alloc: Global, disk: &mut D, out: &mut K) -> Status
     ensures ends { IsTrue D.told → IsTrue K.told → (script : List ℕ) → EndsShow result
-        (invocation script (D.view disk.old) (D.view disk.new) (K.taken out.old) (K.taken out.new)) (Rose (D.faults disk.old) (D.faults disk.new)) }
-    ensures refusal { IsTrue K.told → IsRefusal result → (text : List ℕ) → refusal_line result ≡ Some text
+        (invocation script (D.view disk.old) (D.view disk.new) (K.taken out.old) (K.taken out.new)) (Rose (D.faults disk.old) (D.faults disk.new))
+        (Rose (K.faults out.old) (K.faults out.new)) }
+    ensures refusal { IsTrue K.told → (text : List ℕ) → refusal_line result ≡ Some text
         → Prints (K.taken out.old) (K.taken out.new) text (Rose (K.faults out.old) (K.faults out.new)) }
     ensures leaves_disk { IsTrue D.told → IsUnchanged (D.view disk.old) (D.view disk.new) }
-    ensures moments { IsTrue D.told → GoesOn (D.view disk.old) (D.view disk.new) }
+    ensures moments { IsTrue D.told → KeepsImages (D.view disk.old) (D.view disk.new) }
     ensures status { IsReadingEnd result }
     ensures damage { IsTrue D.told → IsDamageOf result (IsLogDamage (D.view disk.old).files (log_name 1)) }
     ensures damaged { IsTrue D.told → (at : ℕ) → IsDamagedLog (D.view disk.old).files (log_name 1) at
@@ -46,7 +47,7 @@ fn read_entries<D: Disk>(alloc: Global, disk: &mut D) -> Result<EntryList, Statu
     ensures damaged { IsTrue D.told → (at : ℕ) → IsDamagedLog (D.view disk.old).files (log_name 1) at → ReportsDamage (log_name 1) result at }
     ensures refused { IfErr result IsLogRefusal }
     ensures unchanged { IsTrue D.told → IsUnchanged (D.view disk.old) (D.view disk.new) }
-    ensures moments { IsTrue D.told → GoesOn (D.view disk.old) (D.view disk.new) }
+    ensures moments { IsTrue D.told → KeepsImages (D.view disk.old) (D.view disk.new) }
     ensures cause { HasCause (D.faults disk.old) (D.faults disk.new) (IsErrOf result Status.DiskFault) }
 {
     match find_log(alloc, disk, LOG_1) {

@@ -11,14 +11,14 @@ use Rattle.recovery.specs.Change.{HasText}
 use Rattle.recovery.proofs.Stores.{flushes_kept}
 use Rattle.recovery.specs.Alike.{AllAlike}
 use Rattle.wal_split.specs.declared.job.EditsJob.{EditsJob}
-use Rattle.wal_split.specs.Jobs.{AreJobs}
+use Rattle.wal_split.specs.Jobs.{AreJobs, IsNoJob}
 use Rattle.wal_split.specs.Logs.{AreFree, LogsKept, log_name, old_name}
 use Rattle.wal_split.specs.Covered.{LogsCovered}
 
-module _ (v w : DiskView) (jobs : List EditsJob) (are : AreJobs jobs) (others : (m : Name) → ((j : EditsJob) → Contains jobs j → m ≢ j.name) → content w.files m ≡ content v.files m) where
+module _ (v w : DiskView) (jobs : List EditsJob) (are : AreJobs jobs) (others : (m : Name) → IsNoJob jobs m → content w.files m ≡ content v.files m) where
   -- a file of another kind is as it was
   other_kind : (m : Name) → m.kind ≢ kinds.Edits → content w.files m ≡ content v.files m
-  other_kind m apart = others m (λ j has is. apart (ap (λ (x : Name). x.kind) is ∙ are.kind j has))
+  other_kind m apart = others m (λ j has some is. apart (ap (λ (x : Name). x.kind) is ∙ are.kind j has))
 
   pub still_free : ((m : Name) → w.gone m → v.gone m) → (logs : List ℕ) → AreFree v logs → AreFree w logs
   still_free gone logs free = record {

@@ -1,11 +1,12 @@
 -- Entries go to the edits files of their regions.
-use Rattle.std.proofs.Common.{◌≡◌, ◌≢◌, inl, inr, ℕ, ◌+◌, ◌-◌, ◌<◌, ◌≤◌, List, [], ◌∷◌, ◌++◌, length, get_or, Contains, slice_set, refl, sym, ap, ◌∙◌, subst, arith, length-append, get_or-set_other, get_or-set_same}
+use Rattle.std.proofs.Common.{◌≡◌, ◌≢◌, inl, inr, ℕ, Bool, cond, ◌+◌, ◌-◌, ◌<◌, ◌≤◌, List, [], ◌∷◌, ◌++◌, length, get_or, Contains, slice_set, refl, sym, ap, ◌∙◌, subst, arith, length-append, get_or-set_other, get_or-set_same}
 use Rattle.std.proofs.Math.ListN.{length-set}
-use Rattle.std.proofs.lemmas.Bool.{cases_eq, cases_lt}
-use Rattle.std.proofs.lemmas.List.{get_or_append_left}
+use Rattle.std.proofs.lemmas.Bool.{cases_eq, cases_lt, eq-eqb, ne_eqb}
+use Rattle.std.proofs.lemmas.List.{get_or_append_left, append-nil}
 use Rattle.std.proofs.Math.Seq.{get_or-append_seam}
-use Rattle.std.proofs.lemmas.List.Elements.{Contains-append_left, Contains-push, Contains-push_cases}
+use Rattle.std.proofs.lemmas.List.Elements.{Contains-append_left, Contains-push, Contains-push_cases, filter-append}
 use Rattle.log_model.specs.Entry.{Entry, IsEntry}
+use Rattle.log_model.specs.Recovered.{is_of, entries_of}
 use Rattle.found_files.proofs.Placing.{none_in}
 use Rattle.wal_split.specs.declared.job.EditsJob.{EditsJob}
 use Rattle.wal_split.specs.Grouped.{edits_name, AreEmptyJobs, AreJobsOf, AddsTo}
@@ -31,8 +32,13 @@ none_grouped number jobs made = record {
   long = made.long;
   names = made.names;
   each = λ k d e lt has. absurd (none_in e (subst (λ (l : List Entry). Contains l e) (made.none k d lt) has));
+  are = made.none;
   all = λ e has. absurd (none_in e has);
 }
+
+-- the entries of a region, with one entry more
+pub of_more : (r : ℕ) (entries : List Entry) (entry : Entry) → entries_of r (entries ++ entry ∷ []) ≡ entries_of r entries ++ cond (is_of r entry) (entry ∷ []) []
+of_more r entries entry = filter-append (is_of r) entries (entry ∷ [])
 
 module _ (entries : List Entry) (number : ℕ) (old new : List EditsJob) (entry : Entry) (are : AreJobsOf entries number old) (given : 1 ≤ entry.region) (low : entry.region ≤ 64) (valid : IsEntry entry) (adds : AddsTo entry old new) where
   abbrev at : ℕ
@@ -60,6 +66,12 @@ module _ (entries : List Entry) (number : ℕ) (old new : List EditsJob) (entry 
         | inr this ↦ subst (λ (x : Entry). Contains (entries ++ entry ∷ []) x × (x.region ≡ k + 1) × IsEntry x) this (Contains-push entries entry, omega (arith, is, given), valid)
       ]
       | inr other ↦ (let r = are.each k d e lt (subst (λ (j : EditsJob). Contains j.entries.items e) (elsewhere k d other) has) in (Contains-append_left entries (entry ∷ []) e r.0, r.1, r.2))
+    ];
+    are = λ k d lt. elim (cases_eq k at) as (λ _. (get_or now k d).entries.items ≡ entries_of (k + 1) (entries ++ entry ∷ [])) [
+      | inl is ↦ ap (λ (j : EditsJob). j.entries.items) (here k d is) ∙ (adds.2 d).1 ∙ ap (λ (i : ℕ). (get_or old i d).entries.items ++ entry ∷ []) (sym is) ∙ ap (λ (l : List Entry). l ++ entry ∷ []) (are.are k d lt)
+          ∙ sym (of_more (k + 1) entries entry ∙ ap (λ (b : Bool). entries_of (k + 1) entries ++ cond b (entry ∷ []) []) (eq-eqb entry.region (k + 1) (omega (arith, is, given))))
+      | inr other ↦ ap (λ (j : EditsJob). j.entries.items) (elsewhere k d other) ∙ are.are k d lt
+          ∙ sym (of_more (k + 1) entries entry ∙ ap (λ (b : Bool). entries_of (k + 1) entries ++ cond b (entry ∷ []) []) (ne_eqb entry.region (k + 1) (λ is. other (omega (arith, is, given)))) ∙ append-nil (entries_of (k + 1) entries))
     ];
     all = λ e has. elim (Contains-push_cases entries entry e has) as (λ _. (k : ℕ) × (k < 64) × ((d : EditsJob) → Contains (get_or now k d).entries.items e)) [
       | inl before ↦ (let r = are.all e before in (

@@ -9,3 +9,4 @@ pub mod Grouped
 pub mod Raising
 pub mod LogNumbers
 pub mod Plans
+pub mod AfterSplit

@@ -1,5 +1,5 @@
 -- What a plan gives the steps that change files.
-use Rattle.std.proofs.Common.{◌≡◌, ◌≢◌, ◌⊎◌, inl, inr, ℕ, ◌+◌, ◌<◌, ◌≤◌, ◌^◌, List, [], ◌∷◌, length, take, get_or, Contains, Some, None, is_some, refl, sym, ap, ◌∙◌, subst, arith}
+use Rattle.std.proofs.Common.{◌≡◌, ◌⊎◌, inl, inr, ℕ, ◌+◌, ◌<◌, ◌≤◌, ◌^◌, List, [], ◌∷◌, length, take, get_or, Contains, Some, None, is_some, refl, sym, ap, ◌∙◌, subst, arith}
 use Rattle.std.specs.FinMap.{keys}
 use Rattle.std.proofs.lemmas.Bool.{cases_lt}
 use Rattle.std.proofs.lemmas.List.{get_or-take, length-take}
@@ -26,7 +26,7 @@ use Rattle.wal_split.specs.declared.job.EditsJob.{EditsJob}
 use Rattle.wal_split.specs.declared.planning.Plan.{Plan}
 use Rattle.wal_split.specs.Unflushed.{IsAbove, IsBefore}
 use Rattle.wal_split.specs.Grouped.{edits_name}
-use Rattle.wal_split.specs.Jobs.{AreJobs, AreFreeNames, AllLogged}
+use Rattle.wal_split.specs.Jobs.{AreJobs, AreFreeNames, AllLogged, IsNoJob}
 use Rattle.wal_split.specs.Logs.{AreFree, AreRising, IsOther, log_name, old_name}
 use Rattle.wal_split.specs.Covered.{LogsCovered}
 use Rattle.wal_split.specs.Planned.{IsPlan}
@@ -38,13 +38,13 @@ module _ (names : List Name) (xs : List FoundEntry) (ss : List FoundStore) (p : 
   abbrev jobs : List EditsJob
   jobs = p.jobs.items
 
-  place : (j : EditsJob) → Contains jobs j → (k : ℕ) × (k < 64) × (get_or jobs k j ≡ j)
+  pub place : (j : EditsJob) → Contains jobs j → (k : ℕ) × (k < 64) × (get_or jobs k j ≡ j)
   place j has = (has.0, omega (arith, has.1, plan.jobs.long), has.2)
 
-  name_at : (j : EditsJob) (k : ℕ) → k < 64 → get_or jobs k j ≡ j → j.name ≡ edits_name (k + 1) plan.number
+  pub name_at : (j : EditsJob) (k : ℕ) → k < 64 → get_or jobs k j ≡ j → j.name ≡ edits_name (k + 1) plan.number
   name_at j k lt is = sym (ap (λ (x : EditsJob). x.name) is) ∙ plan.jobs.names k j lt
 
-  entry_at : (j : EditsJob) (k : ℕ) (e : Entry) → k < 64 → get_or jobs k j ≡ j → Contains j.entries.items e → Contains plan.logged e × (e.region ≡ k + 1) × IsEntry e
+  pub entry_at : (j : EditsJob) (k : ℕ) (e : Entry) → k < 64 → get_or jobs k j ≡ j → Contains j.entries.items e → Contains plan.logged e × (e.region ≡ k + 1) × IsEntry e
   entry_at j k e lt is has = plan.jobs.each k j e lt (subst (λ (x : EditsJob). Contains x.entries.items e) (sym is) has)
 
   pub kind_of : (j : EditsJob) → Contains jobs j → j.name.kind ≡ kinds.Edits
@@ -73,7 +73,7 @@ module _ (names : List Name) (xs : List FoundEntry) (ss : List FoundStore) (p : 
       take_short : (i : ℕ) → length (take i jobs) ≤ i
       take_short i = omega (arith, length-take i jobs)
 
-valid_entry : (files : Files) (name : Name) (l : List Entry) (e : Entry) → IsLogFile files name l → Contains l e → IsEntry e
+pub valid_entry : (files : Files) (name : Name) (l : List Entry) (e : Entry) → IsLogFile files name l → Contains l e → IsEntry e
 valid_entry files name l e file member = go file.text
   where
     go : IsLogText (key_of name) file.bytes l file.ended → IsEntry e
@@ -82,10 +82,10 @@ valid_entry files name l e file member = go file.text
 
 module _ (told : Type 0) (is_told : told) (v : DiskView) (true_disk : IsTrueDisk v) (settled : IsSettled v) (xs : List FoundEntry) (ss : List FoundStore) (p : Plan)
     (read : AreRead told v.files (keys v.files) (keys v.files) xs ss) (plan : IsPlan (keys v.files) xs ss p) where
-  small : (m : Name) → IsPresent v.files m → m.number ≤ 2 ^ 62
+  pub small : (m : Name) → IsPresent v.files m → m.number ≤ 2 ^ 62
   small m here = elim (cases_lt (2 ^ 62) m.number) as (λ _. m.number ≤ 2 ^ 62) [ inl high ↦ absurd (read.good m (among_names v.files m here) (inl high)) | inr low ↦ low ]
 
-  is_some_there : (m : Name) (c : List ℕ) → Reads v.files m c → IsPresent v.files m
+  pub is_some_there : (m : Name) (c : List ℕ) → Reads v.files m c → IsPresent v.files m
   is_some_there m c reads none = absurd (cc (sym none ∙ reads))
 
   log_named : (m : Name) → Contains (keys v.files) m → m.kind ≡ kinds.Log → m ≡ log_name m.number
@@ -103,7 +103,7 @@ module _ (told : Type 0) (is_told : told) (v : DiskView) (true_disk : IsTrueDisk
     settled.none_gone j.name,
   )
 
-  log_there : (n : ℕ) → Contains p.logs.items n → Contains (keys v.files) (log_name n)
+  pub log_there : (n : ℕ) → Contains p.logs.items n → Contains (keys v.files) (log_name n)
   log_there n has =
       let r = log_of (keys v.files) n (subst (λ (l : List ℕ). Contains l n) plan.logs has) in
       subst (λ (m : Name). Contains (keys v.files) m) (log_named r.0 r.1 r.2 ∙ ap log_name r.3) r.1
@@ -133,16 +133,16 @@ module _ (told : Type 0) (is_told : told) (v : DiskView) (true_disk : IsTrueDisk
       subst (λ (d : Entry). IsLogged v.files d) r.2 (logged_from r.0 r.1)
 
   -- what is not above the flushed numbers is flushed
-  flushed_low : (e : Entry) → IsEntry e → ¬ IsAbove plan.upto e → (m : ℕ) × FlushesTo v.files e.region m × (e.number ≤ m)
+  flushed_low : (e : Entry) → IsEntry e → ¬ IsAbove p.flushed.items e → (m : ℕ) × FlushesTo v.files e.region m × (e.number ≤ m)
   flushed_low e valid not =
       let g = plan.are_flushed.each e.region (omega (arith, valid.region)) in
-      let low : e.number ≤ get_or plan.upto e.region 0 = elim (cases_lt (get_or plan.upto e.region 0) e.number) as (λ _. e.number ≤ get_or plan.upto e.region 0) [ inl above ↦ absurd (not above) | inr le ↦ le ] in
+      let low : e.number ≤ get_or p.flushed.items e.region 0 = elim (cases_lt (get_or p.flushed.items e.region 0) e.number) as (λ _. e.number ≤ get_or p.flushed.items e.region 0) [ inl above ↦ absurd (not above) | inr le ↦ le ] in
       elim g.reached as (λ _. (m : ℕ) × FlushesTo v.files e.region m × (e.number ≤ m)) [
-        | inl (x, has, region, to) ↦ (get_or plan.upto e.region 0, (x.name, store_of x, subst (λ (r : ℕ). IsStoreFile v.files r x.name (store_of x)) region (read.from_stores is_told x has), to), low)
+        | inl (x, has, region, to) ↦ (get_or p.flushed.items e.region 0, (x.name, store_of x, subst (λ (r : ℕ). IsStoreFile v.files r x.name (store_of x)) region (read.from_stores is_told x has), to), low)
         | inr none ↦ absurd (omega (arith, none, low, valid.number_given))
       ]
 
-  flushed_bound : (r m : ℕ) → r ≤ 64 → FlushesTo v.files r m → m ≤ get_or plan.upto r 0
+  pub flushed_bound : (r m : ℕ) → r ≤ 64 → FlushesTo v.files r m → m ≤ get_or p.flushed.items r 0
   flushed_bound r m low (name, s, file, to) =
       let x = read.stores is_told name file.bytes (among_names v.files name (is_some_there name file.bytes file.there)) file.kind file.there file.gate in
       let one : s ≡ store_of x.0 = one_store name.region file.bytes s (store_of x.0) (subst (λ (k : ℕ). IsStoreText k file.bytes s) (sym file.of) file.text) (subst (λ (b : List ℕ). IsStoreText name.region b (store_of x.0)) (same_bytes x.3.bytes file.bytes (sym x.3.there ∙ file.there)) x.3.text) in
@@ -151,11 +151,11 @@ module _ (told : Type 0) (is_told : told) (v : DiskView) (true_disk : IsTrueDisk
       same_bytes : (a b : List ℕ) → Some a ≡ Some b → a ≡ b
       same_bytes a b e = cc e
 
-  first_job : (js : List EditsJob) → 0 < length js → EditsJob
+  pub first_job : (js : List EditsJob) → 0 < length js → EditsJob
   first_job [] lt = absurd (omega (arith, lt))
   first_job (j ∷ js) lt = j
 
-  abbrev some_job : EditsJob
+  abbrev pub some_job : EditsJob
   some_job = first_job p.jobs.items (omega (arith, plan.jobs.long))
 
   pub logs_covered : LogsCovered v.files p.jobs.items p.logs.items
@@ -165,11 +165,20 @@ module _ (told : Type 0) (is_told : told) (v : DiskView) (true_disk : IsTrueDisk
     where
       one : (l : List Entry) → IsLogFile v.files (log_name n) l → ((e : Entry) → Contains l e → Contains xs (place_in (log_name n) e)) → (e : Entry) → Contains l e
           → ((j : EditsJob) × Contains p.jobs.items j × Contains j.entries.items e) ⊎ ((m : ℕ) × FlushesTo v.files e.region m × (e.number ≤ m))
-      one l file all e member = elim (cases_lt (get_or plan.upto e.region 0) e.number) as (λ _. ((j : EditsJob) × Contains p.jobs.items j × Contains j.entries.items e) ⊎ ((m : ℕ) × FlushesTo v.files e.region m × (e.number ≤ m))) [
+      one l file all e member = elim (cases_lt (get_or p.flushed.items e.region 0) e.number) as (λ _. ((j : EditsJob) × Contains p.jobs.items j × Contains j.entries.items e) ⊎ ((m : ℕ) × FlushesTo v.files e.region m × (e.number ≤ m))) [
         | inl above ↦
             let q = plan.jobs.all e (plan.parts.all_logged (place_in (log_name n) e) (all e member) refl above) in
             inl (get_or p.jobs.items q.0 some_job, Contains-get_or p.jobs.items q.0 some_job (omega (arith, q.1, plan.jobs.long)), q.2 some_job)
         | inr low ↦ inr (flushed_low e (valid_entry v.files (log_name n) l e file member) (λ above. omega (arith, above, low)))
+      ]
+
+  -- what no store's number reaches is above the flushed numbers
+  pub is_above : (e : Entry) → IsEntry e → ((m : ℕ) → FlushesTo v.files e.region m → m < e.number) → IsAbove p.flushed.items e
+  is_above e valid above =
+      let g = plan.are_flushed.each e.region (omega (arith, valid.region)) in
+      elim g.reached as (λ _. IsAbove p.flushed.items e) [
+        | inl (x, has, region, to) ↦ above (get_or p.flushed.items e.region 0) (x.name, store_of x, subst (λ (r : ℕ). IsStoreFile v.files r x.name (store_of x)) region (read.from_stores is_told x has), to)
+        | inr none ↦ omega (arith, none, valid.number_given)
       ]
 
   pub counted : Counts v.files p.entries
@@ -194,19 +203,11 @@ module _ (told : Type 0) (is_told : told) (v : DiskView) (true_disk : IsTrueDisk
       apart_by d e (inl less) same = omega (arith, less, ap (λ (x : Entry). x.region) same)
       apart_by d e (inr (region, less)) same = omega (arith, less, ap (λ (x : Entry). x.number) same)
 
-      is_above : (e : Entry) → IsEntry e → ((m : ℕ) → FlushesTo v.files e.region m → m < e.number) → IsAbove plan.upto e
-      is_above e valid above =
-          let g = plan.are_flushed.each e.region (omega (arith, valid.region)) in
-          elim g.reached as (λ _. IsAbove plan.upto e) [
-            | inl (x, has, region, to) ↦ above (get_or plan.upto e.region 0) (x.name, store_of x, subst (λ (r : ℕ). IsStoreFile v.files r x.name (store_of x)) region (read.from_stores is_told x has), to)
-            | inr none ↦ omega (arith, none, valid.number_given)
-          ]
-
-  module _ (w : DiskView) (others : (m : Name) → ((j : EditsJob) → Contains p.jobs.items j → m ≢ j.name) → IsOther p.logs.items m → content w.files m ≡ content v.files m)
+  module _ (w : DiskView) (others : (m : Name) → IsNoJob p.jobs.items m → IsOther p.logs.items m → content w.files m ≡ content v.files m)
       (gone : (n : ℕ) → Contains p.logs.items n → IsAbsent w.files (log_name n)) where
     pub no_log_left : (m : Name) → m.kind ≡ kinds.Log → content w.files m ≡ None
     no_log_left m log = elim (present_cases v.files m) as (λ _. content w.files m ≡ None) [
-      | inl none ↦ others m (λ j has is. absurd (cc (sym log ∙ ap (λ (x : Name). x.kind) is ∙ kind_of (keys v.files) xs ss p plan j has)))
+      | inl none ↦ others m (λ j has some is. absurd (cc (sym log ∙ ap (λ (x : Name). x.kind) is ∙ kind_of (keys v.files) xs ss p plan j has)))
           (λ n has. ((λ is. there_of v.files (log_name n) (log_there n has) (ap (λ (x : Name). content v.files x) (sym is) ∙ none)), λ is. absurd (cc (sym log ∙ ap (λ (x : Name). x.kind) is)))) ∙ none
       | inr some ↦
           let has = among_names v.files m (is_some_there m some.0 some.1) in
@@ -224,7 +225,7 @@ module _ (told : Type 0) (is_told : told) (v : DiskView) (true_disk : IsTrueDisk
 
         big : 2 ^ 63 < m.number → ⊥
         big high =
-            let same = others m (λ j has is. (let n = number_of (keys v.files) xs ss p plan j has in let k : m.number ≡ j.name.number = ap (λ (x : Name). x.number) is in omega (arith, high, n, k, plan.low)))
+            let same = others m (λ j has some is. (let n = number_of (keys v.files) xs ss p plan j has in let k : m.number ≡ j.name.number = ap (λ (x : Name). x.number) is in omega (arith, high, n, k, plan.low)))
             (λ n has. ((λ is. (let k : m.number ≡ n = ap (λ (x : Name). x.number) is in let l = log_small n has in omega (arith, high, k, l))), λ is. (let k : m.number ≡ n = ap (λ (x : Name). x.number) is in let l = log_small n has in omega (arith, high, k, l)))) in
             elim (present_cases v.files m) as (λ _. ⊥) [
               | inl none ↦ here (same ∙ none)
@@ -233,7 +234,7 @@ module _ (told : Type 0) (is_told : told) (v : DiskView) (true_disk : IsTrueDisk
 
     pub stores_left : StoresStand v.files w.files
     stores_left m store =
-        others m (λ j has is. absurd (cc (sym store ∙ ap (λ (x : Name). x.kind) is ∙ kind_of (keys v.files) xs ss p plan j has)))
+        others m (λ j has some is. absurd (cc (sym store ∙ ap (λ (x : Name). x.kind) is ∙ kind_of (keys v.files) xs ss p plan j has)))
         (λ n has. ((λ is. absurd (cc (sym store ∙ ap (λ (x : Name). x.kind) is))), λ is. absurd (cc (sym store ∙ ap (λ (x : Name). x.kind) is))))
 
 -- files that recover to what one base does recover alike

@@ -44,7 +44,7 @@ no_old is = absurd cc
 no_log : kinds.Edits ≡ kinds.Log → ⊥
 no_log is = absurd cc
 
-edits_other : (logs : List ℕ) (m : Name) → m.kind ≡ kinds.Edits → IsOther logs m
+pub edits_other : (logs : List ℕ) (m : Name) → m.kind ≡ kinds.Edits → IsOther logs m
 edits_other logs m kind n has = (λ is. absurd (cc (sym kind ∙ ap (λ (x : Name). x.kind) is)), λ is. absurd (cc (sym kind ∙ ap (λ (x : Name). x.kind) is)))
 
 store_other : (logs : List ℕ) (m : Name) → m.kind ≡ kinds.Store → IsOther logs m

@@ -3,6 +3,7 @@ use Rattle.std.specs.Prelude.{◌≡◌, ◌+◌, ◌-◌, ◌<◌, ℕ, List, [
 use Rattle.log_model.specs.declared.name.Name.{Name}
 use Rattle.log_model.specs.declared.name.NameKind.TheVariants as kinds
 use Rattle.log_model.specs.Entry.{Entry, IsEntry}
+use Rattle.log_model.specs.Recovered.{entries_of}
 use Rattle.wal_split.specs.declared.job.EditsJob.{EditsJob}
 
 abbrev pub edits_name : ℕ → ℕ → Name
@@ -19,6 +20,7 @@ pub record AreJobsOf (entries : List Entry) (number : ℕ) (jobs : List EditsJob
   pub long : length jobs ≡ 64
   pub names : (k : ℕ) (d : EditsJob) → k < 64 → (slice_index_or jobs k d).name ≡ edits_name (k + 1) number
   pub each : (k : ℕ) (d : EditsJob) (e : Entry) → k < 64 → Contains (slice_index_or jobs k d).entries.items e → Contains entries e × (e.region ≡ k + 1) × IsEntry e
+  pub are : (k : ℕ) (d : EditsJob) → k < 64 → (slice_index_or jobs k d).entries.items ≡ entries_of (k + 1) entries
   pub all : (e : Entry) → Contains entries e → (k : ℕ) × (k < 64) × ((d : EditsJob) → Contains (slice_index_or jobs k d).entries.items e)
 
 -- an entry goes behind the others of its region

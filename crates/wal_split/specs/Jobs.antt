@@ -1,5 +1,6 @@
 -- Edits files that are to be written.
-use Rattle.std.specs.Prelude.{◌≡◌, ◌≢◌, ◌<◌, ℕ, List, Contains, length, take, get_or}
+use Rattle.std.specs.Prelude.{◌≡◌, ◌≢◌, ◌<◌, ℕ, List, [], Contains, length, take, get_or}
+use Rattle.log_model.specs.declared.name.Name.{Name}
 use Rattle.log_model.specs.declared.name.NameKind.TheVariants as kinds
 use Rattle.log_model.specs.Entry.{Entry}
 use Rattle.log_model.specs.Files.{Files, IsAbsent, IsLogged}
@@ -20,3 +21,7 @@ AreFreeNames disk jobs = (j : EditsJob) → Contains jobs j → IsAbsent disk.fi
 -- each entry is logged
 abbrev pub AllLogged : Files → List EditsJob → Type 0
 AllLogged files jobs = (j : EditsJob) (e : Entry) → Contains jobs j → Contains j.entries.items e → IsLogged files e
+
+-- the name is of no edits file that is written: of none that has entries
+abbrev pub IsNoJob : List EditsJob → Name → Type 0
+IsNoJob jobs m = (j : EditsJob) → Contains jobs j → j.entries.items ≢ [] → m ≢ j.name

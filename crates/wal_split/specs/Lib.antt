@@ -11,3 +11,4 @@ pub mod Numbers
 pub mod Moments
 pub mod Planned
 pub mod Told
+pub mod Left

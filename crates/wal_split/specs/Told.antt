@@ -6,6 +6,7 @@ use Rattle.log_model.specs.declared.name.NameKind.TheVariants as kinds
 use Rattle.log_model.specs.Entry.{Entry}
 use Rattle.log_model.specs.Files.{Files, IsLogFile}
 use Rattle.log_model.specs.Recovered.{FlushesTo}
+use Rattle.wal_split.specs.declared.planning.Plan.{Plan}
 use Rattle.wal_split.specs.Numbers.{logs_of}
 
 -- how many logs there are
@@ -19,3 +20,8 @@ pub record Counts (files : Files) (n : ℕ) : Type 0 where
   pub apart : AllPairs (λ d e. d ≡ e → ⊥) entries
   pub each : (e : Entry) → Contains entries e → ((name : Name) × (es : List Entry) × (name.kind ≡ kinds.Log) × IsLogFile files name es × Contains es e) × ((m : ℕ) → FlushesTo files e.region m → m < e.number)
   pub all : (e : Entry) (name : Name) (es : List Entry) → name.kind ≡ kinds.Log → IsLogFile files name es → Contains es e → ((m : ℕ) → FlushesTo files e.region m → m < e.number) → Contains entries e
+
+-- the plan has the numbers of all logs, and counts those entries
+pub record IsCounted (files : Files) (plan : Plan) : Type 0 where
+  pub logs : length plan.logs.items ≡ log_count files
+  pub entries : Counts files plan.entries

@@ -11,6 +11,7 @@ mod job;
 mod numbering;
 mod planning;
 mod renaming;
+mod split_files;
 mod splitting;
 mod whole;
 
@@ -21,5 +22,6 @@ pub use gathered::{Unflushed, gather};
 pub use job::EditsJob;
 pub use planning::Plan;
 pub use renaming::rename_logs;
+pub use split_files::SplitFiles;
 pub use splitting::split_found;
-pub use whole::{SplitReport, split};
+pub use whole::{SplitReport, split, split_read};

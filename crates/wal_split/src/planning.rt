@@ -13,7 +13,7 @@ use crate::job::EditsJob;
 use crate::numbering::{log_numbers, next_number};
 use disk_images::Name;
 use entry_frame::Entry;
-use found_files::FoundFiles;
+use found_files::{FoundEntry, FoundStore};
 use kv_cell::NoMemory;
 use std::alloc::Global;
 
@@ -28,18 +28,24 @@ pub struct Plan {
     pub entries: u64,
     /// The entries that are not flushed, and stand in edits files alone.
     pub kept: Vec<Entry>,
+    /// The last flushed sequence id of each region, 0 where it has no store; the first is of region 0.
+    pub flushed: Vec<u64>,
 }
 
-/// Plans the split of these files, whose entries are in order and agree. No cell is copied.
-pub(crate) fn plan_split(alloc: Global, names: &[Name], files: FoundFiles) -> Result<Plan, NoMemory>
+/// Plans the split of these entries, which are in order and agree, beside these stores. No cell is copied.
+pub(crate) fn plan_split(
+    alloc: Global,
+    names: &[Name],
+    entries: Vec<FoundEntry>,
+    stores: &[FoundStore],
+) -> Result<Plan, NoMemory>
     requires numbers { (m : TheName) → Contains names.now m → m.number ≤ 2 ^ 62 }
-    requires regions { (x : TheStore) → Contains files.stores.items x → x.name.region ≤ 64 }
-    requires ordered { AreOrdered files.entries.items }
-    requires agree { AllAgree files.entries.items }
-    ensures { IfOk result (λ plan. IsPlan names.now files.entries.items files.stores.items plan) }
+    requires regions { (x : TheStore) → Contains stores.now x → x.name.region ≤ 64 }
+    requires ordered { AreOrdered entries.items }
+    requires agree { AllAgree entries.items }
+    ensures { IfOk result (λ plan. IsPlan names.now entries.items stores.now plan) }
 {
-    let FoundFiles { entries, stores } = files;
-    let flushed = flushed_numbers(alloc, &stores)?;
+    let flushed = flushed_numbers(alloc, stores)?;
     let logs = log_numbers(alloc, names)?;
     let pending = gather(alloc, entries, &flushed)?;
     let count = pending.logged.len() as u64;
@@ -49,5 +55,6 @@ pub(crate) fn plan_split(alloc: Global, names: &[Name], files: FoundFiles) -> Re
         logs,
         entries: count,
         kept: pending.kept,
+        flushed,
     })
 }

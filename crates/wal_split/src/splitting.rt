@@ -1,14 +1,16 @@
 //! The steps of a split that change files.
 
-ghost use Rattle.std.specs.Prelude.{◌≡◌, ◌≢◌, ◌≤◌, ◌+◌, ℕ, Contains, IsTrue, OnOk, IsErrOf};
+ghost use Rattle.std.specs.Prelude.{◌≡◌, ◌≤◌, ◌+◌, ℕ, Contains, None, IsTrue, OnOk, IsErrOf};
 ghost use Rattle.log_model.specs.declared.name.Name.{Name as TheName};
+ghost use Rattle.log_model.specs.Entry.{Entry as TheEntry};
 ghost use Rattle.log_model.specs.Files.{Files, IsAbsent, content};
+ghost use Rattle.recovery.specs.Change.{HasText};
 ghost use Rattle.disk_images.specs.Crash.{Throughout};
 ghost use Rattle.disk_images.specs.Calls.{HasCause};
 ghost use Rattle.recovery.specs.Alike.{AllAlike};
 ghost use Rattle.wal_split.specs.Held.{IsHeld};
 ghost use Rattle.wal_split.specs.declared.job.EditsJob.{EditsJob as TheJob};
-ghost use Rattle.wal_split.specs.Jobs.{AreJobs, AreFreeNames, AllLogged};
+ghost use Rattle.wal_split.specs.Jobs.{AreJobs, AreFreeNames, AllLogged, IsNoJob};
 ghost use Rattle.wal_split.specs.Logs.{AreFree, AreRising, IsOther, log_name};
 ghost use Rattle.wal_split.specs.Covered.{LogsCovered};
 
@@ -34,7 +36,9 @@ pub fn split_found<D: Disk>(
     ensures any_moment { IsTrue D.told → (base : Files) → IsHeld base (D.view disk.old) → AllLogged (D.view disk.old).files jobs.now → LogsCovered (D.view disk.old).files jobs.now logs.now → (by : ℕ) × Throughout (AllAlike base) by (D.view disk.old) (D.view disk.new) }
     ensures held { IsTrue D.told → (base : Files) → IsHeld base (D.view disk.old) → AllLogged (D.view disk.old).files jobs.now → LogsCovered (D.view disk.old).files jobs.now logs.now → OnOk result (IsHeld base (D.view disk.new)) }
     ensures gone { IsTrue D.told → OnOk result ((n : ℕ) → Contains logs.now n → IsAbsent (D.view disk.new).files (log_name n)) }
-    ensures others { IsTrue D.told → OnOk result ((m : TheName) → ((j : TheJob) → Contains jobs.now j → m ≢ j.name) → IsOther logs.now m → content (D.view disk.new).files m ≡ content (D.view disk.old).files m) }
+    ensures written { IsTrue D.told → OnOk result ((j : TheJob) (e : TheEntry) → Contains jobs.now j → Contains j.entries.items e
+        → HasText j.name j.entries.items None (content (D.view disk.new).files j.name)) }
+    ensures others { IsTrue D.told → OnOk result ((m : TheName) → IsNoJob jobs.now m → IsOther logs.now m → content (D.view disk.new).files m ≡ content (D.view disk.old).files m) }
     ensures cause { HasCause (D.faults disk.old) (D.faults disk.new) (IsErrOf result FileRefusal.DiskFault) }
 {
     write_all(alloc, disk, jobs)?;

@@ -13,12 +13,14 @@ ghost use Rattle.found_files.specs.Sorted.{AreOrdered, AllAgree};
 ghost use Rattle.found_files.specs.Refusal.{IfDamage};
 ghost use Rattle.wal_split.specs.Held.{IsSplit};
 ghost use Rattle.wal_split.specs.Moments.{During, WasOrAlike};
-ghost use Rattle.wal_split.specs.Told.{log_count, Counts};
+ghost use Rattle.wal_split.specs.Left.{IsInRange, AreLeft, AtMostOneHigher};
+ghost use Rattle.wal_split.specs.Told.{log_count, Counts, IsCounted};
 
-use crate::planning::{Plan, plan_split};
+use crate::planning::plan_split;
+use crate::split_files::SplitFiles;
 use crate::splitting::split_found;
 use disk_images::Disk;
-use found_files::{Finding, SplitRefusal, find_files};
+use found_files::{Finding, FoundFiles, SplitRefusal, find_files};
 use log_file::FileRefusal;
 use std::alloc::Global;
 
@@ -46,6 +48,31 @@ pub fn split<D: Disk>(alloc: Global, disk: &mut D) -> Result<SplitReport, SplitR
     ensures damaged { IsTrue D.told → IfDamage result (λ damage. IsDamage (D.view disk.old).files damage × ((D.view disk.new).files ≡ (D.view disk.old).files)) }
     ensures cause { HasCause (D.faults disk.old) (D.faults disk.new) (IsErrOf result SplitRefusal.DiskFault) }
 {
+    match split_read(alloc, disk) {
+        Ok(files) => Ok(SplitReport {
+            logs: files.plan.logs.len() as u64,
+            entries: files.plan.entries,
+        }),
+        Err(e) => Err(e),
+    }
+}
+
+/// The same, which hands on what was read and what was made of it.
+pub fn split_read<D: Disk>(alloc: Global, disk: &mut D) -> Result<SplitFiles, SplitRefusal>
+    ensures any_moment { IsTrue D.told → During (WasOrAlike (D.view disk.old)) (D.view disk.old) (D.view disk.new) }
+    ensures split { IsTrue D.told → OnOk result (IsSplit (D.view disk.new)) }
+    ensures alike { IsTrue D.told → OnOk result (AllAlike (D.view disk.old).files (D.view disk.new).files) }
+    ensures stores { IsTrue D.told → OnOk result (StoresStand (D.view disk.old).files (D.view disk.new).files) }
+    ensures counts { IsTrue D.told → IfOk result (λ x. IsCounted (D.view disk.old).files x.plan) }
+    // What it hands on is what the files had, and where it stands now.
+    ensures in_range { IfOk result (λ x. IsInRange x) }
+    ensures left { IsTrue D.told → IfOk result (λ x. AreLeft (D.view disk.new).files x) }
+    ensures found { IsTrue D.told → IfOk result (λ x. x.names ≡ keys (D.view disk.old).files) }
+    ensures names { IsTrue D.told → OnOk result (AtMostOneHigher (D.view disk.old).files (D.view disk.new).files) }
+    ensures sound { IsTrue D.told → OnOk result (IsSound (D.view disk.old).files) }
+    ensures damaged { IsTrue D.told → IfDamage result (λ damage. IsDamage (D.view disk.old).files damage × ((D.view disk.new).files ≡ (D.view disk.old).files)) }
+    ensures cause { HasCause (D.faults disk.old) (D.faults disk.new) (IsErrOf result SplitRefusal.DiskFault) }
+{
     match find_files(alloc, disk) {
         Ok(found) => split_files(alloc, disk, found),
         Err(e) => Err(e),
@@ -57,7 +84,7 @@ fn split_files<D: Disk>(
     alloc: Global,
     disk: &mut D,
     found: Finding,
-) -> Result<SplitReport, SplitRefusal>
+) -> Result<SplitFiles, SplitRefusal>
     requires settled { IsTrue D.told → IsSettled (D.view disk.old) }
     requires fit { IsTrue D.told → IsFit (D.view disk.old).files }
     requires names { IsTrue D.told → found.names ≡ keys (D.view disk.old).files }
@@ -69,21 +96,22 @@ fn split_files<D: Disk>(
     ensures split { IsTrue D.told → OnOk result (IsSplit (D.view disk.new)) }
     ensures alike { IsTrue D.told → OnOk result (AllAlike (D.view disk.old).files (D.view disk.new).files) }
     ensures stores { IsTrue D.told → OnOk result (StoresStand (D.view disk.old).files (D.view disk.new).files) }
-    ensures report { IsTrue D.told → IfOk result (λ report. (report.logs ≡ log_count (D.view disk.old).files) × Counts (D.view disk.old).files report.entries) }
+    ensures counts { IsTrue D.told → IfOk result (λ x. IsCounted (D.view disk.old).files x.plan) }
+    ensures in_range { IfOk result (λ x. IsInRange x) }
+    ensures left { IsTrue D.told → IfOk result (λ x. AreLeft (D.view disk.new).files x) }
+    ensures found { IsTrue D.told → IfOk result (λ x. x.names ≡ keys (D.view disk.old).files) }
+    ensures names { IsTrue D.told → OnOk result (AtMostOneHigher (D.view disk.old).files (D.view disk.new).files) }
     ensures undamaged { IfDamage result (λ damage. ⊥) }
     ensures cause { HasCause (D.faults disk.old) (D.faults disk.new) (IsErrOf result SplitRefusal.DiskFault) }
 {
     let Finding { names, files } = found;
-    let Plan {
-        jobs,
-        logs,
-        entries,
-        kept: _,
-    } = plan_split(alloc, names.as_slice(), files)?;
-    match split_found(alloc, disk, &jobs, &logs) {
-        Ok(()) => Ok(SplitReport {
-            logs: logs.len() as u64,
-            entries,
+    let FoundFiles { entries, stores } = files;
+    let plan = plan_split(alloc, names.as_slice(), entries, &stores)?;
+    match split_found(alloc, disk, &plan.jobs, &plan.logs) {
+        Ok(()) => Ok(SplitFiles {
+            names,
+            stores,
+            plan,
         }),
         Err(FileRefusal::Memory) => Err(SplitRefusal::Memory),
         Err(FileRefusal::DiskFault) => Err(SplitRefusal::DiskFault),

@@ -1,9 +1,8 @@
-use Rattle.std.proofs.Common.{◌≡◌, ℕ, List, sym, ap, subst, refl, inl, ◌∙◌}
+use Rattle.std.proofs.Common.{ℕ, ap, refl, inl}
 use Rattle.log_model.specs.Files.{key_of}
-use Rattle.log_model.specs.LogText.{IsDamaged}
 use Rattle.log_model.proofs.TextLaws.{one_damage}
 use Rattle.command_ends.specs.declared.status.Status.TheVariants.{Damaged}
-use Rattle.command_ends.specs.declared.status.Damage.TheVariants.{Bytes}
+use Rattle.log_model.specs.declared.damage.Damage.TheVariants.{Bytes}
 use Rattle.command_ends.proofs.Readers.{same_bytes}
 use Rattle.command_ends.proofs.log_reading.read_there.Goals as goal
 

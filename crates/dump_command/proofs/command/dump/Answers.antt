@@ -4,8 +4,8 @@ use Rattle.command_ends.specs.LogFiles.{IsLogRefusal}
 use Rattle.command_ends.specs.Status.{IsOrEarlier, refusal_line}
 use Rattle.command_ends.specs.declared.status.Status.{Status}
 use Rattle.command_ends.specs.declared.status.Status.TheVariants.{Damaged, DiskFault}
-use Rattle.command_ends.specs.declared.status.Damage.TheVariants.{Bytes}
-use Rattle.command_ends.proofs.Readers.{ends_printed, ends_refused}
+use Rattle.log_model.specs.declared.damage.Damage.TheVariants.{Bytes}
+use Rattle.command_ends.proofs.Readers.{ends_printed, ends_refused, lined}
 use Rattle.dump_command.specs.Dumped.{DumpDone}
 use Rattle.dump_command.specs.Found.{found_text}
 use Rattle.dump_command.proofs.Dumps.{dumped}
@@ -20,6 +20,9 @@ returns-in-Ok-clause-ends g c told taken script =
     ends_printed (λ text. DumpDone c.args.number (invocation script before after had has) text) c.print_found.result (found_text c.in-Ok.found) script before after had has _ _
     c.print_found.ensures.status (dumped c.args.number c.in-Ok.found script before after had has (c.in-Ok.ensures.found told) c.in-Ok.ensures.number) (c.in-Ok.ensures.unchanged told)
     (c.print_found.ensures.prints taken) (c.print_found.ensures.refusal taken)
+
+pub returns-in-Ok-clause-refusal : goal.returns-in-Ok-clause-refusal
+returns-in-Ok-clause-refusal g c taken = lined c.print_found.result _ _ _ c.print_found.ensures.status (c.print_found.ensures.refusal taken)
 
 pub returns-in-Ok-clause-damaged : goal.returns-in-Ok-clause-damaged
 returns-in-Ok-clause-damaged g c told name at there damaged = absurd (c.in-Ok.ensures.damaged told name at there damaged)

@@ -3,8 +3,8 @@ use Rattle.log_model.specs.declared.name.Name.{Name}
 use Rattle.command_ends.specs.LogFiles.{IsDamagedLog, IsLogDamage, IsFound}
 use Rattle.command_ends.specs.Status.{IsOrEarlier, IsDamageOf}
 use Rattle.command_ends.specs.declared.status.Status.TheVariants.{Damaged, DiskFault}
-use Rattle.command_ends.specs.declared.status.Damage.TheVariants.{Bytes}
-use Rattle.command_ends.proofs.Endings.{goes_on}
+use Rattle.log_model.specs.declared.damage.Damage.TheVariants.{Bytes}
+use Rattle.command_ends.proofs.Endings.{keeps_on}
 use Rattle.dump_command.proofs.Dumps.{no_damage, log_reported}
 use Rattle.dump_command.proofs.command.find_either.Goals as goal
 
@@ -18,7 +18,7 @@ returns-in-Ok-Some-clause-damaged g c told name at dumped damaged =
     dumped damaged
 
 pub returns-in-Ok-None-clause-moments : goal.returns-in-Ok-None-clause-moments
-returns-in-Ok-None-clause-moments g c told = goes_on _ _ _ (c.in-Ok-None.ensures.moments told) (c.find_old.ensures.moments told)
+returns-in-Ok-None-clause-moments g c told = keeps_on (g.D.Disk.view c.args.disk.now) (g.D.Disk.view c.find_log.new.disk) (g.D.Disk.view c.find_old.new.disk) (c.in-Ok-None.ensures.moments told) (c.find_old.ensures.moments told)
 
 pub returns-in-Err-clause-damaged : goal.returns-in-Err-clause-damaged
 returns-in-Err-clause-damaged g c told name at dumped damaged =

@@ -3,7 +3,7 @@ use Rattle.log_model.specs.declared.name.Name.{Name}
 use Rattle.command_ends.specs.LogFiles.{IsDamagedLog}
 use Rattle.command_ends.specs.Status.{IsOrEarlier}
 use Rattle.command_ends.specs.declared.status.Status.TheVariants.{Damaged, DiskFault}
-use Rattle.command_ends.specs.declared.status.Damage.TheVariants.{Bytes}
+use Rattle.log_model.specs.declared.damage.Damage.TheVariants.{Bytes}
 use Rattle.dump_command.proofs.command.find_old.Goals as goal
 
 pub returns-in-Ok-Some-clause-damaged : goal.returns-in-Ok-Some-clause-damaged

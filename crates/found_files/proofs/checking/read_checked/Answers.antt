@@ -11,6 +11,7 @@ use Rattle.found_files.specs.Found.{AreRead}
 use Rattle.found_files.specs.Checked.{TellsOne}
 use Rattle.found_files.proofs.ReadSteps.{one_read}
 use Rattle.found_files.proofs.Told.{handed_on}
+use Rattle.found_files.proofs.NameOrder.{below_this}
 use Rattle.found_files.proofs.Watched.{watched_on, reads_now}
 use Rattle.found_files.proofs.Whole.{first_told}
 use Rattle.found_files.proofs.checking.read_checked.Goals as goal
@@ -56,7 +57,8 @@ loop-name-preserved g c =
     record {
       read = subst (λ (l : List Name). AreRead (IsTrue g.D.Disk.told) u.files names l c.read_one.new.found.entries.items c.read_one.new.found.stores.items) (sym (take_more names i some_name c.loop-name-test.true))
           (one_read (IsTrue g.D.Disk.told) u.files v.files (λ told. (c.loop-name.invariant.watches told).1.files) names (take i names) (get_or names i some_name) c.loop-name.found c.read_one.new.found c.loop-name.invariant.read
-          (c.in_ok-read_one.ensures.read names (rw c.deref.ensures.value c.in_ok-olds.ensures)));
+          (c.in_ok-read_one.ensures.read names (rw c.deref.ensures.value c.in_ok-olds.ensures))
+          (λ told. below_this u.files names i some_name (c.requires.names told) c.loop-name-test.true));
       watches = λ told. watched_on u v w (c.loop-name.invariant.watches told) (c.read_one.ensures.watches told);
       faults = omega (arith, c.loop-name.invariant.faults, c.read_one.ensures.cause.later);
     }

@@ -1,6 +1,11 @@
 use Rattle.disk_images.specs.Calls.{Rose}
-use Rattle.load_run.proofs.Finish.{word_is, show_reported, dump_reported, show_complete, dump_complete}
-use Rattle.load_run.specs.declared.words.Word.TheVariants.{Show, Dump}
+use Rattle.std.proofs.Common.{Some}
+use Rattle.disk_images.specs.Crash.{IsImageNow}
+use Rattle.wal_split.specs.Moments.{WasOrAlike}
+use Rattle.command_ends.proofs.Endings.{time_of}
+use Rattle.load_run.specs.Words.{To_log, To_show, To_dump, To_recover}
+use Rattle.load_run.proofs.Finish.{word_is, words_are, moments_of, show_reported, dump_reported, show_complete, dump_complete, recover_complete}
+use Rattle.load_run.specs.declared.words.Word.TheVariants.{Log, Show, Dump, Recover}
 use Rattle.load_run.proofs.command.run.Goals as goal
 
 pub returns-in-Some-Show-clause-damage : goal.returns-in-Some-Show-clause-damage
@@ -27,3 +32,39 @@ returns-in-Some-Dump-clause-complete g c told told_disk word names ready no_sour
     (Rose (g.D.Disk.faults c.args.disk) (g.D.Disk.faults c.dump.new.disk)) (Rose (g.K.Sink.faults c.args.out.now) (g.K.Sink.faults c.dump.new.out))
     (word_is c.in-Some-Dump.field-0 (Dump c.in-Some-Dump.number) _ word c.in-Some-Dump.ensures c.in-Some-Dump.field-0-is names)
     c.dump.ensures.status (c.dump.ensures.damage told_disk) c.dump.ensures.disk_cause c.dump.ensures.sink_cause ready no_disk no_sink
+
+pub returns-in-Some-Log-clause-any_moment : goal.returns-in-Some-Log-clause-any_moment
+returns-in-Some-Log-clause-any_moment g c told told_disk =
+    moments_of _ (Some To_log) (g.S.Source.left c.args.script.now) (g.D.Disk.view c.args.disk) (g.D.Disk.view c.log.new.disk)
+    (words_are c.in-Some-Log.field-0 Log _ c.in-Some-Log.ensures c.in-Some-Log.field-0-is) (c.log.ensures.any_moment told told_disk)
+
+pub returns-in-Some-Show-clause-moments : goal.returns-in-Some-Show-clause-moments
+returns-in-Some-Show-clause-moments g c told = time_of (IsImageNow (g.D.Disk.view c.args.disk)) (g.D.Disk.view c.args.disk) (g.D.Disk.view c.show.new.disk) (c.show.ensures.moments told)
+
+pub returns-in-Some-Show-clause-any_moment : goal.returns-in-Some-Show-clause-any_moment
+returns-in-Some-Show-clause-any_moment g c told told_disk =
+    moments_of _ (Some To_show) (g.S.Source.left c.args.script.now) (g.D.Disk.view c.args.disk) (g.D.Disk.view c.show.new.disk)
+    (words_are c.in-Some-Show.field-0 Show _ c.in-Some-Show.ensures c.in-Some-Show.field-0-is) (c.show.ensures.moments told_disk)
+
+pub returns-in-Some-Dump-clause-moments : goal.returns-in-Some-Dump-clause-moments
+returns-in-Some-Dump-clause-moments g c told = time_of (IsImageNow (g.D.Disk.view c.args.disk)) (g.D.Disk.view c.args.disk) (g.D.Disk.view c.dump.new.disk) (c.dump.ensures.moments told)
+
+pub returns-in-Some-Dump-clause-any_moment : goal.returns-in-Some-Dump-clause-any_moment
+returns-in-Some-Dump-clause-any_moment g c told told_disk =
+    moments_of _ (Some (To_dump c.in-Some-Dump.number)) (g.S.Source.left c.args.script.now) (g.D.Disk.view c.args.disk) (g.D.Disk.view c.dump.new.disk)
+    (words_are c.in-Some-Dump.field-0 (Dump c.in-Some-Dump.number) _ c.in-Some-Dump.ensures c.in-Some-Dump.field-0-is) (c.dump.ensures.moments told_disk)
+
+pub returns-in-Some-Recover-clause-moments : goal.returns-in-Some-Recover-clause-moments
+returns-in-Some-Recover-clause-moments g c told = time_of (WasOrAlike (g.D.Disk.view c.args.disk)) (g.D.Disk.view c.args.disk) (g.D.Disk.view c.recover.new.disk) (c.recover.ensures.any_moment told)
+
+pub returns-in-Some-Recover-clause-any_moment : goal.returns-in-Some-Recover-clause-any_moment
+returns-in-Some-Recover-clause-any_moment g c told told_disk =
+    moments_of _ (Some To_recover) (g.S.Source.left c.args.script.now) (g.D.Disk.view c.args.disk) (g.D.Disk.view c.recover.new.disk)
+    (words_are c.in-Some-Recover.field-0 Recover _ c.in-Some-Recover.ensures c.in-Some-Recover.field-0-is) (c.recover.ensures.any_moment told_disk)
+
+pub returns-in-Some-Recover-clause-complete : goal.returns-in-Some-Recover-clause-complete
+returns-in-Some-Recover-clause-complete g c told told_disk word names ready no_source no_disk no_sink =
+    recover_complete word c.recover.result (g.S.Source.left c.args.script.now) (g.D.Disk.view c.args.disk).files
+    (Rose (g.D.Disk.faults c.args.disk) (g.D.Disk.faults c.recover.new.disk)) (Rose (g.K.Sink.faults c.args.out.now) (g.K.Sink.faults c.recover.new.out))
+    (word_is c.in-Some-Recover.field-0 Recover _ word c.in-Some-Recover.ensures c.in-Some-Recover.field-0-is names)
+    c.recover.ensures.status (c.recover.ensures.damage told_disk) c.recover.ensures.disk_cause c.recover.ensures.sink_cause ready no_disk no_sink

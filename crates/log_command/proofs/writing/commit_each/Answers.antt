@@ -1,10 +1,12 @@
 use Rattle.std.proofs.Math.Logic.{∥∥₁_map}
-use Rattle.std.proofs.Common.{◌≡◌, ◌∙◌, sym, ap, subst, arith, take, length, List}
+use Rattle.std.proofs.Common.{◌≡◌, ◌∙◌, ◌*◌, ◌+◌, ◌∷◌, [], refl, sym, ap, subst, arith, take, length, List}
 use Rattle.std.proofs.lemmas.List.{length-map}
 use Rattle.log_model.specs.Entry.{Entry, entry_frame}
 use Rattle.log_file.specs.Open.{IsOpen}
-use Rattle.command_ends.proofs.Endings.{goes_on}
-use Rattle.log_command.proofs.Committing.{frame_at, step_to}
+use Rattle.command_ends.specs.LogFiles.{log_name}
+use Rattle.log_command.proofs.Committing.{frame_at, step_to, either_log, committed_on, open_first}
+use Rattle.disk_images.proofs.Moments.{more_time, at_once}
+use Rattle.log_command.specs.Logged.{HasFirst}
 use Rattle.log_command.proofs.writing.commit_each.Goals as goal
 
 pub commit_one-requires-clause-begun : goal.commit_one-requires-clause-begun
@@ -23,14 +25,35 @@ returns-in-Err-clause-stopped g c told es is each =
     let lens : _ ≡ _ = ap length is ∙ length-map es entry_frame in (
       omega (arith, lens, c.loop-done-test.true),
       step_to es (take c.loop-done.done es) at.0 c.loop-done.done at.1
-          (c.commit_one.ensures.any_moment told (take c.loop-done.done es) at.0 (c.loop-done.invariant.opened told es is each) at.3 at.2),
+          (either_log (log_name 1) (take c.loop-done.done es) (at.0 ∷ []) 4 _ _ refl
+          (c.commit_one.ensures.any_moment told (take c.loop-done.done es) at.0 (c.loop-done.invariant.opened told es is each) at.3 at.2)),
     )
 
-pub returns-in-Err-clause-moments : goal.returns-in-Err-clause-moments
-returns-in-Err-clause-moments g c told es is each =
+pub returns-in-Err-clause-any_moment : goal.returns-in-Err-clause-any_moment
+returns-in-Err-clause-any_moment g c told es is each alone =
     let at = frame_at c.args.frames.now es c.loop-done.done c.index-frames-done.result c.index-frames-done.result is (omega (arith, c.loop-done-test.true)) each c.index-frames-done.is in
-    goes_on _ _ _ (c.loop-done.invariant.time told es is each)
-    (c.commit_one.ensures.moments told (take c.loop-done.done es) at.0 (c.loop-done.invariant.opened told es is each) at.3 at.2)
+    more_time (HasFirst es) (4 * (c.loop-done.done + 1)) (4 * length c.args.frames.now) _ _ (omega (arith, c.loop-done-test.true))
+    (committed_on es at.0 c.loop-done.done _ _ _ at.1 (c.loop-done.invariant.moments told es is each alone)
+    (c.commit_one.ensures.any_moment told (take c.loop-done.done es) at.0 (c.loop-done.invariant.opened told es is each) at.3 at.2))
+
+pub returns-in-Err-clause-others : goal.returns-in-Err-clause-others
+returns-in-Err-clause-others g c told m other = c.commit_one.ensures.others told m other ∙ c.loop-done.invariant.others told m other
+
+pub loop-done-init : goal.loop-done-init
+loop-done-init g c = record {
+  opened = λ told es is each. c.requires.begun told;
+  moments = λ told es is each alone. at_once (HasFirst es) _ (open_first c.args.log.now _ es c.requires.named (c.requires.begun told) alone);
+  others = λ told m other. refl;
+  empty = c.requires.empty;
+  named = c.requires.named;
+  same = refl;
+  later = omega arith;
+}
+
+pub returns-clause-any_moment : goal.returns-clause-any_moment
+returns-clause-any_moment g c told es is each alone =
+    more_time (HasFirst es) (4 * c.loop-done.done) (4 * length c.args.frames.now) _ _ (omega (arith, c.loop-done-test.false))
+    (c.loop-done.invariant.moments told es is each alone)
 
 pub loop-done-preserved : goal.loop-done-preserved
 loop-done-preserved g c =
@@ -40,10 +63,11 @@ loop-done-preserved g c =
           let at = frame_at c.args.frames.now es c.loop-done.done c.index-frames-done.result c.index-frames-done.result is (omega (arith, c.loop-done-test.true)) each c.index-frames-done.is in
           subst (λ (xs : List Entry). IsOpen c.commit_one.new.log (g.D.Disk.view c.commit_one.new.disk) xs) (sym at.1)
           (c.in-Ok.ensures.committed told (take c.loop-done.done es) at.0 (was.opened told es is each) at.3 at.2);
-      time = λ told es is each.
+      moments = λ told es is each alone.
           let at = frame_at c.args.frames.now es c.loop-done.done c.index-frames-done.result c.index-frames-done.result is (omega (arith, c.loop-done-test.true)) each c.index-frames-done.is in
-          goes_on _ _ _ (was.time told es is each)
-          (c.commit_one.ensures.moments told (take c.loop-done.done es) at.0 (was.opened told es is each) at.3 at.2);
+          committed_on es at.0 c.loop-done.done _ _ _ at.1 (was.moments told es is each alone)
+          (c.commit_one.ensures.any_moment told (take c.loop-done.done es) at.0 (was.opened told es is each) at.3 at.2);
+      others = λ told m other. c.commit_one.ensures.others told m other ∙ was.others told m other;
       empty = c.in-Ok.ensures.empty;
       named = c.commit_one.ensures.name ∙ was.named;
       same = c.commit_one.ensures.name ∙ was.same;

@@ -1,7 +1,8 @@
 use Rattle.std.proofs.Math.Logic.{∥∥₁_map, ∥∥₁_elim, ∥∥₁_prop}
-use Rattle.std.proofs.Common.{[], ◌∷◌, ◌∙◌, refl}
+use Rattle.std.proofs.Common.{◌≢◌, [], ◌∷◌, ◌++◌, ◌∙◌, refl, sym, subst}
+use Rattle.log_model.specs.declared.name.Name.{Name}
 use Rattle.log_file.proofs.Committed.{open_still}
-use Rattle.log_command.proofs.Committing.{in_log, never_full, either_log}
+use Rattle.log_command.proofs.Committing.{in_log, never_full, commit_named}
 use Rattle.log_command.proofs.writing.commit_one.Goals as goal
 
 pub stage-requires : goal.stage-requires
@@ -21,28 +22,20 @@ commit-requires g c told =
 
 pub returns-in_err-commit-clause-any_moment : goal.returns-in_err-commit-clause-any_moment
 returns-in_err-commit-clause-any_moment g c told entries e opened is entry =
-    either_log c.stage.new.self.name entries (e ∷ []) 4 _ _ (c.in-Ok.ensures.elsewhere.0 ∙ c.requires.named)
+    commit_named c.stage.new.self.name entries (entries ++ e ∷ []) _ _ (c.in-Ok.ensures.elsewhere.0 ∙ c.requires.named)
     (c.commit.ensures.any_moment told entries (e ∷ []) (open_still c.args.log.now c.stage.new.self _ entries c.in-Ok.ensures.elsewhere opened)
     (c.in-Ok.ensures.staged [] e c.requires.empty is (in_log c.args.log.now.name e c.requires.named entry)))
 
-pub returns-in_err-commit-clause-moments : goal.returns-in_err-commit-clause-moments
-returns-in_err-commit-clause-moments g c told entries e opened is entry =
-    ∣ (
-      4,
-      (c.commit.ensures.any_moment told entries (e ∷ []) (open_still c.args.log.now c.stage.new.self _ entries c.in-Ok.ensures.elsewhere opened)
-          (c.in-Ok.ensures.staged [] e c.requires.empty is (in_log c.args.log.now.name e c.requires.named entry))).time,
-    ) ∣₁
+pub returns-in_err-commit-clause-others : goal.returns-in_err-commit-clause-others
+returns-in_err-commit-clause-others g c told m other =
+    (c.commit.ensures.touches told).others m (subst (λ (n : Name). m ≢ n) (sym (c.in-Ok.ensures.elsewhere.0 ∙ c.requires.named)) other)
 
 pub returns-clause-any_moment : goal.returns-clause-any_moment
 returns-clause-any_moment g c told entries e opened is entry =
-    either_log c.stage.new.self.name entries (e ∷ []) 4 _ _ (c.in-Ok.ensures.elsewhere.0 ∙ c.requires.named)
+    commit_named c.stage.new.self.name entries (entries ++ e ∷ []) _ _ (c.in-Ok.ensures.elsewhere.0 ∙ c.requires.named)
     (c.commit.ensures.any_moment told entries (e ∷ []) (open_still c.args.log.now c.stage.new.self _ entries c.in-Ok.ensures.elsewhere opened)
     (c.in-Ok.ensures.staged [] e c.requires.empty is (in_log c.args.log.now.name e c.requires.named entry)))
 
-pub returns-clause-moments : goal.returns-clause-moments
-returns-clause-moments g c told entries e opened is entry =
-    ∣ (
-      4,
-      (c.commit.ensures.any_moment told entries (e ∷ []) (open_still c.args.log.now c.stage.new.self _ entries c.in-Ok.ensures.elsewhere opened)
-          (c.in-Ok.ensures.staged [] e c.requires.empty is (in_log c.args.log.now.name e c.requires.named entry))).time,
-    ) ∣₁
+pub returns-clause-others : goal.returns-clause-others
+returns-clause-others g c told m other =
+    (c.commit.ensures.touches told).others m (subst (λ (n : Name). m ≢ n) (sym (c.in-Ok.ensures.elsewhere.0 ∙ c.requires.named)) other)

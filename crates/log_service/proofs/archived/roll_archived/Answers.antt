@@ -1,8 +1,8 @@
-use Rattle.std.proofs.Common.{◌≡◌, ◌<◌, ℕ, List, get_or, refl, sym, subst, inr}
+use Rattle.std.proofs.Common.{◌<◌, ℕ, List, length, get_or, refl, sym, subst}
 use Rattle.std.proofs.Math.Logic.{∥∥₁_map}
-use Rattle.log_ledger.specs.History.{committed_in, closed_in, flushed_in}
-use Rattle.log_device.specs.Whole.{disk_of}
-use Rattle.log_service.proofs.Tied.{ties_committed, ties_archived}
+use Rattle.log_ledger.specs.History.{committed_in, closed_in}
+use Rattle.log_device.specs.Whole.{disk_of, books_of}
+use Rattle.log_service.proofs.Tied.{ties_committed, ties_archived, few_same, one_higher}
 use Rattle.log_service.proofs.archived.roll_archived.Goals as goal
 
 pub returns-in-Err-clause-ties : goal.returns-in-Err-clause-ties
@@ -11,7 +11,9 @@ returns-in-Err-clause-ties g c told =
     let mid = c.roll.new.self in
     let v = g.D.Disk.view (disk_of old) in
     let u = g.D.Disk.view (disk_of mid) in
-    ties_committed old mid v u (g.met.D.Disk.is_true (disk_of old) told) (λ h whole. (11, c.roll.ensures.any_moment told h whole)) (λ h whole unbroken. c.in-Err.ensures.refused told h whole unbroken)
+    ties_committed old mid v u (g.met.D.Disk.is_true (disk_of old) told) (λ h whole. (11, c.roll.ensures.any_moment told h whole))
+    (λ h file whole is. (11, c.roll.ensures.names told h file whole is))
+    (few_same (books_of old) (books_of mid) c.roll.ensures.served c.roll.ensures.stored) (λ h whole unbroken. c.in-Err.ensures.refused told h whole unbroken)
     record { synced = c.roll.ensures.synced_either; stored = λ _. c.roll.ensures.stored; closed = c.roll.ensures.closed_broken }
 
 pub archive-requires : goal.archive-requires
@@ -28,9 +30,11 @@ returns-in-Ok-archive-clause-ties g c told =
     ties_archived old mid new v u w (g.met.D.Disk.is_true (disk_of old) told) (g.met.D.Disk.is_true (disk_of mid) told) (λ h whole. (11, c.roll.ensures.any_moment told h whole))
     (λ h whole. (closed_in (committed_in h) c.in-Ok.rolled.closed, (c.in-Ok.ensures.rolled told h whole).0, record { base = refl; first = λ r. refl; durable = refl; staged = refl }))
     (λ r is. subst (λ (l : List ℕ). 0 < get_or l r 0) (sym c.roll.ensures.served) is)
+    (few_same (books_of old) (books_of mid) c.roll.ensures.served c.roll.ensures.stored)
     (λ h whole. c.archive.ensures.any_moment told h whole)
+    (λ h file whole is. (length h.logs, one_higher h.kept.base (books_of mid).next_store file.name.number (length h.logs) u w (c.archive.ensures.names told h file whole is)))
     (λ h whole unbroken. let a = c.in-Ok-archive.ensures.archived told h whole in (a.0, a.1, a.3))
-    record { synced = c.archive.ensures.numbers.0; stored = c.archive.ensures.numbers.1; closed = c.archive.ensures.numbers.2 }
+    record { synced = c.archive.ensures.numbers.0; stored = c.archive.ensures.numbers.1; closed = c.archive.ensures.numbers.2; next_store = c.archive.ensures.served }
 
 pub returns-in-Err-archive-clause-ties : goal.returns-in-Err-archive-clause-ties
 returns-in-Err-archive-clause-ties g c told =
@@ -43,6 +47,8 @@ returns-in-Err-archive-clause-ties g c told =
     ties_archived old mid new v u w (g.met.D.Disk.is_true (disk_of old) told) (g.met.D.Disk.is_true (disk_of mid) told) (λ h whole. (11, c.roll.ensures.any_moment told h whole))
     (λ h whole. (closed_in (committed_in h) c.in-Ok.rolled.closed, (c.in-Ok.ensures.rolled told h whole).0, record { base = refl; first = λ r. refl; durable = refl; staged = refl }))
     (λ r is. subst (λ (l : List ℕ). 0 < get_or l r 0) (sym c.roll.ensures.served) is)
+    (few_same (books_of old) (books_of mid) c.roll.ensures.served c.roll.ensures.stored)
     (λ h whole. c.archive.ensures.any_moment told h whole)
+    (λ h file whole is. (length h.logs, one_higher h.kept.base (books_of mid).next_store file.name.number (length h.logs) u w (c.archive.ensures.names told h file whole is)))
     (λ h whole unbroken. absurd (unbroken (c.in-Err-archive.ensures.broken.0 refl)))
-    record { synced = c.archive.ensures.numbers.0; stored = c.archive.ensures.numbers.1; closed = c.archive.ensures.numbers.2 }
+    record { synced = c.archive.ensures.numbers.0; stored = c.archive.ensures.numbers.1; closed = c.archive.ensures.numbers.2; next_store = c.archive.ensures.served }

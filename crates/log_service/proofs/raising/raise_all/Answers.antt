@@ -1,7 +1,6 @@
 use Rattle.std.proofs.Common.{◌≡◌, ◌<◌, ◌+◌, ◌-◌, ℕ, List, get_or, sym, ap, ◌∙◌, subst, arith}
-use Rattle.log_berth.specs.Words.{NoMore, noted, saw}
+use Rattle.log_berth.specs.Words.{NoMore, noted}
 use Rattle.log_berth.specs.declared.known.Known.{Known}
-use Rattle.log_berth.specs.Standing.{Standing}
 use Rattle.log_service.proofs.Raised.{raised_below, raised_later, raised_all}
 use Rattle.log_service.proofs.raising.raise_all.Goals as goal
 

@@ -1,14 +1,14 @@
-use Rattle.std.proofs.Common.{◌≡◌, ◌<◌, ◌≤◌, ◌+◌, ℕ, List, [], ◌∷◌, ◌++◌, length, get_or, Some, refl, sym, ap, ◌∙◌, subst, arith}
+use Rattle.std.proofs.Common.{◌≡◌, ℕ, List, [], ◌++◌, length, sym, ap, subst, arith}
 use Rattle.std.proofs.Math.Logic.{∥∥₁_map₂}
+use Rattle.log_model.specs.declared.name.Name.{Name}
 use Rattle.log_model.specs.Entry.{Entry}
+use Rattle.log_model.specs.Files.{Files}
 use Rattle.disk_images.specs.Crash.{DiskView, Throughout}
-use Rattle.log_file.specs.Open.{OpenLog}
 use Rattle.log_trucks.specs.Held.{Held, AreHeld}
-use Rattle.log_ledger.specs.Books.{Books}
+use Rattle.log_device.specs.Bears.{Bears}
 use Rattle.log_device.specs.Leaves.{Leaves}
-use Rattle.log_device.specs.Whole.{IsWhole, disk_of, log_of, books_of}
-use Rattle.log_device.proofs.Whole.{some_file}
-use Rattle.log_service.specs.Trucks.{AreSpelled, FollowOn, size_of, come_to}
+use Rattle.log_device.specs.Whole.{disk_of, books_of}
+use Rattle.log_service.specs.Trucks.{AreSpelled, FollowOn, size_of}
 use Rattle.log_service.specs.Commits.{all_staged_in, AreServed, drawn_in}
 use Rattle.log_service.proofs.Committed.{spelled_entries}
 use Rattle.log_service.proofs.staging.commit_load.Goals as goal
@@ -51,3 +51,24 @@ returns-in-Err-clause-any_moment g c told h es whole none held =
     let staged = c.stage_all.ensures.whole told h es whole (subst (λ (l : List Held). AreHeld l es) (sym c.into_chain.ensures) held) in
     moments g.D.Disk.view (books_of c.args.device.now).stored (books_of mid).stored (books_of c.args.device.now).closed (books_of mid).closed (disk_of c.args.device.now) (disk_of mid) (g.D.Disk.view (disk_of c.sync.new.self)) h.kept.staged es
     c.stage_all.ensures.same.stored c.stage_all.ensures.same.closed c.stage_all.ensures.disk none (c.sync.ensures.any_moment told (all_staged_in h es) staged)
+
+names_from : {D : Type 0} (view : D → DiskView) (base : Files) (next next' : List ℕ) (a b : D) (w : DiskView) (m n : Name) → next' ≡ next → b ≡ a → m ≡ n
+    → Throughout (Bears base next' m.number) 4 (view b) w → Throughout (Bears base next n.number) 4 (view a) w
+names_from {D} view base next next' a b w m n s d is over =
+    subst (λ (p : List ℕ × D × Name). Throughout (Bears base p.0 p.2.number) 4 (view p.1) w) (λ i. (s i, d i, is i)) over
+
+pub returns-in-Ok-clause-names : goal.returns-in-Ok-clause-names
+returns-in-Ok-clause-names g c told h es file whole held is =
+    let mid = c.stage_all.new.device in
+    let staged = c.stage_all.ensures.whole told h es whole (subst (λ (l : List Held). AreHeld l es) (sym c.into_chain.ensures) held) in
+    let now = c.stage_all.ensures.file file is in
+    names_from g.D.Disk.view h.kept.base (books_of c.args.device.now).next_store (books_of mid).next_store (disk_of c.args.device.now) (disk_of mid) (g.D.Disk.view (disk_of c.sync.new.self)) now.0.name file.name
+    c.stage_all.ensures.same.next_store c.stage_all.ensures.disk now.3 (c.sync.ensures.names told (all_staged_in h es) now.0 staged now.1)
+
+pub returns-in-Err-clause-names : goal.returns-in-Err-clause-names
+returns-in-Err-clause-names g c told h es file whole held is =
+    let mid = c.stage_all.new.device in
+    let staged = c.stage_all.ensures.whole told h es whole (subst (λ (l : List Held). AreHeld l es) (sym c.into_chain.ensures) held) in
+    let now = c.stage_all.ensures.file file is in
+    names_from g.D.Disk.view h.kept.base (books_of c.args.device.now).next_store (books_of mid).next_store (disk_of c.args.device.now) (disk_of mid) (g.D.Disk.view (disk_of c.sync.new.self)) now.0.name file.name
+    c.stage_all.ensures.same.next_store c.stage_all.ensures.disk now.3 (c.sync.ensures.names told (all_staged_in h es) now.0 staged now.1)

@@ -1,13 +1,11 @@
-use Rattle.std.proofs.Common.{◌≡◌, ◌<◌, ◌≤◌, ◌+◌, ℕ, List, [], ◌∷◌, ◌++◌, length, get_or, Some, refl, sym, ap, ◌∙◌, subst, arith, append_assoc}
+use Rattle.std.proofs.Common.{◌≡◌, ℕ, List, [], ◌∷◌, ◌++◌, length, refl, sym, ap, ◌∙◌, subst, arith, append_assoc}
 use Rattle.log_model.specs.Entry.{Entry}
 use Rattle.log_file.specs.Open.{OpenLog}
 use Rattle.log_trucks.specs.Held.{Held, held_of, AreHeld}
-use Rattle.log_ledger.specs.Books.{Books}
-use Rattle.log_ledger.specs.History.{History, staged_in}
-use Rattle.log_device.specs.Whole.{IsWhole, disk_of, log_of, books_of}
+use Rattle.log_device.specs.Whole.{IsWhole, disk_of, books_of}
 use Rattle.log_device.proofs.Whole.{some_file}
 use Rattle.log_device.proofs.Numbering.{same_file}
-use Rattle.log_service.specs.Trucks.{IsSpelled, AreSpelled, FollowOn, onward, size_of, come_to}
+use Rattle.log_service.specs.Trucks.{AreSpelled, FollowOn, onward, size_of, come_to}
 use Rattle.log_service.specs.Commits.{all_staged_in, AreServed, drawn_in}
 use Rattle.log_service.proofs.Staged.{come_same, follow_same, served_still, staged_more, staged_none, held_head}
 use Rattle.log_service.proofs.staging.stage_all.Goals as goal
@@ -21,7 +19,7 @@ loop-truck-init g c = record {
   room = c.requires.room;
   whole = λ told h es whole held. ([], es, refl, held, subst (IsWhole c.args.device.now (g.D.Disk.view (disk_of c.args.device.now))) (sym (staged_none h)) whole);
   disk = refl;
-  file = λ file is. (file, is, refl);
+  file = λ file is. (file, is, refl, refl);
   drawn = λ r. refl;
   same = record { synced = refl; stored = refl; closed = refl; next_store = refl };
 }
@@ -73,7 +71,7 @@ loop-truck-preserved g c =
           let w = was.file file is in
           let s = ok.file w.0 w.1 in
           let len = ap length here in
-          (s.now, s.is, omega (arith, s.staged, w.2, len));
+          (s.now, s.is, omega (arith, s.staged, w.2, len), s.name ∙ w.3);
       drawn = λ r. come_same (drawn_in (books_of new)) (onward (drawn_in (books_of old)) lone) drawn next r ∙ (ap (λ (l : List Held). come_to (drawn_in (books_of old)) l r) (sym here) ∙ was.drawn r);
       same = record { synced = ok.synced ∙ was.same.synced; stored = ok.stored ∙ was.same.stored; closed = ok.closed ∙ was.same.closed; next_store = ok.served ∙ was.same.next_store };
     }

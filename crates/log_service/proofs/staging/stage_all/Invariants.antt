@@ -1,4 +1,4 @@
-use Rattle.std.proofs.Common.{◌≡◌, ◌≤◌, ◌<◌, ◌+◌, ◌++◌, ℕ, List, length, Some}
+use Rattle.std.proofs.Common.{◌≡◌, ◌≤◌, ◌+◌, ◌++◌, ℕ, List, length, Some}
 use Rattle.std.specs.Prelude.{IsTrue}
 use Rattle.log_model.specs.Entry.{Entry}
 use Rattle.log_file.specs.Open.{OpenLog}
@@ -19,7 +19,7 @@ invariant-loop-truck g l = record {
   whole : IsTrue g.D.Disk.told → (h : History) (es : List Entry) → IsWhole l.fn.device (g.D.Disk.view (disk_of l.fn.device)) h → AreHeld l.fn.chain es
       → (ds left : List Entry) × (es ≡ ds ++ left) × AreHeld l.rest left × IsWhole l.device (g.D.Disk.view (disk_of l.device)) (all_staged_in h ds);
   disk : disk_of l.device ≡ disk_of l.fn.device;
-  file : (file : OpenLog) → log_of l.fn.device ≡ Some file → (now : OpenLog) × (log_of l.device ≡ Some now) × (now.staged + length l.rest ≡ file.staged + length l.fn.chain);
+  file : (file : OpenLog) → log_of l.fn.device ≡ Some file → (now : OpenLog) × (log_of l.device ≡ Some now) × (now.staged + length l.rest ≡ file.staged + length l.fn.chain) × (now.name ≡ file.name);
   drawn : (r : ℕ) → come_to (drawn_in (books_of l.device)) l.rest r ≡ come_to (drawn_in (books_of l.fn.device)) l.fn.chain r;
   same : SameTold (books_of l.fn.device) (books_of l.device);
 }

@@ -1,11 +1,11 @@
-use Rattle.std.proofs.Common.{◌≡◌, ◌<◌, ◌≤◌, ℕ, List, [], length, get_or, refl, sym, ap, ◌∙◌, subst, arith}
+use Rattle.std.proofs.Common.{◌≡◌, ℕ, List, [], sym, ap, ◌∙◌, subst, arith}
 use Rattle.std.proofs.Math.Logic.{∥∥₁_map}
 use Rattle.crossbeam_queue.specs.Passes.{view}
 use Rattle.append_ring.specs.Rules.{base_of}
 use Rattle.disk_images.specs.Crash.{Since}
 use Rattle.log_trucks.specs.Held.{Held}
 use Rattle.log_ledger.specs.History.{History}
-use Rattle.log_device.specs.Whole.{IsBroken, disk_of, books_of}
+use Rattle.log_device.specs.Whole.{disk_of}
 use Rattle.log_service.specs.Trucks.{come_to}
 use Rattle.log_service.specs.Loads.{all_trucks}
 use Rattle.log_service.specs.Halves.{Stands, RecoversHeld}

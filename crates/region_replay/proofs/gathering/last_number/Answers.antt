@@ -1,12 +1,19 @@
-use Rattle.std.proofs.Common.{◌-◌, ◌∙◌, length, sym, ap, subst, arith}
+use Rattle.std.proofs.Common.{◌∙◌, ℕ, ◌+◌, max, List, [], ◌∷◌, ◌++◌, Contains, take, sym, ap, subst}
+use Rattle.std.proofs.lemmas.List.{take_more}
+use Rattle.std.proofs.lemmas.List.Elements.{Contains-get_or}
 use Rattle.log_model.specs.Entry.{Entry}
 use Rattle.region_replay.specs.Regions.{IsTop}
-use Rattle.region_replay.proofs.Finding.{last_top}
+use Rattle.region_replay.proofs.Finding.{last_more}
 use Rattle.region_replay.proofs.gathering.last_number.Goals as goal
 
-pub returns : goal.returns
-returns c =
-    let k = length c.args.entries.now - 1 in
-    let last = c.index-entries-len.result in
-    subst (λ n. IsTop c.args.entries.now c.args.none n) (ap (λ (e : Entry). e.number) (sym (c.last.view_is ∙ c.index-entries-len.is)))
-    (last_top c.args.entries.now c.args.none k last c.requires (omega (arith, c.if-len-eq0.false)))
+pub loop-entry-preserved : goal.loop-entry-preserved
+loop-entry-preserved c =
+    let es = c.args.entries.now in
+    let i = c.loop-entry.entry-index in
+    let n = c.loop-entry.last in
+    let e = c.entry-item.result in
+    let none = c.args.none in
+    let has : Contains es e = subst (λ (y : Entry). Contains es y) (sym c.entry-item.is) (Contains-get_or es i e c.loop-entry-test.true) in
+    let more = last_more (take i es) none n e c.loop-entry.invariant (c.requires e has) in
+    subst (λ (m : ℕ). IsTop (take (i + 1) es) none m) (sym (c.max-last.ensures ∙ ap (λ (y : Entry). max n y.number) c.entry.view_is))
+    (subst (λ (l : List Entry). IsTop l none (max n e.number)) (sym (take_more es i e c.loop-entry-test.true ∙ ap (λ (y : Entry). take i es ++ y ∷ []) (sym c.entry-item.is))) more)

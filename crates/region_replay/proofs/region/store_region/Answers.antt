@@ -8,7 +8,7 @@ use Rattle.log_model.specs.Entry.{Entry}
 use Rattle.region_replay.specs.Cuts.{IsUnflushedCut, EditsUpTo}
 use Rattle.region_replay.specs.Regions.{IsTop}
 use Rattle.region_replay.proofs.Cutting.{none_written}
-use Rattle.region_replay.proofs.Finding.{cut_within, some_above, to_low, within_of, is_cut, edits_up, replayed_of, next_below}
+use Rattle.region_replay.proofs.Finding.{cut_within, some_above, to_low, within_of, is_cut, edits_up, replayed_of, next_below, next_few}
 use Rattle.region_replay.proofs.region.store_region.Goals as goal
 
 pub returns-in_err-cut-clause-any_moment : goal.returns-in_err-cut-clause-any_moment
@@ -16,6 +16,9 @@ returns-in_err-cut-clause-any_moment g c told base held found = none_written bas
 
 pub returns-in_err-base-clause-any_moment : goal.returns-in_err-base-clause-any_moment
 returns-in_err-base-clause-any_moment g c told base held found = none_written base (g.D.Disk.view c.args.disk.now) held
+
+pub last_number-to-requires : goal.last_number-to-requires
+last_number-to-requires g c e has = c.requires.order.above e (subst (λ (es : List Entry). Contains es e) c.deref.ensures.value has)
 
 pub replay_found-requires-clause-range : goal.replay_found-requires-clause-range
 replay_found-requires-clause-range g c =
@@ -81,6 +84,10 @@ returns-clause-replayed g c told base held found =
     replayed_of base u w (g.met.D.Disk.is_true c.args.disk.now told) (g.met.D.Disk.is_true c.replay_found.new.disk told) held held_w x c.requires.order found to (x.next_store + 1) top
     (inl (c.in_ok-replay_found.ensures.flushed told))
     (next_below u w x c.requires.order found (λ m not other. c.in_ok-replay_found.ensures.others told m not (λ n has. other n (subst (λ (ns : List Name). Contains ns n) c.deref-2.ensures.value has))))
+    (λ n bound. (
+    let low = next_few u w x c.requires.order found (λ m not other. c.in_ok-replay_found.ensures.others told m not (λ n has. other n (subst (λ (ns : List Name). Contains ns n) c.deref-2.ensures.value has))) n bound in
+    let more = some_above x c.requires.order to top c.requires.some in
+    omega (arith, low, more)))
     c.in_ok-base.base (c.in_ok-base.ensures.0 ∙ ap (λ (cs : List NumberedCell). put_numbered empty (x.stored ++ cs)) c.in_ok-cut.ensures) c.in_ok-base.ensures.1
 
 pub returns-clause-others : goal.returns-clause-others

@@ -1,4 +1,4 @@
-use Rattle.std.proofs.Common.{length, ◌⊎◌, inl, inr, ◌≡◌, ◌∙◌, ◌++◌, ◌∷◌, [], IsTrue, List, Contains, sym, ap, subst, arith}
+use Rattle.std.proofs.Common.{length, length-append, ◌⊎◌, inl, inr, ◌≡◌, ◌∙◌, ◌++◌, ◌∷◌, [], IsTrue, List, Contains, sym, ap, subst, arith}
 use Rattle.std.proofs.Math.Logic.{∥∥₁_elim, ∥∥₁_map}
 use Rattle.std.proofs.lemmas.List.{append_assoc, append-nil, nil_from_length}
 use Rattle.std.specs.Vec.Iter.{into_iter_items}
@@ -20,6 +20,7 @@ loop-region-init g c =
           (subst (λ (rest : List RegionFiles). Going T v v c.args.regions.items [] rest []) (sym c.into_iter-region-iterator.ensures.into_iter_gives.0) (none_yet T v c.args.regions.items));
       rest = c.into_iter-region-iterator.ensures.into_iter_gives.0;
       len = omega (arith, c.into_iter-region-iterator.ensures.into_iter_gives.1, ap length c.into_iter-region-iterator.ensures.into_iter_gives.0);
+      count = ap length c.new-replayed.ensures.items;
       later = omega arith;
     }
 
@@ -109,6 +110,7 @@ loop-region-preserved g c =
           c.in_ok-next.next c.in_ok-next.ensures.held c.in_ok-next.ensures.replayed c.in_ok-next.ensures.no_edits c.in_ok-next.ensures.others);
       rest = append_assoc ys (x ∷ []) rest ∙ sym is;
       len = omega (arith, c.in-Some.ensures.steps.1, ap length c.in-Some.ensures.steps.0, c.loop-region.invariant.len);
+      count = (let was = c.loop-region.invariant.count in let more = ap length c.in_ok-keep.ensures in omega (arith, was, more, length-append c.loop-region.replayed.items (c.in_ok-next.next ∷ []), length-append ys (x ∷ [])));
       later = (let a = c.loop-region.invariant.later in let b = c.replay_region.ensures.cause.later in omega (arith, a, b));
     }
 
@@ -128,3 +130,9 @@ returns-clause-names g c told base held found m here =
       | inl was ↦ inl was
       | inr (x, has, is) ↦ inr (x, subst (λ (l : List RegionFiles). Contains l x) (sym all_yielded) has, is)
     ]
+
+pub returns-clause-count : goal.returns-clause-count
+returns-clause-count g c =
+    let none : into_iter_items c.loop-region.region-iterator ≡ [] = nil_from_length (into_iter_items c.loop-region.region-iterator) (omega (arith, c.in-None.ensures.steps.0, c.loop-region.invariant.len)) in
+    let all_yielded : c.args.regions.items ≡ c.loop-region.yielded = sym c.loop-region.invariant.rest ∙ ap (λ (l : List RegionFiles). c.loop-region.yielded ++ l) none ∙ append-nil c.loop-region.yielded in
+    c.loop-region.invariant.count ∙ sym (ap length all_yielded)

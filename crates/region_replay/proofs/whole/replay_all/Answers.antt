@@ -1,4 +1,5 @@
-use Rattle.std.proofs.Common.{◌+◌}
+use Rattle.std.proofs.Common.{◌+◌, ◌∙◌, ap}
+use Rattle.log_model.specs.Files.{Files, content}
 use Rattle.disk_images.proofs.Moments.{joined}
 use Rattle.recovery.specs.Alike.{AllAlike}
 use Rattle.disk_images.proofs.Moments.{at_end}
@@ -32,3 +33,7 @@ returns-in-Ok-clause-ready g c told base held found =
     let names = c.in_ok-replayed.ensures.names told base held found.found in
     ready base u v w xs c.requires.order found none names (c.clear.ensures.files told)
     (c.in-Ok.ensures.cleared told base (c.in_ok-replayed.ensures.held told base held found.found) (none_logged base u v w xs c.requires.order found none names))
+
+pub returns-in-Ok-clause-names : goal.returns-in-Ok-clause-names
+returns-in-Ok-clause-names g c told base held found m here =
+    c.in_ok-replayed.ensures.names told base held found.found m (λ none. here (ap (λ (f : Files). content f m) (c.clear.ensures.files told) ∙ none))

@@ -5,8 +5,8 @@ use Rattle.command_ends.specs.LogFiles.{log_name, IsLogRefusal}
 use Rattle.command_ends.specs.Status.{IsOrEarlier, refusal_line}
 use Rattle.command_ends.specs.declared.status.Status.{Status}
 use Rattle.command_ends.specs.declared.status.Status.TheVariants.{Damaged, DiskFault}
-use Rattle.command_ends.specs.declared.status.Damage.TheVariants.{Bytes}
-use Rattle.command_ends.proofs.Readers.{ends_printed, ends_refused}
+use Rattle.log_model.specs.declared.damage.Damage.TheVariants.{Bytes}
+use Rattle.command_ends.proofs.Readers.{ends_printed, ends_refused, lined}
 use Rattle.show_command.specs.Shown.{ShowDone}
 use Rattle.show_command.proofs.Shows.{shown}
 use Rattle.show_command.proofs.command.show.Goals as goal
@@ -20,6 +20,9 @@ returns-in-Ok-clause-ends g c told taken script =
     ends_printed (λ text. ShowDone (invocation script before after had has) text) c.print_entries.result (show_text c.in-Ok.entries) script before after had has _ _ c.print_entries.ensures.status
     (shown c.in-Ok.entries script before after had has (c.in-Ok.ensures.found told)) (c.in-Ok.ensures.unchanged told)
     (c.print_entries.ensures.prints taken) (c.print_entries.ensures.refusal taken)
+
+pub returns-in-Ok-clause-refusal : goal.returns-in-Ok-clause-refusal
+returns-in-Ok-clause-refusal g c taken = lined c.print_entries.result _ _ _ c.print_entries.ensures.status (c.print_entries.ensures.refusal taken)
 
 pub returns-in-Ok-clause-damaged : goal.returns-in-Ok-clause-damaged
 returns-in-Ok-clause-damaged g c told at damaged = absurd (c.in-Ok.ensures.damaged told at damaged)

@@ -61,7 +61,8 @@ loop-job-preserved g c =
           (λ is_told b h all. c.write_some.ensures.any_moment is_told b h (λ e has. all e (subst (λ (l : List Entry). Contains l e) same has)))
           (λ is_told b h all. c.in_ok-write_some.ensures.held is_told b h (λ e has. all e (subst (λ (l : List Entry). Contains l e) same has)))
           (λ is_told. subst (λ (j : EditsJob). (e : Entry) → Contains j.entries.items e → HasText j.name j.entries.items None (content w.files j.name)) c.job-item.is (subst (λ (l : List Entry). (e : Entry) → Contains l e → HasText x.name l None (content w.files x.name)) c.as_slice.ensures.value (c.in_ok-write_some.ensures.written is_told)))
-          (λ is_told. subst (λ (j : EditsJob). Touches j.name v w) c.job-item.is (c.write_some.ensures.touches is_told)),
+          (λ is_told. subst (λ (j : EditsJob). Touches j.name v w) c.job-item.is (c.write_some.ensures.touches is_told))
+          (λ is_told empty. c.write_some.ensures.none is_told (same ∙ empty)),
       omega (arith, c.loop-job.invariant.1, c.write_some.ensures.cause.later),
     )
 

@@ -1,5 +1,7 @@
-use Rattle.std.proofs.Common.{length, ◌∙◌}
+use Rattle.std.proofs.Common.{ℕ, List, Option, None, length, sym, subst, ◌∙◌}
 use Rattle.std.proofs.Math.Logic.{∥∥₁_map}
+use Rattle.recovery.specs.Change.{HasText}
+use Rattle.wal_split.proofs.Turning.{edits_other}
 use Rattle.wal_split.proofs.Covering.{still_free, now_kept, then_both}
 use Rattle.wal_split.proofs.splitting.split_found.Goals as goal
 
@@ -34,3 +36,7 @@ returns-in-Ok-clause-held g c told base held logged covered =
 
 pub returns-in-Ok-clause-others : goal.returns-in-Ok-clause-others
 returns-in-Ok-clause-others g c told m no_job other = c.in-Ok.ensures.others told m other ∙ c.in_ok-write_all.ensures.others told m no_job
+
+pub returns-in-Ok-clause-written : goal.returns-in-Ok-clause-written
+returns-in-Ok-clause-written g c told j e has member =
+    subst (λ (o : Option (List ℕ)). HasText j.name j.entries.items None o) (sym (c.in-Ok.ensures.others told j.name (edits_other c.args.logs.now j.name (c.requires.jobs.kind j has)))) (c.in_ok-write_all.ensures.written told j e has member)

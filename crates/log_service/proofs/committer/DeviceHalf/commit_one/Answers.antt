@@ -1,23 +1,20 @@
-use Rattle.std.proofs.Common.{◌≡◌, ◌<◌, ◌≤◌, ◌+◌, ℕ, List, [], ◌∷◌, ◌++◌, length, get_or, Some, refl, sym, ap, ◌∙◌, subst, arith}
-use Rattle.std.specs.Prelude.{IsErr}
+use Rattle.std.proofs.Common.{◌≡◌, ◌<◌, ◌≤◌, ℕ, List, [], ◌∷◌, ◌++◌, length, get_or, sym, ap, ◌∙◌, subst, arith}
 use Rattle.std.proofs.Math.Logic.{∥∥₁_map, ∥∥₁_map₂, ∥∥₁_elim}
 use mathlib.Core.Logic.{∥∥₁_prop}
 use Rattle.crossbeam_queue.specs.Passes.{view}
 use Rattle.append_ring.specs.Rules.{base_of, of}
-use Rattle.log_model.specs.Entry.{Entry}
-use Rattle.disk_images.specs.Crash.{DiskView, Since}
-use Rattle.disk_images.specs.Calls.{HasCause, Rose}
-use Rattle.log_trucks.specs.Held.{Held, AreHeld}
+use Rattle.disk_images.specs.Crash.{Since}
+use Rattle.log_trucks.specs.Held.{Held}
 use Rattle.log_ledger.specs.History.{History, committed_in}
-use Rattle.log_ledger.specs.Books.{Books, IsServed}
-use Rattle.log_device.specs.Whole.{IsWhole, IsBroken, disk_of, log_of, books_of}
-use Rattle.log_service.specs.Trucks.{FollowOn, come_to}
+use Rattle.log_device.specs.Whole.{IsBroken, disk_of, books_of}
+use Rattle.log_service.specs.Trucks.{come_to}
 use Rattle.log_service.specs.Loads.{all_trucks, AreInOrder}
 use Rattle.log_service.specs.Commits.{all_staged_in, drawn_in}
 use Rattle.log_service.specs.Halves.{Stands, Fell, RecoversHeld}
 use Rattle.log_service.proofs.Chains.{come_append}
 use Rattle.log_service.proofs.ItemLaws.{all_with}
 use Rattle.log_service.proofs.Committed.{spelled_entries, follow_within, follow_served, popped_follows, come_at, come_later, told_later, stands_more, falls, since_more, rose_before, on_ok, on_err}
+use Rattle.log_service.proofs.Tied.{few_same}
 use Rattle.log_service.proofs.committer.DeviceHalf.commit_one.Goals as goal
 
 -- nothing was popped
@@ -91,13 +88,13 @@ invariant_of-self-2 g c =
           subst (λ (l : List Held). ∥ ((h : History) × Stands base lasts d w l h) ∥₁) now
           (∥∥₁_map₂ (s.stands told c.requires.unbroken) entries (λ x e.
           let committed = on_ok c.commit_load.result (said.committed told x.0 e.0 x.1.whole x.1.idle e.1) (λ err. whole (said.broken.0 err)) in
-          (committed_in (all_staged_in x.0 e.0), stands_more base lasts ts load x.0 e.0 e.1 s.device d v w x.1 committed)));
+          (committed_in (all_staged_in x.0 e.0), stands_more base lasts ts load x.0 e.0 e.1 s.device d v w x.1 committed (few_same (books_of s.device) (books_of d) said.told.2 said.told.0))));
       fell = λ told broken.
           subst (λ (l : List Held). ∥ ((h : History) × Fell base lasts d w l h) ∥₁) now
           (∥∥₁_map₂ (s.stands told c.requires.unbroken) entries (λ x e. (
             all_staged_in x.0 e.0,
             falls base lasts ts load x.0 e.0 e.1 s.device d v w (g.met.D.Disk.is_true (disk_of s.device) told) x.1 (said.orderly told x.0 e.0 x.1.whole e.1) s.served (on_err c.commit_load.result said.faulty (said.broken.1 broken)) said.told.0 said.told.1
-                (said.any_moment told x.0 e.0 x.1.whole x.1.idle e.1),
+                (said.any_moment told x.0 e.0 x.1.whole x.1.idle e.1) (said.names told x.0 e.0 x.1.whole.file x.1.whole e.1 x.1.whole.is),
           )));
       since = λ told.
           subst (λ (l : List Held). ∥ Since start (RecoversHeld base l) w ∥₁) now

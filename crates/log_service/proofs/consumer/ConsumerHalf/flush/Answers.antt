@@ -1,4 +1,4 @@
-use Rattle.std.proofs.Common.{◌≡◌, ◌≤◌, ℕ, get_or, refl, sym, ap, ◌∙◌, subst, arith}
+use Rattle.std.proofs.Common.{ℕ, refl, subst, arith}
 use Rattle.log_device.specs.Whole.{books_of}
 use Rattle.log_berth.specs.Words.{NoMore}
 use Rattle.log_service.specs.Numbers.{told_numbers}

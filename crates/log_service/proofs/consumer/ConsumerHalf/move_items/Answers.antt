@@ -1,8 +1,6 @@
-use Rattle.std.proofs.Common.{◌≡◌, ◌+◌, ℕ, Bool, List, [], ◌∷◌, ◌++◌, ◌||◌, Some, None, length, refl, sym, ap, ◌∙◌, subst, arith, length-append}
-use Rattle.std.specs.Prelude.{Option}
+use Rattle.std.proofs.Common.{Bool, List, [], ◌∷◌, ◌++◌, ◌||◌, refl, sym, ap, ◌∙◌, arith, length-append}
 use Rattle.crossbeam_queue.specs.Passes.{view}
 use Rattle.log_trucks.specs.Held.{Held}
-use Rattle.log_service.specs.declared.item.Item.{Item}
 use Rattle.log_service.specs.Items.{appended, held_in, is_sync}
 use Rattle.log_service.specs.Moves.{Bench, HasMoved}
 use Rattle.log_service.proofs.ItemLaws.{moved_then, moved_one}

@@ -1,6 +1,5 @@
-use Rattle.std.proofs.Common.{◌≡◌, ℕ, List, [], ◌∷◌, ◌++◌, length, sym, ap, ◌∙◌, subst, arith}
+use Rattle.std.proofs.Common.{◌≡◌, ℕ, List, [], ◌∷◌, ◌++◌, sym, ap, ◌∙◌, subst, arith}
 use Rattle.crossbeam_queue.specs.Passes.{view}
-use Rattle.append_ring.specs.declared.knows.Knows.{Knows}
 use Rattle.log_trucks.specs.Held.{Held}
 use Rattle.log_service.specs.Items.{appended, held_in}
 use Rattle.log_service.specs.Trucks.{AreSpelled}
@@ -32,6 +31,7 @@ invariant_of-self g c =
     record {
       ring = s.ring;
       to = (c.in-Ok.ensures.same.0 ∙ s.to.0, c.in-Ok.ensures.same.1 ∙ s.to.1, ap (λ v. v.lasts) now ∙ s.to.2);
+      rest = s.rest;
       tie = ap (λ (p : List (List Held)). all_trucks p ++ (c.replace-load.new.dest ++ held)) more
           ∙ (ap (λ (l : List Held). all_trucks (pushed ++ s.load ∷ []) ++ (l ++ held)) empty ∙ tie_handed pushed s.load held (appended (view s.consumer.pass).popped) s.tie);
       spelled = subst (λ (l : List Held). AreSpelled (l ++ held)) (sym empty) (spelled_back s.load held s.spelled);

@@ -1,4 +1,4 @@
-use Rattle.std.proofs.Common.{◌≡◌, ◌≤◌, ℕ, List, [], ◌∷◌, ◌++◌, Some, None, length, sym, ap, ◌∙◌, subst, arith}
+use Rattle.std.proofs.Common.{◌≡◌, ◌≤◌, ℕ, List, [], ◌∷◌, ◌++◌, None, length, sym, ap, ◌∙◌, subst}
 use Rattle.std.specs.Prelude.{Option}
 use Rattle.std.proofs.lemmas.Option.{same_Some}
 use Rattle.crossbeam_queue.specs.Passes.{view}
@@ -7,7 +7,7 @@ use Rattle.log_trucks.specs.Held.{Held}
 use Rattle.log_service.specs.declared.item.Item.{Item}
 use Rattle.log_service.specs.declared.item.Item.TheVariants as items
 use Rattle.log_service.specs.Items.{region_of, number_of, IsWholeItem, appended, held_in}
-use Rattle.log_service.specs.Trucks.{AreSpelled, FollowFrom}
+use Rattle.log_service.specs.Trucks.{FollowFrom}
 use Rattle.log_service.specs.Loads.{all_trucks}
 use Rattle.log_service.proofs.Chains.{spelled_front, spelled_both}
 use Rattle.log_service.proofs.ItemLaws.{no_some, item_spelled, item_follows, tie_popped}
@@ -27,6 +27,7 @@ invariant_of-self-2 g c =
     record {
       ring = (c.in-Some.ensures.same ∙ s.ring.0, ap (λ v. v.lasts) got.now ∙ s.ring.1);
       to = s.to;
+      rest = s.rest;
       tie = tie_popped pushed s.load popped x tie ∙ ap appended (sym more);
       spelled = spelled_both s.load (appended (x ∷ [])) (spelled_front s.load (appended (held_in s.held)) s.spelled) (item_spelled x got.good.0);
       alone = λ truck is. (subst IsWholeItem (same_Some x (items.Append truck) is) got.good.0).1;

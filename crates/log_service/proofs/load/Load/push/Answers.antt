@@ -1,4 +1,4 @@
-use Rattle.std.proofs.Common.{◌≡◌, ◌+◌, ◌≤◌, ◌++◌, [], ◌∷◌, ℕ, List, length, reverse, sym, ap, ◌∙◌, arith, length-append}
+use Rattle.std.proofs.Common.{◌≡◌, ◌++◌, [], ◌∷◌, List, length, reverse, ap, ◌∙◌, arith, length-append}
 use Rattle.std.proofs.lemmas.Grind.{reverse_onto}
 use Rattle.log_trucks.specs.Held.{Held, Haul, held_of}
 use Rattle.log_service.specs.Trucks.{size_of}

@@ -1,4 +1,4 @@
-use Rattle.std.proofs.Common.{Some, ◌≡◌, ◌≤◌, ◌<◌, ◌-◌, ◌∷◌, [], ℕ, List, Bool, true, length, refl, sym, ap, ◌∙◌, subst, arith}
+use Rattle.std.proofs.Common.{Some, ◌≡◌, ◌≤◌, ◌∷◌, [], ℕ, List, Bool, true, length, refl, sym, ap, ◌∙◌, subst, arith}
 use Rattle.std.specs.Prelude.{◌↔◌, Option, None, is_none}
 use Rattle.std.specs.Coded.{le_prop}
 use Rattle.std.proofs.Math.Logic.{∥∥₁_elim}
@@ -7,10 +7,9 @@ use Rattle.atomic_table.specs.Seated.{TableId}
 use Rattle.append_ring.specs.declared.knows.Knows.{Knows}
 use Rattle.append_ring.specs.declared.pass.RingPass.{RingPass}
 use Rattle.append_ring.specs.Rules.{base_of}
-use Rattle.append_ring.specs.Parts.{EachThere, IsCounted, IsEqual}
+use Rattle.append_ring.specs.Parts.{EachThere, AreNewAfter, IsCounted, IsEqual}
 use Rattle.append_ring.proofs.Places.{drained_counted}
 use Rattle.disk_images.specs.Calls.{Rose}
-use Rattle.log_berth.specs.Words.{NoMore}
 use Rattle.log_berth.specs.Standing.{Standing, AllSaw}
 use Rattle.log_trucks.specs.Held.{Held}
 use Rattle.log_device.specs.Whole.{IsBroken, disk_of, books_of}
@@ -20,14 +19,21 @@ use Rattle.log_service.specs.Trucks.{FollowFrom}
 use Rattle.log_service.specs.Loads.{all_trucks}
 use Rattle.log_service.specs.Numbers.{told_numbers}
 use Rattle.log_service.specs.Places.{Place}
-use Rattle.log_service.specs.Closed.{CommitsRegion, CommitsSince}
+use Rattle.log_service.specs.Closed.{CommitsRegion, CommitsSince, LeavesFiles}
 use Rattle.log_berth.proofs.Joined.{no_more-trans}
 use Rattle.log_service.proofs.CloseLaws.{region_commits, region_since}
-use Rattle.log_service.proofs.Popped.{all_popped, loads_pushed, idle_back, idle_first}
+use Rattle.log_service.proofs.FilesLeft.{either_leaves}
+use Rattle.log_service.proofs.Popped.{all_popped, loads_pushed, idle_empty, idle_back, idle_first}
 use Rattle.log_service.proofs.service.LogService.close.Goals as goal
 
 pub settle_items-requires-clause-there : goal.settle_items-requires-clause-there
 settle_items-requires-clause-there g c = subst (λ (id : TableId). EachThere (λ p. p.pass.table_id ≡ id) c.args.passes) (sym (ap (λ (p : Place). p.ring) c.self.view_is)) c.requires.passes.0
+
+pub put_back-requires : goal.put_back-requires
+put_back-requires g c =
+    let mover = c.settle_items.new.mover in
+    let rest = subst (λ (l : List (Option (RingPass (List Held)))). ∥ AreNewAfter g.N.Naming.hand g.N.Naming.lasts 0 1 l ∥₁) (sym c.into_passes-items.ensures.2) mover.rest.0 in
+    idle_empty g.N.Naming.hand g.N.Naming.lasts c.into_passes-items.result.2 c.into_passes-items.result.1 rest (ap (λ (p : RingPass (List Held)). p.region) c.into_passes-items.ensures.1 ∙ mover.to.1)
 
 pub settle_loads-requires-clause-there : goal.settle_loads-requires-clause-there
 settle_loads-requires-clause-there g c =
@@ -35,7 +41,7 @@ settle_loads-requires-clause-there g c =
     let pass = c.into_passes-items.result.1 in
     let mover = c.settle_items.new.mover in
     let is = c.into_passes-items.ensures.1 in
-    let there = idle_back id g.N.Naming.lasts c.self.inside.idle pass c.self.invariant.9.0 (ap (λ (p : RingPass (List Held)). p.pass.table_id) is ∙ mover.to.0) (ap (λ (p : RingPass (List Held)). p.region) is ∙ mover.to.1) in
+    let there = idle_back id g.N.Naming.lasts c.into_passes-items.result.2 pass (subst (λ (l : List (Option (RingPass (List Held)))). ∥ AreNewAfter g.N.Naming.hand g.N.Naming.lasts 0 1 l ∥₁) (sym c.into_passes-items.ensures.2) c.settle_items.new.mover.rest.0) (ap (λ (p : RingPass (List Held)). p.pass.table_id) is ∙ mover.to.0) (ap (λ (p : RingPass (List Held)). p.region) is ∙ mover.to.1) in
     subst (λ (i : TableId). EachThere (λ p. p.pass.table_id ≡ i) c.put_back.new.self) (sym c.self.invariant.1) (subst (EachThere (λ p. p.pass.table_id ≡ id)) (sym c.put_back.ensures) there)
 
 pub close-requires-clause-there : goal.close-requires-clause-there
@@ -52,7 +58,7 @@ close-requires-2-clause-there g c =
     let pass = c.into_passes-items.result.1 in
     let mover = c.settle_items.new.mover in
     let is = c.into_passes-items.ensures.1 in
-    let there = idle_back id g.N.Naming.lasts c.self.inside.idle pass c.self.invariant.9.0 (ap (λ (p : RingPass (List Held)). p.pass.table_id) is ∙ mover.to.0) (ap (λ (p : RingPass (List Held)). p.region) is ∙ mover.to.1) in
+    let there = idle_back id g.N.Naming.lasts c.into_passes-items.result.2 pass (subst (λ (l : List (Option (RingPass (List Held)))). ∥ AreNewAfter g.N.Naming.hand g.N.Naming.lasts 0 1 l ∥₁) (sym c.into_passes-items.ensures.2) c.settle_items.new.mover.rest.0) (ap (λ (p : RingPass (List Held)). p.pass.table_id) is ∙ mover.to.0) (ap (λ (p : RingPass (List Held)). p.region) is ∙ mover.to.1) in
     subst (λ (i : TableId). EachThere (λ p. p.pass.table_id ≡ i) c.put_back.new.self) (sym c.self.invariant.1) (subst (EachThere (λ p. p.pass.table_id ≡ id)) (sym c.put_back.ensures) there)
 
 pub close-requires-2-clause-counts : goal.close-requires-2-clause-counts
@@ -95,7 +101,7 @@ returns-clause-commits g c told r content pushed p =
     let popped : List (List Held) = (view c.into_parts-device.result.1.pass).popped in
     let popped_is : popped ≡ loads = ap (λ k. (view {T = List Held} {V = Knows (List Held)} k.pass).popped) c.into_parts-device.ensures.1 in
     let back = subst (EachThere (IsEqual (λ (_ : List Held). 1) popped)) c.put_back.ensures c.close-2.ensures.equal in
-    let equal_loads = idle_first g.N.Naming.hand lasts (IsEqual (λ (_ : List Held). 1) popped) c.self.inside.idle pass c.self.invariant.9.0 region back in
+    let equal_loads = idle_first g.N.Naming.hand lasts (IsEqual (λ (_ : List Held). 1) popped) c.into_passes-items.result.2 pass (subst (λ (l : List (Option (RingPass (List Held)))). ∥ AreNewAfter g.N.Naming.hand g.N.Naming.lasts 0 1 l ∥₁) (sym c.into_passes-items.ensures.2) c.settle_items.new.mover.rest.0) region back in
     let through : loads ≡ (view mover.hand.pass).pushed = loads_pushed pass mover.hand loads popped pass_is region popped_is equal_loads in
     let moved = c.settle_items.ensures.moved in
     let every : all_trucks loads ≡ appended items = all_popped (view mover.hand.pass).pushed loads mover.load mover.held items mover.tie moved.load moved.held through in
@@ -130,7 +136,7 @@ returns-clause-since g c told r content pushed p =
     let popped : List (List Held) = (view c.into_parts-device.result.1.pass).popped in
     let popped_is : popped ≡ loads = ap (λ k. (view {T = List Held} {V = Knows (List Held)} k.pass).popped) c.into_parts-device.ensures.1 in
     let back = subst (EachThere (IsEqual (λ (_ : List Held). 1) popped)) c.put_back.ensures c.close-2.ensures.equal in
-    let equal_loads = idle_first g.N.Naming.hand lasts (IsEqual (λ (_ : List Held). 1) popped) c.self.inside.idle pass c.self.invariant.9.0 region back in
+    let equal_loads = idle_first g.N.Naming.hand lasts (IsEqual (λ (_ : List Held). 1) popped) c.into_passes-items.result.2 pass (subst (λ (l : List (Option (RingPass (List Held)))). ∥ AreNewAfter g.N.Naming.hand g.N.Naming.lasts 0 1 l ∥₁) (sym c.into_passes-items.ensures.2) c.settle_items.new.mover.rest.0) region back in
     let through : loads ≡ (view mover.hand.pass).pushed = loads_pushed pass mover.hand loads popped pass_is region popped_is equal_loads in
     let moved = c.settle_items.ensures.moved in
     let every : all_trucks loads ≡ appended items = all_popped (view mover.hand.pass).pushed loads mover.load mover.held items mover.tie moved.load moved.held through in
@@ -142,6 +148,34 @@ returns-clause-since g c told r content pushed p =
     let disk_is = c.into_disk.ensures ∙ ap disk_of c.into_parts-device.ensures.0 in
     let here = region_since base lasts half.device disk (all_trucks loads) follow half.regions half.all.0 c.broken-broken.result is (half.stands told) (half.fell told) items every c.args.passes there equal r content pushed p g.N.Naming.start (half.since told) in
     subst (λ d. ∥ CommitsSince g.N.Naming.start (g.D.Disk.view d) r (base_of lasts r) content pushed ∥₁) (sym disk_is) here
+
+pub returns-clause-leaves : goal.returns-clause-leaves
+returns-clause-leaves g c told =
+    let half = c.settle_loads.new.committer in
+    let mover = c.settle_items.new.mover in
+    let lasts : List ℕ = g.N.Naming.lasts in
+    let base = g.N.Naming.base in
+    let disk = g.D.Disk.view (disk_of half.device) in
+    let pass = c.into_passes-items.result.1 in
+    let pass_is = c.into_passes-items.ensures.1 in
+    let region : pass.region ≡ 1 = ap (λ (p : RingPass (List Held)). p.region) pass_is ∙ mover.to.1 in
+    let items : List Item = (view mover.consumer.pass).popped in
+    let loads : List (List Held) = (view half.consumer.pass).popped in
+    let popped : List (List Held) = (view c.into_parts-device.result.1.pass).popped in
+    let popped_is : popped ≡ loads = ap (λ k. (view {T = List Held} {V = Knows (List Held)} k.pass).popped) c.into_parts-device.ensures.1 in
+    let back = subst (EachThere (IsEqual (λ (_ : List Held). 1) popped)) c.put_back.ensures c.close-2.ensures.equal in
+    let equal_loads = idle_first g.N.Naming.hand lasts (IsEqual (λ (_ : List Held). 1) popped) c.into_passes-items.result.2 pass (subst (λ (l : List (Option (RingPass (List Held)))). ∥ AreNewAfter g.N.Naming.hand g.N.Naming.lasts 0 1 l ∥₁) (sym c.into_passes-items.ensures.2) c.settle_items.new.mover.rest.0) region back in
+    let through : loads ≡ (view mover.hand.pass).pushed = loads_pushed pass mover.hand loads popped pass_is region popped_is equal_loads in
+    let moved = c.settle_items.ensures.moved in
+    let every : all_trucks loads ≡ appended items = all_popped (view mover.hand.pass).pushed loads mover.load mover.held items mover.tie moved.load moved.held through in
+    let follow : FollowFrom lasts (all_trucks loads) = subst (FollowFrom lasts) (sym every) mover.follow in
+    let is = subst (λ d. (c.broken-broken.result ≡ true) ↔ IsBroken d) c.into_parts-device.ensures.0 c.broken-broken.ensures in
+    let n_is : half.regions ≡ c.args.self.regions = half.all.0 ∙ (sym c.self.invariant.6 ∙ ap (λ (p : Place). p.regions) c.self.view_is) in
+    let disk_is = c.into_disk.ensures ∙ ap disk_of c.into_parts-device.ensures.0 in
+    let few : length lasts ≤ 64 = (let n = half.all.0 in omega (arith, n, half.all.1)) in
+    let here = either_leaves base lasts few half.device disk (all_trucks loads) follow (g.met.D.Disk.is_true (disk_of half.device) told) c.broken-broken.result is (half.stands told) (half.fell told) in
+    subst (λ (n : ℕ). ∥ LeavesFiles base (g.D.Disk.view c.into_disk.result) c.broken-broken.result n ∥₁) (sym half.all.0 ∙ n_is)
+    (subst (λ d. ∥ LeavesFiles base (g.D.Disk.view d) c.broken-broken.result (length lasts) ∥₁) (sym disk_is) here)
 
 pub returns-clause-faults : goal.returns-clause-faults
 returns-clause-faults g c =

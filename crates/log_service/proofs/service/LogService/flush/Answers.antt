@@ -1,12 +1,9 @@
-use Rattle.std.proofs.Common.{◌≡◌, ◌≤◌, ◌<◌, ◌+◌, ◌-◌, ◌*◌, ℕ, Bool, List, true, false, get_or, refl, sym, ap, ◌∙◌, subst, arith}
+use Rattle.std.proofs.Common.{◌≡◌, ◌≤◌, ◌<◌, ◌+◌, ◌-◌, ◌*◌, ℕ, false, get_or, refl, sym, ap, ◌∙◌, subst, arith}
 use Rattle.std.specs.Prelude.{Option, Some, None, is_none}
-use Rattle.log_berth.specs.declared.known.Known.{Known}
-use Rattle.log_berth.specs.Words.{NoMore, Same}
 use Rattle.log_berth.proofs.Joined.{no_more-trans}
 use Rattle.log_device.specs.Whole.{log_of, books_of}
 use Rattle.log_service.specs.Numbers.{told_numbers}
-use Rattle.log_service.specs.Places.{Place, IsLaterSeat}
-use Rattle.log_service.proofs.SeatLaws.{later_trans}
+use Rattle.log_service.specs.Places.{Place}
 use Rattle.log_service.proofs.Numbers.{stored_over}
 use Rattle.log_service.proofs.service.LogService.flush.Goals as goal
 

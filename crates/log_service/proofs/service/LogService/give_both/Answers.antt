@@ -1,4 +1,4 @@
-use Rattle.std.proofs.Common.{◌≡◌, ◌≤◌, ◌<◌, ◌+◌, ◌*◌, ℕ, List, true, true≢false, get_or, sym, ap, ◌∙◌, subst, arith}
+use Rattle.std.proofs.Common.{true≢false, get_or, sym, ap, ◌∙◌, subst, arith}
 use Rattle.log_berth.specs.declared.known.Known.{Known}
 use Rattle.log_berth.specs.Words.{NoMore}
 use Rattle.log_service.specs.Places.{Place}

@@ -1,10 +1,6 @@
-use Rattle.std.proofs.Common.{◌≡◌, ◌<◌, ℕ, List, length, sym, ap, ◌∙◌, subst, arith}
-use Rattle.std.specs.Prelude.{Option}
+use Rattle.std.proofs.Common.{length, sym, ap, ◌∙◌, subst, arith}
 use Rattle.std.proofs.lemmas.Option.{same_Some}
-use Rattle.append_ring.specs.declared.pass.RingPass.{RingPass}
 use Rattle.append_ring.specs.Parts.{IsNew, AreNewAfter}
-use Rattle.log_trucks.specs.Held.{Held}
-use Rattle.log_service.specs.declared.load.Load.{Load}
 use Rattle.log_service.proofs.IdlePasses.{first_parted}
 use Rattle.log_service.proofs.service.LogService.start.Goals as goal
 
@@ -20,18 +16,8 @@ first_half-mover-requires-clause-hand g c =
     let first = first_parted g.N.Naming.hand g.N.Naming.lasts c.args.rings.loads.passes (omega (arith, parts.all, c.requires.regions)) parts.new in
     subst (IsNew g.N.Naming.hand g.N.Naming.lasts 1) (same_Some first.pass c.in-Some.hand (sym first.is ∙ (sym c.next.ensures.given ∙ c.in-Some.is))) first.new
 
-pub invariant_of-result : goal.invariant_of-result
-invariant_of-result g c =
+pub first_half-mover-requires-clause-idle : goal.first_half-mover-requires-clause-idle
+first_half-mover-requires-clause-idle g c =
     let parts = c.requires.loads.1.parts in
-    let first = first_parted g.N.Naming.hand g.N.Naming.lasts c.args.rings.loads.passes (omega (arith, parts.all, c.requires.regions)) parts.new in (
-      c.requires.items.1.is,
-      c.requires.loads.1.is,
-      c.requires.items.0,
-      c.requires.loads.0,
-      c.in-Ok.ensures.berth.0,
-      c.in-Ok-new.ensures.berth.0,
-      c.requires.regions.0,
-      c.requires.regions.2,
-      c.in-Ok.ensures.berth.1 ∙ sym c.in-Ok-new.ensures.berth.1,
-      (subst (AreNewAfter g.N.Naming.hand g.N.Naming.lasts 0 1) (sym c.next.ensures.left) first.left, ap length c.next.ensures.left ∙ (first.all ∙ parts.all)),
-    )
+    let first = first_parted g.N.Naming.hand g.N.Naming.lasts c.args.rings.loads.passes (omega (arith, parts.all, c.requires.regions)) parts.new in
+    (subst (AreNewAfter g.N.Naming.hand g.N.Naming.lasts 0 1) (sym c.next.ensures.left) first.left, ap length c.next.ensures.left ∙ (first.all ∙ parts.all))

@@ -1,0 +1,168 @@
+// Each call of a run fails in turn. What is read then, and what a crash at each moment leaves, is what the rules allow.
+
+use crate::calls::{A, B, C, make_calls};
+use disk_fakes::{CallKind, Fail, MemDisk};
+use std::alloc::Global;
+use std::process::Abort;
+use std::test::Fail as TestFail;
+
+// What a crash at each moment may leave, as folders parted by |. A folder has the files that are there, each with its
+// name and its bytes: ? is any byte, + is any byte or none.
+const IMAGES: [&str; 21] = [
+    "",
+    "|a:",
+    "|a:++++",
+    "a:abcd",
+    "a:ab??++",
+    "a:ab??++|a:ab??++ b:",
+    "a:ab??++|a:ab??++ b:++",
+    "a:ab??++ b:12",
+    "a:abWXYZ b:12",
+    "a:abWXYZ b:12|c:abWXYZ b:12",
+    "a:a??XYZ b:12|c:a??XYZ b:12",
+    "c:aefXYZ b:12",
+    "c:aefXYZ b:12|c:aefXYZ",
+    "c:aefXYZ",
+    "c:aefXYZ|c:aefXYZ b:",
+    "c:aefXYZ|c:aefXYZ b:+",
+    "c:aefXYZ|c:aefXYZ b:+|c:aefXYZ a:+",
+    "c:aefXYZ a:+",
+    "c:aefXYZ a:+|a:+",
+    "c:aefXYZ a:+|a:+|c:aefXYZ|",
+    "",
+];
+
+// The calls of the run: the place, the kind, which of this kind it is, and the clock and the folders that may be read
+// where it failed. A failed create, rename or remove was made or not, and a failed write leaves any bytes; it makes a
+// moment, and other failed calls make none.
+const CALLS: [(u64, CallKind, u64, u64, &str); 26] = [
+    (1, CallKind::Names, 1, 0, ""),
+    (2, CallKind::Size, 1, 0, ""),
+    (3, CallKind::Create, 1, 0, "|a:"),
+    (4, CallKind::WriteAt, 1, 2, "a:++++"),
+    (5, CallKind::Sync, 1, 2, "a:abcd"),
+    (6, CallKind::Read, 1, 3, "a:abcd"),
+    (7, CallKind::WriteAt, 2, 4, "a:ab??++"),
+    (8, CallKind::Create, 2, 4, "a:abWXYZ|a:abWXYZ b:"),
+    (9, CallKind::WriteAt, 3, 6, "a:abWXYZ b:++"),
+    (10, CallKind::Sync, 2, 6, "a:abWXYZ b:12"),
+    (11, CallKind::Sync, 3, 7, "a:abWXYZ b:12"),
+    (12, CallKind::Rename, 1, 8, "a:abWXYZ b:12|c:abWXYZ b:12"),
+    (13, CallKind::Names, 2, 9, "c:abWXYZ b:12"),
+    (14, CallKind::Read, 2, 9, "c:abWXYZ b:12"),
+    (15, CallKind::WriteAt, 4, 10, "c:a??XYZ b:12"),
+    (16, CallKind::Sync, 4, 10, "c:aefXYZ b:12"),
+    (17, CallKind::Remove, 1, 11, "c:aefXYZ b:12|c:aefXYZ"),
+    (18, CallKind::Size, 2, 12, "c:aefXYZ"),
+    (19, CallKind::Settle, 1, 12, "c:aefXYZ"),
+    (20, CallKind::Create, 3, 13, "c:aefXYZ|c:aefXYZ b:"),
+    (21, CallKind::WriteAt, 5, 15, "c:aefXYZ b:+"),
+    (22, CallKind::Rename, 2, 15, "c:aefXYZ b:3|c:aefXYZ a:3"),
+    (23, CallKind::Settle, 2, 16, "c:aefXYZ a:3"),
+    (24, CallKind::Remove, 2, 17, "c:aefXYZ a:3|a:3"),
+    (25, CallKind::Remove, 3, 18, "a:3|"),
+    (26, CallKind::Settle, 3, 19, ""),
+];
+
+const KINDS: [CallKind; 9] = [
+    CallKind::Names,
+    CallKind::Size,
+    CallKind::Read,
+    CallKind::Create,
+    CallKind::WriteAt,
+    CallKind::Sync,
+    CallKind::Rename,
+    CallKind::Remove,
+    CallKind::Settle,
+];
+
+/// Tells whether these are bytes of the pattern.
+fn fits(pattern: &[u8], bytes: &[u8]) -> bool {
+    for (i, want) in pattern.iter().enumerate() {
+        let is_like = match bytes.get(i) {
+            None => *want == b'+',
+            Some(byte) => *want == b'+' || *want == b'?' || *want == *byte,
+        };
+        if !is_like {
+            return false;
+        }
+    }
+    bytes.len() <= pattern.len()
+}
+
+/// Tells whether the folder has the file as it is.
+fn has_file(folder: &str, start: &str, bytes: Option<&[u8]>) -> bool {
+    for file in folder.split(' ') {
+        if let Some(pattern) = file.strip_prefix(start) {
+            return match bytes {
+                Some(bytes) => fits(pattern.as_bytes(), bytes),
+                None => false,
+            };
+        }
+    }
+    bytes.is_none()
+}
+
+/// Tells whether the disk reads as one of the folders.
+fn reads_as(disk: &MemDisk, folders: &str) -> bool {
+    for folder in folders.split('|') {
+        if has_file(folder, "a:", disk.bytes(A))
+            && has_file(folder, "b:", disk.bytes(B))
+            && has_file(folder, "c:", disk.bytes(C))
+        {
+            return true;
+        }
+    }
+    false
+}
+
+/// Asserts that a crash at each moment so far leaves one of its folders.
+fn assert_images<R: Abort>(rt: &R, alloc: Global, disk: &MemDisk) -> Result<(), TestFail> {
+    for (moment, folders) in IMAGES.into_iter().enumerate() {
+        let moment = moment as u64;
+        if moment > disk.clock() {
+            break;
+        }
+        for choice in 0..4 {
+            let image = disk.crash(alloc, moment, choice)?;
+            assert!(rt;
+                reads_as(&image, folders),
+                "moment {moment} choice {choice}"
+            );
+        }
+    }
+    Ok(())
+}
+
+/// How many calls were made.
+fn all_calls(disk: &MemDisk) -> u64 {
+    let mut sum: u64 = 0;
+    for kind in KINDS {
+        sum = sum.saturating_add(disk.calls(kind));
+    }
+    sum
+}
+
+#[test]
+fn each_call_fails_in_turn(rt: HostRuntime) -> Result<(), TestFail> {
+    for (place, call, nth, clock, folders) in CALLS {
+        let mut disk = MemDisk::new(rt.alloc(), &[Fail { call, nth }])?;
+        assert!(rt; make_calls(&mut disk, rt.alloc()).is_err());
+        assert_eq!(rt; disk.calls(call), nth);
+        assert_eq!(rt; all_calls(&disk), place);
+        assert!(rt; reads_as(&disk, folders), "{call:?} {nth} reads");
+        assert_eq!(rt; disk.clock(), clock);
+        assert_images(&rt, rt.alloc(), &disk)?;
+    }
+    Ok(())
+}
+
+#[test]
+fn no_call_fails(rt: HostRuntime) -> Result<(), TestFail> {
+    let mut disk = MemDisk::new(rt.alloc(), &[])?;
+    make_calls(&mut disk, rt.alloc())?;
+    assert_eq!(rt; all_calls(&disk), 26);
+    assert_eq!(rt; disk.clock(), 20);
+    assert!(rt; reads_as(&disk, ""));
+    assert_images(&rt, rt.alloc(), &disk)
+}

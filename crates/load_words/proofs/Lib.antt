@@ -1,0 +1,4 @@
+pub mod Building
+pub mod OptionReads
+pub mod Spelled
+pub mod Taken

@@ -1,0 +1,4 @@
+pub mod Rows
+pub mod MadeLaws
+pub mod Making
+pub mod Counting

@@ -1,0 +1,4 @@
+pub mod OneDamage
+pub mod Leaving
+pub mod Printing
+pub mod Telling

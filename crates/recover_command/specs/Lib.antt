@@ -1,0 +1,3 @@
+pub mod Lines
+pub mod Recovered
+pub mod Refusals

@@ -1,0 +1,41 @@
+use Rattle.std.proofs.Common.{◌≡◌, ℕ, ◌≤◌, Err, refl, ap, sym, ◌∙◌, subst}
+use mathlib.Core.List.{IsPrefix}
+use Rattle.hand_register.specs.declared.hand.Hand.{Hand}
+use Rattle.hand_register.specs.Desks.{record_of}
+use Rattle.log_device.specs.declared.error.DeviceFlush.{DeviceFlush}
+use Rattle.log_service.specs.Numbers.{seen_stored}
+use Rattle.region_model.specs.Calls.{FlushOk}
+use Rattle.region_versions.specs.Histories.{Beginning}
+use Rattle.region_versions.proofs.Fronts.{prefix_self}
+use Rattle.region_lock.proofs.FlushLaws.{flush_at, refused_at}
+use Rattle.region_lock.proofs.flush.flush_in.Goals as goal
+
+pub returns-in-Ok-flushed-clause-flushes : goal.returns-in-Ok-flushed-clause-flushes
+returns-in-Ok-flushed-clause-flushes g c =
+    let n = c.args.service.now.regions in
+    let r = c.args.at.now.viewer.region in
+    let looked = c.in-Ok.ensures.looked in
+    let viewer : c.unmark.new.at.viewer ≡ c.args.at.now.viewer = c.unmark.ensures.same.0 ∙ c.look.ensures.same.0 in
+    let told = ap (λ (h : Hand ℕ). (record_of h).list) (c.unmark.ensures.same.3 ∙ c.look.ensures.same.3) in
+    let later = subst (λ (b : Beginning). IsPrefix c.args.at.now.viewer.lines b.lines) (sym viewer) (prefix_self c.args.at.now.viewer.lines) in
+    let k = c.in-Ok-flushed.number in
+    let found = c.in-Ok-flushed.ensures.flushed in
+    let stored = subst (λ (s : ℕ). k ≤ seen_stored n c.flush-flushed.new.seat.device.knows s) c.region-region.ensures found.1 in
+    flush_at n (g.N.Naming-3.base r) (g.N.Naming-1.flushes r) c.args.by (FlushOk k) r c.unmark.new.at.viewer.region _ _ _ _ _ _ c.args.seat.now c.flush-flushed.new.seat c.in-Ok.upto
+    (ap (λ (b : Beginning). b.region) viewer) (c.unmark.ensures.same.2 ∙ c.look.ensures.same.2) told later c.flush-flushed.ensures.later looked.0 looked.2
+    (λ m some. subst (λ (m' : ℕ). (c.in-Ok.upto ≤ m') × (m' ≤ seen_stored n c.flush-flushed.new.seat.device.knows r)) (cc some) (found.0, stored)) (λ h d is. absurd (cc is)) (λ is. absurd (cc is))
+
+pub returns-in-Err-flushed-clause-flushes : goal.returns-in-Err-flushed-clause-flushes
+returns-in-Err-flushed-clause-flushes g c =
+    let n = c.args.service.now.regions in
+    let r = c.args.at.now.viewer.region in
+    let looked = c.in-Ok.ensures.looked in
+    let viewer : c.unmark.new.at.viewer ≡ c.args.at.now.viewer = c.unmark.ensures.same.0 ∙ c.look.ensures.same.0 in
+    let told = ap (λ (h : Hand ℕ). (record_of h).list) (c.unmark.ensures.same.3 ∙ c.look.ensures.same.3) in
+    let later = subst (λ (b : Beginning). IsPrefix c.args.at.now.viewer.lines b.lines) (sym viewer) (prefix_self c.args.at.now.viewer.lines) in
+    let why = c.in-Err-flushed.refusal in
+    let number : (m : ℕ) → why ≡ DeviceFlush.Nothing m → (c.in-Ok.upto ≤ m) × (m ≤ seen_stored n c.flush-flushed.new.seat.device.knows r) = λ m e.
+        let found = c.flush-flushed.ensures.nothing m (c.in-Err-flushed.is ∙ ap Err e) in
+        (found.0, subst (λ (s : ℕ). m ≤ seen_stored n c.flush-flushed.new.seat.device.knows s) c.region-region.ensures found.1) in
+    rw c.refusal_of.ensures (refused_at n (g.N.Naming-3.base r) (g.N.Naming-1.flushes r) c.args.by why r c.unmark.new.at.viewer.region _ _ _ _ _ _ c.args.seat.now c.flush-flushed.new.seat c.in-Ok.upto
+    (ap (λ (b : Beginning). b.region) viewer) (c.unmark.ensures.same.2 ∙ c.look.ensures.same.2) told later c.flush-flushed.ensures.later looked.0 looked.2 number (λ e. c.flush-flushed.ensures.fault.0 (c.in-Err-flushed.is ∙ ap Err e)))

@@ -1,0 +1,33 @@
+use Rattle.std.proofs.Common.{◌+◌, inr, List, Contains, subst}
+use Rattle.std.proofs.lemmas.Result.{on_ok_weaker}
+use Rattle.log_model.specs.declared.name.Name.{Name}
+use Rattle.disk_images.proofs.Moments.{joined, weaker}
+use Rattle.disk_images.proofs.Settled.{there_of}
+use Rattle.recovery.specs.Alike.{AllAlike}
+use Rattle.recovery.proofs.Turns.{in_turn}
+use Rattle.wal_split.specs.Moments.{WasOrAlike}
+use Rattle.region_replay.proofs.recovering.recover_all.Goals as goal
+
+pub returns-in-Ok-clause-any_moment : goal.returns-in-Ok-clause-any_moment
+returns-in-Ok-clause-any_moment g c told =
+    let u = g.D.Disk.view c.args.disk.now in
+    let w = g.D.Disk.view c.split_read.new.disk in
+    let v = g.D.Disk.view c.recover_split.new.disk in
+    let first = c.split_read.ensures.any_moment told in
+    let second = c.recover_split.ensures.any_moment told in
+    let alike = c.in-Ok.ensures.alike told in
+    (first.0 + second.0, joined (WasOrAlike u) first.0 second.0 u w v first.1 (weaker (AllAlike w.files) (WasOrAlike u) second.0 w v (λ J more. inr (in_turn u.files w.files J alike more)) second.1))
+
+pub returns-in-Ok-clause-alike : goal.returns-in-Ok-clause-alike
+returns-in-Ok-clause-alike g c told =
+    let u = g.D.Disk.view c.args.disk.now in
+    let w = g.D.Disk.view c.split_read.new.disk in
+    let v = g.D.Disk.view c.recover_split.new.disk in
+    on_ok_weaker c.recover_split.result (λ more. in_turn u.files w.files v.files (c.in-Ok.ensures.alike told) more) (c.recover_split.ensures.alike told)
+
+pub returns-in-Ok-clause-names : goal.returns-in-Ok-clause-names
+returns-in-Ok-clause-names g c told =
+    let u = g.D.Disk.view c.args.disk.now in
+    on_ok_weaker c.recover_split.result
+    (λ higher n bound m here. higher n (c.in-Ok.ensures.names told n bound) (λ k has. bound k (there_of u.files k (subst (λ (l : List Name). Contains l k) (c.in-Ok.ensures.found told) has))) m here)
+    (c.recover_split.ensures.names told)

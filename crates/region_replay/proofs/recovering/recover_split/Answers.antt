@@ -1,0 +1,73 @@
+use Rattle.std.proofs.Common.{IsTrue, List, sym, subst}
+use Rattle.disk_images.proofs.Moments.{at_once}
+use Rattle.recovery.specs.Alike.{AllAlike}
+use Rattle.region_replay.specs.Opened.{AreOf}
+use Rattle.region_replay.specs.Ready.{Found}
+use Rattle.region_replay.proofs.AllFound.{each_in_order, are_apart, are_all_found, one_above, all_told}
+use Rattle.region_replay.proofs.recovering.recover_split.Goals as goal
+
+pub returns-in_err-regions-clause-any_moment : goal.returns-in_err-regions-clause-any_moment
+returns-in_err-regions-clause-any_moment g c told =
+    let u = g.D.Disk.view c.args.disk.now in
+    (0, at_once (AllAlike u.files) u (c.requires.split told).held.alike)
+
+pub replay_all-requires-clause-order : goal.replay_all-requires-clause-order
+replay_all-requires-clause-order g c = each_in_order (IsTrue g.D.Disk.told) c.args.split c.requires.range c.in_ok-regions.regions.items c.in_ok-regions.ensures (λ told. (c.requires.left told).names_rise)
+
+pub replay_all-requires-clause-apart : goal.replay_all-requires-clause-apart
+replay_all-requires-clause-apart g c = are_apart (IsTrue g.D.Disk.told) c.args.split c.requires.range c.in_ok-regions.regions.items c.in_ok-regions.ensures
+
+pub replay_all-requires-clause-found : goal.replay_all-requires-clause-found
+replay_all-requires-clause-found g c told =
+    let u = g.D.Disk.view c.args.disk.now in
+    ∣ (u.files, (c.requires.split told).held, (are_all_found (IsTrue g.D.Disk.told) c.args.split c.requires.range c.in_ok-regions.regions.items c.in_ok-regions.ensures u.files (c.requires.left told)).found) ∣₁
+
+pub returns-in-Ok-clause-any_moment : goal.returns-in-Ok-clause-any_moment
+returns-in-Ok-clause-any_moment g c told =
+    let u = g.D.Disk.view c.args.disk.now in
+    let held = (c.requires.split told).held in
+    let found = are_all_found (IsTrue g.D.Disk.told) c.args.split c.requires.range c.in_ok-regions.regions.items c.in_ok-regions.ensures u.files (c.requires.left told) in
+    c.replay_all.ensures.any_moment told u.files held found
+
+pub returns-in-Err-Memory-clause-any_moment : goal.returns-in-Err-Memory-clause-any_moment
+returns-in-Err-Memory-clause-any_moment g c told =
+    let u = g.D.Disk.view c.args.disk.now in
+    let held = (c.requires.split told).held in
+    let found = are_all_found (IsTrue g.D.Disk.told) c.args.split c.requires.range c.in_ok-regions.regions.items c.in_ok-regions.ensures u.files (c.requires.left told) in
+    c.replay_all.ensures.any_moment told u.files held found
+
+pub returns-in-Err-DiskFault-clause-any_moment : goal.returns-in-Err-DiskFault-clause-any_moment
+returns-in-Err-DiskFault-clause-any_moment g c told =
+    let u = g.D.Disk.view c.args.disk.now in
+    let held = (c.requires.split told).held in
+    let found = are_all_found (IsTrue g.D.Disk.told) c.args.split c.requires.range c.in_ok-regions.regions.items c.in_ok-regions.ensures u.files (c.requires.left told) in
+    c.replay_all.ensures.any_moment told u.files held found
+
+pub returns-in-Ok-clause-ready : goal.returns-in-Ok-clause-ready
+returns-in-Ok-clause-ready g c told =
+    let u = g.D.Disk.view c.args.disk.now in
+    let held = (c.requires.split told).held in
+    let found = are_all_found (IsTrue g.D.Disk.told) c.args.split c.requires.range c.in_ok-regions.regions.items c.in_ok-regions.ensures u.files (c.requires.left told) in
+    c.in-Ok.ensures.ready told u.files held found
+
+pub returns-in-Ok-clause-alike : goal.returns-in-Ok-clause-alike
+returns-in-Ok-clause-alike g c told =
+    let u = g.D.Disk.view c.args.disk.now in
+    let held = (c.requires.split told).held in
+    let found = are_all_found (IsTrue g.D.Disk.told) c.args.split c.requires.range c.in_ok-regions.regions.items c.in_ok-regions.ensures u.files (c.requires.left told) in
+    c.in-Ok.ensures.alike told u.files held found
+
+pub returns-in-Ok-clause-names : goal.returns-in-Ok-clause-names
+returns-in-Ok-clause-names g c told n bound low m here =
+    let u = g.D.Disk.view c.args.disk.now in
+    let held = (c.requires.split told).held in
+    let found = are_all_found (IsTrue g.D.Disk.told) c.args.split c.requires.range c.in_ok-regions.regions.items c.in_ok-regions.ensures u.files (c.requires.left told) in
+    one_above (IsTrue g.D.Disk.told) c.args.split c.requires.range c.in_ok-regions.regions.items c.in_ok-regions.ensures u.files (g.D.Disk.view c.replay_all.new.disk).files (c.in-Ok.ensures.names told u.files held found) n bound low m here
+
+pub returns-in-Ok-clause-recovered : goal.returns-in-Ok-clause-recovered
+returns-in-Ok-clause-recovered g c told old alike =
+    let u = g.D.Disk.view c.args.disk.now in
+    let held = (c.requires.split told).held in
+    let found = are_all_found (IsTrue g.D.Disk.told) c.args.split c.requires.range c.in_ok-regions.regions.items c.in_ok-regions.ensures u.files (c.requires.left told) in
+    let v = g.D.Disk.view c.replay_all.new.disk in
+    subst (λ (ys : List Found). AreOf old v.files 1 ys) (sym c.of.ensures) (all_told (IsTrue g.D.Disk.told) c.args.split c.requires.range c.in_ok-regions.regions.items c.in_ok-regions.ensures old u.files v.files alike c.in-Ok.replayed.items (c.in-Ok.ensures.replayed told u.files held found))

@@ -1,0 +1,107 @@
+-- Close's facts give the headline, though not which beginning of a journal a crash leaves.
+use Rattle.std.proofs.Common.{◌≡◌, ◌≢◌, ℕ, ◌^◌, ◌<◌, ◌≤◌, Bool, true, false, List, [], ◌∷◌, map, Contains, refl, sym, ◌∙◌, subst, arith, inl, inr}
+use Rattle.cell_model.specs.Cell.{Cell}
+use Rattle.log_model.specs.declared.name.Name.{Name}
+use Rattle.log_model.specs.Entry.{Entry}
+use Rattle.log_model.specs.Files.{Files, IsLogFile, IsSound, IsLastLog, IsPresent}
+use Rattle.log_model.specs.Recovered.{IsRecovered, IsContent, IsLast, RecoversAlike}
+use Rattle.region_model.specs.Calls.{Call, Put, Flush, Answer, Reply}
+use Rattle.region_model.specs.Lawful.{IsLawful}
+use Rattle.script_model.specs.Report.{report_text}
+use Rattle.script_model.specs.Calls.{Script}
+use Rattle.disk_images.specs.Crash.{DiskView, IsImageNow}
+use Rattle.server_model.specs.Pass.{Naming}
+use Rattle.server_model.specs.Closing.{IsClosedRegion, Survives, Leaves, Handled, Pairs, passes_of, replies_of}
+use Rattle.server_model.proofs.JournalLaws.{pairs_all, contains_cons}
+use Rattle.server_model.proofs.RepliesLaw.{survives, flush_was_done, RollCovers, rolls_cover, has_pass, kept_of}
+use Rattle.run_model.specs.Headline.{report_of, IsOneJournal, Endures, AreDone, IsRolledBehind, FitsStatus, IsHeadline}
+use Rattle.run_model.specs.Closed.{ClosedAt, Closed}
+use Rattle.run_model.proofs.FromClose.{history_of, same_regions, at_each, lawful_at, one_journal, on_region, base_at}
+use Rattle.run_model.proofs.Choices.{each_in}
+use Rattle.std.proofs.Math.Logic.{∥∥₁_map₂}
+use Rattle.region_model.specs.Calls.{Scan, Roll, PutSpent, IsAnswerTo}
+use Rattle.run_model.specs.declared.spent.Spent.{Spent}
+use Rattle.run_model.specs.Spent.{IsSpent, OnlyPuts, first_spent}
+use Rattle.run_model.specs.Headline.{IsSpentHeadline}
+use Rattle.run_model.proofs.SpentLaws.{found as found_first}
+use Rattle.std.proofs.Common.{Some}
+
+module _ {script : Script} {found : Files} {left : DiskView} {name : Naming} {hs : List Handled} {xs : List ClosedAt} {broken : Bool} (c : Closed script found left name hs xs broken)
+    (kept : (x : ClosedAt) → Contains xs x → Survives left broken x.region x.it) (left_so : Leaves found left broken script.regions) where
+  endures : (status : ℕ) → (status ≢ 5 → broken ≡ false) → (x : ClosedAt) → Contains xs x → Endures left status (replies_of hs) (history_of x)
+  endures status whole x here = record {
+    images = λ J image. let i = survives name script.time x.region hs x.it left broken c.runs (c.regions x here) (kept x here) J image in (i.0, i.1, i.2, (λ no_5. i.3 (whole no_5)));
+  }
+
+  are_done : (status : ℕ) → (status ≢ 5 → broken ≡ false) → AreDone left status (replies_of hs)
+  are_done status whole = record {
+    flushes = λ reply r n is call number.
+        let x = on_region c reply is r (inl call) in
+        flush_was_done name script.time r hs x.0.it left broken c.runs (subst (λ k. IsClosedRegion name k (passes_of hs) x.0.it) x.2 (c.regions x.0 x.1)) (subst (λ k. Survives left broken k x.0.it) x.2 (kept x.0 x.1)) reply n is call number;
+    rolls = pairs_all _ (replies_of hs) (weaker (replies_of hs) (λ x is. is) (rolls_cover name script.time hs hs (λ h is. is) c.runs));
+    archived = λ no_5 log es kind file not_last. left_so.archived (whole no_5) log es file kind not_last;
+  }
+    where
+      weaker : (ys : List Reply) → ((x : Reply) → Contains ys x → Contains (replies_of hs) x) → Pairs (RollCovers hs) ys
+          → Pairs (λ put roll. (r n : ℕ) → IsRolledBehind r n put roll → (J : Files) (log : Name) (es : List Entry) (e : Entry) → IsImageNow left J → IsLastLog J log → IsLogFile J log es → Contains es e → e.region ≡ r → n < e.number) ys
+      weaker [] sub p = tt
+      weaker (y ∷ ys) sub p = (
+        (λ z is r n b J log es e image last file member on.
+            let x = on_region c y (sub y (0, omega arith, refl)) r (inr (true, b.cells, b.put)) in
+            let h = p.0 z is r n b.cells b.handler b.put b.answer b.roll b.rolled in
+            let closed = subst (λ k. IsClosedRegion name k (passes_of hs) x.0.it) x.2 (c.regions x.0 x.1) in
+            let survives_there = subst (λ k. Survives left broken k x.0.it) x.2 (kept x.0 x.1) in
+            omega (arith, h.2, closed.closed_seen h.0.pass (has_pass hs h.0 h.1), survives_there.closed J log es e image last file member on)),
+        weaker ys (λ x is. sub x (contains_cons y ys x is)) p.1,
+      )
+
+  -- the report of these histories and replies is one for which the headline holds
+  headline_kept : (before : DiskView) (status : ℕ) → before.files ≡ found → FitsStatus status (replies_of hs) → (status ≢ 5 → broken ≡ false)
+      → IsHeadline script before left status (report_text (report_of (map history_of xs) (replies_of hs) status))
+  headline_kept before status same fits whole = record {
+    histories = map history_of xs;
+    replies = replies_of hs;
+    is = refl;
+    statuses = fits;
+    sound = subst IsSound (sym same) c.sound;
+    report = record {
+      regions = same_regions xs ∙ c.numbers;
+      calls = c.calls;
+      last = at_each c (λ h. IsLast before.files h.region h.base.last) (λ x is. subst (λ f. IsLast f x.region x.it.base.last) (sym same) (base_at c x is).last);
+      content = at_each c (λ h. IsContent (IsRecovered before.files h.region) h.base.content) (λ x is. subst (λ f. IsContent (IsRecovered f x.region) x.it.base.content) (sym same) (base_at c x is).content);
+    };
+    journals = at_each c (IsOneJournal script) (one_journal c);
+    lawful = at_each c (λ h. IsLawful h.region h.base h.edits (replies_of hs)) (lawful_at c);
+    endures = at_each c (Endures left status (replies_of hs)) (endures status whole);
+    others = λ J r image above. subst (λ f. RecoversAlike f J r) (sym same) (left_so.others J r image above);
+    images_sound = λ low J image. left_so.sound J image (subst (λ f. (name : Name) → IsPresent f name → name.number ≤ 2 ^ 61) same low);
+    done = are_done status whole;
+  }
+
+-- A closed server and its handlers' replies give the headline for the report of a status that fits them.
+pub headline : {script : Script} {found : Files} {left : DiskView} {name : Naming} {hs : List Handled} {xs : List ClosedAt} {broken : Bool} → Closed script found left name hs xs broken
+    → (before : DiskView) (status : ℕ) → before.files ≡ found → FitsStatus status (replies_of hs) → (status ≢ 5 → broken ≡ false)
+    → ∥ IsHeadline script before left status (report_text (report_of (map history_of xs) (replies_of hs) status)) ∥₁
+headline {script} {found} {left} {name} {hs} {xs} {broken} c before status same fits whole =
+    ∥∥₁_map₂ (each_in (λ (x : ClosedAt). Survives left broken x.region x.it) xs c.survives) c.leaves (λ kept left_so. headline_kept c kept left_so before status same fits whole)
+
+only_puts : {script : Script} {found : Files} {left : DiskView} {name : Naming} {hs : List Handled} {xs : List ClosedAt} {broken : Bool} → Closed script found left name hs xs broken → OnlyPuts (replies_of hs)
+only_puts {script} {found} {left} {name} {hs} {xs} {broken} c x is spent = of_put x.call x.answer (kept_of name script.time hs c.runs x is).2.answers spent
+  where
+    of_put : (call : Call) (answer : Answer) → IsAnswerTo call answer → IsSpent answer → (region : ℕ) × (sync : Bool) × (cells : List Cell) × (call ≡ Put region sync cells)
+    of_put (Put region sync cells) answer fits told = (region, sync, cells, refl)
+    of_put (Scan region from to) (PutSpent n) fits told = absurd cc
+    of_put (Flush region) (PutSpent n) fits told = absurd cc
+    of_put Roll (PutSpent n) fits told = absurd cc
+    of_put (Scan region from to) answer fits told = absurd told
+    of_put (Flush region) answer fits told = absurd told
+    of_put Roll answer fits told = absurd told
+
+-- Where a put was answered spent and the log isn't broken, the first one is named.
+pub spent_headline : {script : Script} {found : Files} {left : DiskView} {name : Naming} {hs : List Handled} {xs : List ClosedAt} {broken : Bool} → Closed script found left name hs xs broken
+    → (before : DiskView) → before.files ≡ found → FitsStatus 8 (replies_of hs) → broken ≡ false → (s : Spent) → first_spent (replies_of hs) ≡ Some s
+    → ∥ IsSpentHeadline script before left s (report_text (report_of (map history_of xs) (replies_of hs) 8)) ∥₁
+unfolding headline_kept
+spent_headline {script} {found} {left} {name} {hs} {xs} {broken} c before same fits whole s first =
+    ∥∥₁_map₂ (each_in (λ (x : ClosedAt). Survives left broken x.region x.it) xs c.survives) c.leaves
+    (λ kept left_so. (headline_kept c kept left_so before 8 same fits (λ no_5. whole), found_first (replies_of hs) (only_puts c) s first))

@@ -1,0 +1,9 @@
+pub mod Lists
+pub mod Choices
+pub mod AskedLaws
+pub mod FromClose
+pub mod Headlines
+pub mod KeepsFound
+pub mod SpentLaws
+pub mod Rows
+pub mod Fault

@@ -1,0 +1,59 @@
+-- What a run has once its server is closed.
+use Rattle.std.specs.Prelude.{◌≡◌, ℕ, ◌≤◌, ◌==◌, Bool, true, false, List, filter, map, Contains}
+use Rattle.std.specs.List.{range_with_len}
+use Rattle.log_model.specs.Files.{Files, IsSound}
+use Rattle.log_model.specs.Recovered.{IsRecovered, IsContent, IsLast}
+use Rattle.region_model.specs.Journal.{Base, Caller}
+use Rattle.region_model.specs.Calls.{Call, Put, Scan, Flush, Roll}
+use Rattle.disk_images.specs.Crash.{DiskView}
+use Rattle.script_model.specs.Calls.{Script, Asked, asked, asked_by, IsScript}
+use Rattle.server_model.specs.Pass.{Pass, Naming}
+use Rattle.server_model.specs.Closing.{Region, IsClosedRegion, Survives, Leaves, Handled, AllRun, passes_of, replies_of}
+
+-- ---- the script's flushes
+
+abbrev pub is_flush_of : ℕ → Call → Bool
+is_flush_of r (Flush region) = region == r
+is_flush_of r (Put region sync cells) = false
+is_flush_of r (Scan region from to) = false
+is_flush_of r Roll = false
+
+abbrev pub caller_of : Asked → Caller
+caller_of a = record { handler = a.handler; call = a.number }
+
+-- the calls that are flushes of a region
+abbrev pub flushes_in : ℕ → Script → List Caller
+flushes_in r script = map caller_of (filter (λ a. is_flush_of r a.call) (asked script))
+
+-- the server is one for this script
+pub record IsNameFor (script : Script) (name : Naming) : Type 0 where
+  pub regions : name.regions ≡ script.regions
+  pub flushes : (r : ℕ) → name.flushes r ≡ flushes_in r script
+
+-- ---- closed
+
+-- a region by its number
+pub record ClosedAt : Type 0 where
+  pub region : ℕ
+  pub it : Region
+
+-- the base is what the files recover to
+pub record IsFound (files : Files) (r : ℕ) (base : Base) : Type 0 where
+  pub last : IsLast files r base.last
+  pub content : IsContent (IsRecovered files r) base.content
+
+-- What stands of a script's handlers and its server, once it is closed and the disk is handed on. What a crash may leave is there,
+-- and which number it is isn't told.
+pub record Closed (script : Script) (found : Files) (left : DiskView) (name : Naming) (hs : List Handled) (xs : List ClosedAt) (broken : Bool) : Type 0 where
+  pub script_right : IsScript script
+  pub named : IsNameFor script name
+  pub runs : AllRun name script.time hs
+  pub calls : map asked_by (replies_of hs) ≡ asked script
+  pub numbers : map (λ (x : ClosedAt). x.region) xs ≡ range_with_len 1 script.regions
+  pub regions : (x : ClosedAt) → Contains xs x → IsClosedRegion name x.region (passes_of hs) x.it
+  pub survives : (x : ClosedAt) → Contains xs x → ∥ Survives left broken x.region x.it ∥₁
+  pub leaves : ∥ Leaves found left broken script.regions ∥₁
+  -- where a pass has seen the fault word, the log is broken
+  pub seen_broken : (p : Pass) → Contains (passes_of hs) p → p.broken ≡ true → broken ≡ true
+  pub sound : IsSound found
+  pub bases : (r : ℕ) → 1 ≤ r → r ≤ script.regions → IsFound found r (name.bases r)

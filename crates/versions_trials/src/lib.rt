@@ -1,0 +1,8 @@
+//! Trials of a region's versions over threads: versions that are shown while others view, and the sharing of one that
+//! shows. A library of tests alone, at the top, so that no crate waits for it.
+#![tactic(auto)]
+
+#[cfg(test)]
+mod region;
+#[cfg(test)]
+mod viewing;

@@ -1,0 +1,38 @@
+use Rattle.std.proofs.Common.{◌+◌, inl, inr, IsTrue, sym, subst}
+use Rattle.std.proofs.lemmas.Result.{on_ok_weaker}
+use Rattle.log_model.specs.Files.{Files}
+use Rattle.disk_images.specs.Crash.{IsImageNow}
+use Rattle.disk_images.proofs.Moments.{joined, weaker}
+use Rattle.recovery.specs.Alike.{AllAlike}
+use Rattle.found_files.proofs.Sound.{of_same_files}
+use Rattle.wal_split.specs.Moments.{WasOrAlike}
+use Rattle.wal_split.specs.Left.{AtMostOneHigher}
+use Rattle.wal_split.proofs.whole.split_read.Goals as goal
+
+pub split_files-requires-clause-read : goal.split_files-requires-clause-read
+split_files-requires-clause-read g c =
+    let u = g.D.Disk.view c.args.disk.now in
+    let v = g.D.Disk.view c.find_files.new.disk in
+    of_same_files (IsTrue g.D.Disk.told) u.files v.files (λ told. sym (c.find_files.ensures.watches told).1.files) c.in-Ok.found.names c.in-Ok.found.names c.in-Ok.found.files.entries.items c.in-Ok.found.files.stores.items c.in-Ok.ensures.read
+
+pub returns-in-Ok-clause-any_moment : goal.returns-in-Ok-clause-any_moment
+returns-in-Ok-clause-any_moment g c told =
+    let u = g.D.Disk.view c.args.disk.now in
+    let v = g.D.Disk.view c.find_files.new.disk in
+    let w = g.D.Disk.view c.split_files.new.disk in
+    let first = c.find_files.ensures.watches told in
+    let second = c.split_files.ensures.any_moment told in (
+      first.0 + second.0,
+      joined (WasOrAlike u) first.0 second.0 u v w (weaker (IsImageNow u) (WasOrAlike u) first.0 u v (λ J was. inl was) first.1.moments)
+          (weaker (AllAlike v.files) (WasOrAlike u) second.0 v w (λ J alike. inr (subst (λ (f : Files). AllAlike f J) first.1.files alike)) second.1),
+    )
+
+pub returns-in-Ok-clause-alike : goal.returns-in-Ok-clause-alike
+returns-in-Ok-clause-alike g c told =
+    let w = g.D.Disk.view c.split_files.new.disk in
+    on_ok_weaker c.split_files.result (λ alike. subst (λ (f : Files). AllAlike f w.files) (c.find_files.ensures.watches told).1.files alike) (c.split_files.ensures.alike told)
+
+pub returns-in-Ok-clause-names : goal.returns-in-Ok-clause-names
+returns-in-Ok-clause-names g c told =
+    let w = g.D.Disk.view c.split_files.new.disk in
+    on_ok_weaker c.split_files.result (λ higher. subst (λ (f : Files). AtMostOneHigher f w.files) (c.find_files.ensures.watches told).1.files higher) (c.split_files.ensures.names told)
