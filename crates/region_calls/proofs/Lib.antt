@@ -4,3 +4,7 @@ pub mod Marks
 pub mod Begun
 pub mod Seated
 pub mod NamedSeeds
+pub mod ClosedLaws
+pub mod LeavesLaws
+pub mod BackLaws
+pub mod TakenLaws

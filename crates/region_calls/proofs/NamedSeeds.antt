@@ -74,3 +74,12 @@ base_of_region F bs a (suc k) low high =
     let back : suc k - 1 ≡ k = omega arith in
     let same : 1 + k ≡ suc k = omega arith in
     subst (λ i. IsBaseOf F (suc k) (get_or bs i no_base)) (sym back) (subst (λ r. IsBaseOf F r (get_or bs k no_base)) same (base_from F 1 bs a k (omega (arith, high))))
+
+last_in_bases : (bs : List Base) (k : ℕ) → k < length bs → get_or (lasts_of bs) k 0 ≡ (get_or bs k no_base).last
+last_in_bases [] k low = absurd (omega (arith, low))
+last_in_bases (b ∷ bs) zero low = refl
+last_in_bases (b ∷ bs) (suc k) low = last_in_bases bs k (omega (arith, low))
+
+-- the number before a region's first one is its base's last one
+pub last_at_base : (bs : List Base) (r : ℕ) → 1 ≤ r → r ≤ length bs → last_before (lasts_of bs) r ≡ (base_at bs r).last
+last_at_base bs r low high = last_in_bases bs (r - 1) (omega (arith, low, high))

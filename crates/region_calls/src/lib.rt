@@ -1,9 +1,14 @@
 //! A region server: the opening of a store, the passes of its handlers, and its calls.
 #![tactic(auto)]
 
+mod apart;
+mod closed;
+mod closing;
 mod dealing;
+mod giving;
 mod hands;
 mod helpers;
+mod meeting;
 mod naming;
 mod opening;
 mod pass;
@@ -18,7 +23,9 @@ mod starting;
 mod store;
 mod taking;
 mod unlocked;
+mod wording;
 
+pub use closed::{CloseRefusal, ClosedRegion, ClosedServer};
 pub use helpers::Helpers;
 pub use mem_segments::Page;
 pub use naming::Naming;
