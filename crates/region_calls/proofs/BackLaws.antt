@@ -175,3 +175,20 @@ module _ {N : Type 0} {g : Ghosts N} where
 pub seats_snoc : (ss : List LogSeat) (s : LogSeat) → device_seats (ss ++ s ∷ []) ≡ device_seats ss ++ s.device ∷ []
 seats_snoc [] s = refl
 seats_snoc (x ∷ ss) s = ap (λ (l : List Standing). x.device ∷ l) (seats_snoc ss s)
+
+-- ---- what all passes had seen
+
+module _ {N : Type 0} {g : Ghosts N} (the : Place) (ps : List (Pass N g)) (words : List ℕ) (broken : Bool) (of : AllOf the ps) (saw : AllSaw (device_seats (seats_of ps)) words broken) where
+  pub all_seen : (r : ℕ) → 1 ≤ r → r ≤ the.regions → (p : ThePass) → Contains (map knows ps) p
+      → ((p.known r).synced ≤ synced_in words r) × ((p.known r).stored ≤ stored_in the.regions words r) × ((p.known r).closed ≤ closed_in the.regions words r)
+  all_seen r low high p has =
+      let i = contains_get (map knows ps) p has in
+      let q = map_get (knows {N = N} {g = g}) ps i.0 p i.2 in
+      subst (λ (t : ThePass). ((t.known r).synced ≤ synced_in words r) × ((t.known r).stored ≤ stored_in the.regions words r) × ((t.known r).closed ≤ closed_in the.regions words r)) q.2
+      (pass_seen the q.0 words broken r (all_get the ps i.0 q.0 of q.1) (saw_each ps words broken saw q.0 (get_contains ps i.0 q.0 q.1)) low high)
+
+  pub all_broken : (p : ThePass) → Contains (map knows ps) p → p.broken ≡ true → broken ≡ true
+  all_broken p has e =
+      let i = contains_get (map knows ps) p has in
+      let q = map_get (knows {N = N} {g = g}) ps i.0 p i.2 in
+      ((saw_each ps words broken saw q.0 (get_contains ps i.0 q.0 q.1)).fault (ap (λ (t : ThePass). t.broken) q.2 ∙ e)).0

@@ -1,6 +1,8 @@
 -- Regions that were taken apart, with the words of the log that was closed.
 use Rattle.std.proofs.Common.{◌≡◌, ◌≢◌, ℕ, zero, suc, ◌+◌, ◌-◌, ◌<◌, ◌≤◌, Bool, true, false, List, [], ◌∷◌, length, map, Option, Some, None, slice_get, slice_index, set, Contains, refl, sym, ap, ◌∙◌, subst, arith}
 use Rattle.std.specs.List.{range_with_len}
+use Rattle.std.proofs.Math.Logic.{∥∥₁_map}
+use Rattle.log_model.specs.Entry.{Entry}
 use Rattle.atomic_table.specs.Seated.{TableId}
 use Rattle.append_ring.specs.declared.pass.RingPass.{RingPass}
 use Rattle.append_ring.specs.Parts.{AreOut, EachThere}
@@ -10,7 +12,8 @@ use Rattle.log_model.specs.Files.{Files}
 use Rattle.log_model.specs.Recovered.{IsRecovered, IsContent, RecoversAlike}
 use Rattle.disk_images.specs.Crash.{DiskView}
 use Rattle.region_model.specs.Journal.{Base}
-use Rattle.region_model.specs.Lines.{Line, edits_in}
+use Rattle.region_model.specs.Lines.{Line, edit_in, edits_in}
+use Rattle.std.proofs.lemmas.List.{length-map}
 use Rattle.log_service.specs.declared.item.Item.{Item}
 use Rattle.log_service.specs.Closed.{Pushed, CommitsRegion, CommitsSince, synced_in, stored_in, closed_in}
 use Rattle.server_model.specs.Pass.{Pass, Naming}
@@ -21,6 +24,8 @@ use Rattle.region_calls.specs.Backs.{AreAll}
 use Rattle.region_calls.specs.Closes.{HasMet, IsTaken, worded, HasSurvived}
 use Rattle.region_calls.specs.Wordings.{region_of, IsWorded}
 use Rattle.region_calls.specs.declared.closed.ClosedRegion.{ClosedRegion}
+use Rattle.region_calls.specs.declared.apart.Taken.{Taken}
+use Rattle.region_calls.proofs.BackLaws.{contains_get, get_low}
 use Rattle.region_calls.proofs.ClosedLaws.{closed_region, survives_of, survived_of}
 
 -- ---- places
@@ -110,3 +115,69 @@ survives_broken disk broken r x s = record { images = λ J image. let m = s.imag
 
 pub leaves_broken : (found : Files) (disk : DiskView) (broken : Bool) (regions : ℕ) → Leaves found disk broken regions → Leaves found disk true regions
 leaves_broken found disk broken regions l = record { sound = l.sound; others = l.others; archived = λ e. absurd (cc e) }
+
+-- ---- the regions as they are handed on
+
+-- of which taken region it was made
+pub record Made (bases : ℕ → Base) (handlers : ℕ) (ring : TableId) (passes : List Pass) (places : List (Option (RingPass Item))) (n : ℕ) (words : List ℕ) (x : ClosedRegion) : Type 0 where
+  pub k : ℕ
+  pub base : Base
+  pub xs : List Line
+  pub low : k < n
+  pub worded : IsWorded n words k base xs x
+  pub taken : IsTaken bases handlers ring passes places k base xs
+
+module _ (bases : ℕ → Base) (handlers : ℕ) (ring : TableId) (passes : List Pass) (places : List (Option (RingPass Item))) (n : ℕ) (words : List ℕ) where
+  pub made_at : (ts : List Taken) (cs : List ClosedRegion) (given : List ℕ) → length ts ≡ n → given ≡ words
+      → ((k : ℕ) (t : Taken) → slice_get ts k ≡ Some t → IsTaken bases handlers ring passes places k t.base t.lines.items)
+      → ((k : ℕ) (c : ClosedRegion) → slice_get cs k ≡ Some c → (t : Taken) × (slice_get ts k ≡ Some t) × IsWorded (length ts) given k t.base t.lines.items c)
+      → (x : ClosedRegion) → Contains cs x → Made bases handlers ring passes places n words x
+  made_at ts cs given count same taken each x has =
+      let i = contains_get cs x has in
+      let t = each i.0 x i.2 in
+      record {
+        k = i.0;
+        base = t.0.base;
+        xs = t.0.lines.items;
+        low = (let low = get_low ts i.0 t.0 t.1 in omega (arith, low, count));
+        worded = subst (λ (m : ℕ). IsWorded m words i.0 t.0.base t.0.lines.items x) count (subst (λ (l : List ℕ). IsWorded (length ts) l i.0 t.0.base t.0.lines.items x) same t.2);
+        taken = taken i.0 t.0 t.1;
+      }
+
+  pub closed_made : (name : Naming) (x : ClosedRegion) → name.bases ≡ bases → Made bases handlers ring passes places n words x → AreAll handlers passes
+      → ((r : ℕ) → 1 ≤ r → r ≤ n → (p : Pass) → Contains passes p → ((p.known r).synced ≤ synced_in words r) × ((p.known r).stored ≤ stored_in n words r) × ((p.known r).closed ≤ closed_in n words r))
+      → IsClosedRegion name x.region passes (region_of x)
+  closed_made name x named m all seen = closed_at name bases handlers n passes words m.k m.base m.xs x named m.taken.met m.worded all (seen (m.k + 1) (omega arith) (omega (arith, m.low)))
+
+  module _ (found begun : Files) (lasts : List ℕ) (first : (r : ℕ) → 1 ≤ r → r ≤ n → last_before lasts r ≡ (bases r).last) (alike : (r : ℕ) → RecoversAlike found begun r) (of : (r : ℕ) → 1 ≤ r → r ≤ n → IsBaseOf found r (bases r)) where
+    pub survives_made : (disk : DiskView) (broken : Bool) (x : ClosedRegion) → Made bases handlers ring passes places n words x
+        → ((r : ℕ) (content : Content) (pushed : List Entry) → Pushed begun places r content pushed → ∥ CommitsRegion disk broken n words lasts r content pushed ∥₁) → ∥ Survives disk broken x.region (region_of x) ∥₁
+    survives_made disk broken x m commits =
+        let r = m.k + 1 in
+        let pushed = pushed_at bases handlers ring passes found begun places m.k m.base m.xs m.taken (alike r) (of r (omega arith) (omega (arith, m.low))) in
+        let same = first r (omega arith) (omega (arith, m.low)) ∙ ap (λ (b : Base). b.last) (sym m.taken.met.base_is) in
+        ∥∥₁_map (commits r m.base.content (entries_in r m.xs) pushed) (λ c. as_closed (λ q y. Survives disk broken q y) n words m.k m.base m.xs x m.worded (survives_of disk broken n r (last_before lasts r) words m.base m.xs m.taken.met.journal same c))
+
+    pub survived_made : (start : ℕ) (disk : DiskView) (x : ClosedRegion) → Made bases handlers ring passes places n words x
+        → ((r : ℕ) (content : Content) (pushed : List Entry) → Pushed begun places r content pushed → ∥ CommitsSince start disk r (last_before lasts r) content pushed ∥₁) → ∥ HasSurvived start disk x.region (region_of x) ∥₁
+    survived_made start disk x m since =
+        let r = m.k + 1 in
+        let pushed = pushed_at bases handlers ring passes found begun places m.k m.base m.xs m.taken (alike r) (of r (omega arith) (omega (arith, m.low))) in
+        let same = first r (omega arith) (omega (arith, m.low)) ∙ ap (λ (b : Base). b.last) (sym m.taken.met.base_is) in
+        ∥∥₁_map (since r m.base.content (entries_in r m.xs) pushed) (λ c. as_closed (λ q y. HasSurvived start disk q y) n words m.k m.base m.xs x m.worded (survived_of start disk n r (last_before lasts r) words m.base m.xs m.taken.met.journal same c))
+
+    -- what is left of a region whose stored word is at or above its base's last number, once the log was closed as a broken one is
+    pub left_made : (name : Naming) (disk : DiskView) (broken : Bool) (k : ℕ) (base : Base) (xs : List Line) → name.bases ≡ bases → k < n → IsTaken bases handlers ring passes places k base xs → base.last ≤ stored_in n words (k + 1) → AreAll handlers passes
+        → ((r : ℕ) → 1 ≤ r → r ≤ n → (p : Pass) → Contains passes p → ((p.known r).synced ≤ synced_in words r) × ((p.known r).stored ≤ stored_in n words r) × ((p.known r).closed ≤ closed_in n words r))
+        → ((r : ℕ) (content : Content) (pushed : List Entry) → Pushed begun places r content pushed → ∥ CommitsRegion disk broken n words lasts r content pushed ∥₁)
+        → ∥ ((x : Region) × IsClosedRegion name (k + 1) passes x × Survives disk true (k + 1) x) ∥₁
+    left_made name disk broken k base xs named low t least all seen commits =
+        let r = k + 1 in
+        let pushed = pushed_at bases handlers ring passes found begun places k base xs t (alike r) (of r (omega arith) (omega (arith, low))) in
+        let same = first r (omega arith) (omega (arith, low)) ∙ ap (λ (b : Base). b.last) (sym t.met.base_is) in
+        let many : length (entries_in r xs) ≡ length xs = length-map xs (λ (x : Line). (edit_in r x).entry) in
+        ∥∥₁_map (commits r base.content (entries_in r xs) pushed) (λ c. (
+          worded n words r base xs,
+          closed_region name handlers n r passes words base xs (subst (λ (b : ℕ → Base). HasMet b handlers passes r base xs) (sym named) t.met) (record { least = least; most = omega (arith, c.bound, same, many) }) all (seen r (omega arith) (omega (arith, low))),
+          survives_broken disk broken r (worded n words r base xs) (survives_of disk broken n r (last_before lasts r) words base xs t.met.journal same c),
+        ))

@@ -1,6 +1,6 @@
 //! Regions are taken apart.
 
-ghost use Rattle.std.specs.Prelude.{◌≡◌, ◌≢◌, ◌≤◌, ◌<◌, ◌+◌, ℕ, [], length, map, IsTrue, Some, None, List, slice_get, slice_index, vec_capacity};
+ghost use Rattle.std.specs.Prelude.{◌≡◌, ◌≢◌, ◌≤◌, ◌<◌, ◌+◌, ℕ, [], length, map, IsTrue, Some, None, List, slice_get, slice_index, slice_set, vec_capacity};
 ghost use Rattle.append_ring.specs.Parts.{AreOut};
 ghost use Rattle.region_model.specs.Journal.{Base as TheBase};
 ghost use Rattle.region_model.specs.Lines.{Line as TheLine};
@@ -23,6 +23,15 @@ use std::sync::{Mutex, Wait};
 pub(crate) struct Taken {
     pub(crate) base: Base,
     pub(crate) lines: Vec<Line>,
+}
+
+impl Taken {
+    /// The last number of its base.
+    fn last(&self) -> u64
+        ensures { result ≡ self.now.base.last }
+    {
+        self.base.last
+    }
 }
 
 /// This holds. Where it doesn't, which no run shows, it does not return.
@@ -95,7 +104,15 @@ pub(crate) fn take_all<
     taken
 }
 
-/// Takes all regions apart, and lets go what they leave but their bases' last numbers.
+/// Writes a number at a place.
+fn note(lasts: &mut [u64], place: usize, last: u64)
+    requires { place < length lasts.old }
+    ensures { lasts.new ≡ slice_set lasts.old place last }
+{
+    lasts[place] = last;
+}
+
+/// Takes all regions apart, and lets go what they leave but their bases' last numbers, for which there is room.
 pub(crate) fn let_all_go<
     N: region_lock::Naming + log_service::Naming + region_versions::Naming,
     R: Wait + Drop,
@@ -105,21 +122,22 @@ pub(crate) fn let_all_go<
     regions: Vec<Mutex<Locked<N, R>>>,
     passes: &mut Vec<Pass<N>>,
     places: &mut RingPasses<Item>,
-) -> [u64; 64]
+    lasts: &mut [u64],
+)
     requires places { AreOut (length places.old) places.old × (length places.old ≡ length regions.items) × (length regions.items ≤ 64) }
     requires passes { (the : Place) × AllOf the passes.old.items × (length regions.items ≤ the.regions) }
+    requires room { 64 ≤ length lasts.old }
     ensures knows { map knows passes.new.items ≡ map knows passes.old.items }
     ensures of { (the : Place) → AllOf the passes.old.items → AllOf the passes.new.items }
     ensures taken { (k : ℕ) → k < length regions.items
-        → (base : TheBase) × (lines : List TheLine) × IsTaken N.Naming-3.base N.handlers N.ring (map knows passes.old.items) places.new k base lines × (slice_index result k ≡ base.last) }
-    ensures count { (length places.new ≡ length regions.items) × (length result ≡ 64) }
+        → (base : TheBase) × (lines : List TheLine) × IsTaken N.Naming-3.base N.handlers N.ring (map knows passes.old.items) places.new k base lines × (slice_index lasts.new k ≡ base.last) }
+    ensures count { (length places.new ≡ length regions.items) × (length lasts.new ≡ length lasts.old) }
 {
-    let mut lasts: [u64; 64] = [0; 64];
     let mut place: u32 = 0;
     'letting: for lock in regions {
         let one = take_region(rt, lock.into_inner(), passes, places, place);
-        lasts[place as usize] = one.base.last;
+        let last = one.last();
+        note(lasts, place as usize, last);
         place += 1;
     }
-    lasts
 }

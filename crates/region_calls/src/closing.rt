@@ -60,7 +60,7 @@ fn shut<D: Disk, N: region_lock::Naming + log_service::Naming + region_versions:
     places: RingPasses<Item>,
 ) -> ServiceClosed<D>
     requires seats { AreSeats service (length back.items + 2) seats × (length seats.devices.seats + (length back.items + 2) ≡ service.seats) }
-    requires back { AllOf service back.items × (length back.items ≤ 16) }
+    requires back { AllOf service back.items }
     requires helpers { AreSeatsOf service helpers × (length helpers ≡ 2) }
     requires passes { EachThere (λ p. p.pass.table_id ≡ service.ring) places × (length places ≡ service.regions) }
     ensures words { length result.synced ≡ 3 * service.regions }
@@ -161,7 +161,7 @@ impl<
         ensures seen_broken { IfOk result (λ c. (p : ThePass) → Contains (passes_back passes) p → p.broken ≡ true → c.broken ≡ true) }
         ensures cause { IfOk result (λ c. c.broken ≡ true → Rose N.faults (D.faults c.disk)) }
         ensures later { IfOk result (λ c. N.faults ≤ D.faults c.disk) }
-        ensures same { IfErr result (λ e. (e.server ≡ self) × (e.passes ≡ passes) × (e.helpers ≡ helpers)) }
+        ensures same { IfErr result (λ e. (e.server ≡ self.entry) × (e.passes ≡ passes) × (e.helpers ≡ helpers)) }
     {
         let Ok(room) = make_room(alloc, self.regions.len()) else {
             return Err(CloseRefusal {
@@ -193,7 +193,7 @@ impl<
         requires back { AllBack self.server N.handlers self.passes self.helpers }
 
         // Each region has a journal in which all that passes know of it meets, and of which a crash leaves a beginning.
-        ensures left { IsTrue D.told → IsLeft N.name (passes_back self.passes) (D.view result) }
+        ensures left { IsTrue D.told → IsLeft N.name (passes_back self.entry.passes) (D.view result) }
         ensures leaves { IsTrue D.told → ∥ Leaves N.found (D.view result) true N.name.regions ∥₁ }
         ensures faults { N.faults ≤ D.faults result }
     {
@@ -218,7 +218,8 @@ impl<
         let all = are_all(back.as_slice(), handlers);
         sure(rt, all);
         let count = regions.len();
-        let lasts = let_all_go(rt, regions, &mut back, &mut places);
+        let mut lasts: [u64; 64] = [0; 64];
+        let_all_go(rt, regions, &mut back, &mut places, &mut lasts);
         let ServiceClosed {
             disk,
             synced,

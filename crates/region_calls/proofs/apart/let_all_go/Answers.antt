@@ -45,6 +45,8 @@ letting-preserved g c =
     let ys = c.letting.yielded in
     let one : Taken = c.take_region-one.result in
     let lasts : List ℕ = c.letting.lasts in
+    let noted : List ℕ = c.note.new.lasts in
+    let write : noted ≡ set lasts c.letting.place one.base.last = c.note.ensures ∙ ap (λ (x : ℕ). set lasts c.letting.place x) c.last-last.ensures in
     let was : List (Pass g.row.N.Denot g.N.Naming-1) = c.args.passes.now.items in
     let done = c.take_region-one.ensures in
     let bases = g.N.Naming-3.base in
@@ -56,26 +58,31 @@ letting-preserved g c =
     record {
       known = done.knows ∙ inv.known;
       of = λ the a. done.of the (inv.of the a);
-      taken = λ k low. elim (cases_lt k (length ys)) as (λ _. (base : Base) × (xs : List Line) × IsTaken bases handlers ring (map knows was) c.take_region-one.new.places k base xs × (slice_index (set lasts c.letting.place one.base.last) k ≡ base.last)) [
+      taken = λ k low. elim (cases_lt k (length ys)) as (λ _. (base : Base) × (xs : List Line) × IsTaken bases handlers ring (map knows was) c.take_region-one.new.places k base xs × (slice_index noted k ≡ base.last)) [
         | inl before ↦
             let t = inv.taken k before in
             let other : k ≡ c.letting.place → ⊥ = (λ e. omega (arith, e, before, inv.place)) in
-            (t.0, t.1, taken_kept bases handlers ring (map knows was) c.letting.places c.take_region-one.new.places k t.0 t.1 (done.others k other) t.2, index_set_other lasts c.letting.place k one.base.last other ∙ t.3)
+            (t.0, t.1, taken_kept bases handlers ring (map knows was) c.letting.places c.take_region-one.new.places k t.0 t.1 (done.others k other) t.2, ap (λ (l : List ℕ). slice_index l k) write ∙ index_set_other lasts c.letting.place k one.base.last other ∙ t.3)
         | inr behind ↦
             let place : c.letting.place ≡ k = omega (arith, behind, low, longer, inv.place) in
             let now = subst (λ (l : List ThePass). IsTaken bases handlers ring l c.take_region-one.new.places c.letting.place one.base one.lines.items) inv.known done.taken in
-            let set_is = index_set_same lasts c.letting.place one.base.last (omega (arith, inv.place, room, inv.lasts)) in
-            (one.base, one.lines.items, subst (λ (i : ℕ). IsTaken bases handlers ring (map knows was) c.take_region-one.new.places i one.base one.lines.items) place now, ap (λ (i : ℕ). slice_index (set lasts c.letting.place one.base.last) i) (sym place) ∙ set_is)
+            let set_is = index_set_same lasts c.letting.place one.base.last (omega (arith, inv.place, room, inv.lasts, c.requires.room)) in
+            (one.base, one.lines.items, subst (λ (i : ℕ). IsTaken bases handlers ring (map knows was) c.take_region-one.new.places i one.base one.lines.items) place now, ap (λ (i : ℕ). slice_index noted i) (sym place) ∙ ap (λ (l : List ℕ). slice_index l c.letting.place) write ∙ set_is)
       ];
       out = λ j low high. done.others j (λ e. omega (arith, e, low, longer, inv.place)) ∙ inv.out j (omega (arith, low, longer)) (omega (arith, high, done.count));
       all = done.count ∙ inv.all;
       rest = append_assoc ys (c.in-Some.lock ∷ []) (into_iter_items c.next.new.self) ∙ ap (λ l. ys ++ l) (sym steps) ∙ inv.rest;
       place = omega (arith, inv.place, longer);
       len = omega (arith, c.in-Some.ensures.steps.1, ap length steps, inv.len);
-      lasts = length_set lasts c.letting.place one.base.last ∙ inv.lasts;
+      lasts = ap length write ∙ length_set lasts c.letting.place one.base.last ∙ inv.lasts;
     }
 
 pub returns-clause-taken : goal.returns-clause-taken
 returns-clause-taken g c k low =
     let inv = c.letting.invariant in
     inv.taken k (omega (arith, low, ap length inv.rest, length-append c.letting.yielded (into_iter_items c.letting.lock-iterator), inv.len, c.in-None.ensures.steps.0))
+
+pub note-requires : goal.note-requires
+note-requires g c =
+    let inv = c.letting.invariant in
+    omega (arith, inv.place, inv.lasts, c.requires.room, ap length inv.rest, length-append c.letting.yielded (into_iter_items c.letting.lock-iterator), ap length c.in-Some.ensures.steps.0, c.requires.places.2)

@@ -19,5 +19,5 @@ invariant-letting g l = record {
   rest : l.yielded ++ into_iter_items l.lock-iterator ≡ l.fn.regions.items;
   place : l.place ≡ length l.yielded;
   len : into_iter_len l.lock-iterator ≡ length (into_iter_items l.lock-iterator);
-  lasts : length l.lasts ≡ 64;
+  lasts : length l.lasts ≡ length l.fn.lasts;
 }
