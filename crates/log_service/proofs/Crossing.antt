@@ -82,9 +82,13 @@ module _ (D N : RattleType) (f : DiskGhosts D.Denot) (g : Ghosts N.Denot) where
       let second : IsSend (committer.the_row D N f g) = committer_send d in
       let T = inside.the_type D N f g in
       recorded_sync (Struct (shape T)) T.D T.to T.to_one
-      (struct_sync (shape T)
-      (search (ring.the_sync, item_send, sendable, crosses) depth 20, (search (ring.the_sync, load_send, sendable, crosses) depth 20,
-      (search (berth.the_sync, first, sendable, crosses) depth 20, (search (berth.the_sync, second, sendable, crosses) depth 20, (search sendable, tt))))))
+      (struct_sync (shape T) (
+        search (ring.the_sync, item_send, sendable, crosses) depth 20,
+        (
+          search (ring.the_sync, load_send, sendable, crosses) depth 20,
+          (search (berth.the_sync, first, sendable, crosses) depth 20, (search (berth.the_sync, second, sendable, crosses) depth 20, (search sendable, tt))),
+        ),
+      ))
 
   pub service_sync : IsSend D → IsSync (service.the_row D N f g)
   service_sync d =

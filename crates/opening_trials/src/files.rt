@@ -41,7 +41,7 @@ fn is_named(name: Name) -> bool
 }
 
 /// Makes a file with these bytes.
-fn add(disk: &mut MemDisk, name: Name, bytes: &[u8]) -> Result<(), TestFail>
+pub(crate) fn add(disk: &mut MemDisk, name: Name, bytes: &[u8]) -> Result<(), TestFail>
     requires none_gone { (m : _) → ¬ (view_of disk.old).gone m }
     ensures none_gone { (m : _) → ¬ (view_of disk.new).gone m }
 {

@@ -53,7 +53,11 @@ pub(crate) fn assert_opens<R: Abort>(
 }
 
 /// Asserts that no log and no edits file is there.
-fn assert_none_logged<R: Abort>(rt: &R, alloc: Global, disk: &mut MemDisk) -> Result<(), TestFail> {
+pub(crate) fn assert_none_logged<R: Abort>(
+    rt: &R,
+    alloc: Global,
+    disk: &mut MemDisk,
+) -> Result<(), TestFail> {
     let names = disk.names(alloc)?;
     for name in names.as_slice() {
         assert!(rt;

@@ -1,6 +1,7 @@
 -- A store that was recovered, on which a device is started.
-use Rattle.std.proofs.Common.{◌≡◌, ◌↔◌, ◌⊎◌, inl, inr, ℕ, zero, suc, ◌+◌, ◌-◌, ◌<◌, ◌≤◌, List, [], ◌∷◌, length, map, take, get_or, Contains, refl, sym, ap, ◌∙◌, subst, arith}
+use Rattle.std.proofs.Common.{◌≡◌, ◌≢◌, ◌↔◌, ◌⊎◌, inl, inr, ℕ, zero, suc, ◌+◌, ◌-◌, ◌<◌, ◌≤◌, List, [], ◌∷◌, length, map, take, get_or, Contains, refl, sym, ap, ◌∙◌, subst, arith}
 use Rattle.std.proofs.lemmas.Bool.{cases_lt}
+use Rattle.std.proofs.lemmas.Option.{slice_get_within}
 use Rattle.log_model.specs.Entry.{Entry}
 use Rattle.log_model.specs.Files.{Files, IsLogged}
 use Rattle.log_model.specs.Recovered.{IsGreatest, FlushesTo, IsFlushed, IsLast, IsRecovered}
@@ -18,12 +19,13 @@ use Rattle.log_ledger.specs.History.{started_in}
 use Rattle.log_device.specs.declared.device.Device.{Device}
 use Rattle.log_device.specs.Whole.{IsWhole, IsBroken, IsIdle, log_of, books_of}
 use Rattle.log_service.specs.Begun.{IsFresh, BeginsAs}
+use Rattle.log_service.specs.Halves.{HasFewStores}
 use Rattle.log_device.specs.Opened.{IsOpened}
 use Rattle.region_replay.specs.Ready.{Found}
 use Rattle.region_replay.specs.Opened.{AreOf}
 use Rattle.region_replay.specs.Cleared.{IsReady}
 use Rattle.region_calls.specs.Seeds.{mark, marks_from, flushed_of}
-use Rattle.region_calls.proofs.Marks.{mark_in, mark_at, marks_length, of_at, get_take, flushed_in, flushed_at, flushed_none, some_at, last_at}
+use Rattle.region_calls.proofs.Marks.{IsMark, mark_in, mark_at, marks_length, of_at, get_take, flushed_in, flushed_at, flushed_none, some_at, last_at}
 
 greatest_below : (P : ℕ → Type 0) (a b : ℕ) → IsGreatest P a → IsGreatest P b → a ≤ b
 greatest_below P a b x y = elim x.reached as (λ _. a ≤ b) [
@@ -156,12 +158,45 @@ is_fresh n xs ms first d is e unbroken idle served drawn synced = record {
   synced = synced;
 }
 
+-- the regions' next stores have numbers at most one above those of the files, by what was recovered
+pub few_stores : {D : Type 0} (n : ℕ) (xs : List Found) (ms : List RegionBase) (d : Device D) (old files : Files) → ms ≡ marks_from 1 (take n xs) → AreOf old files 1 xs
+    → AreNumbersOf (λ m. m.next_store) ms (books_of d).next_store → AreNumbersOf (λ m. m.flushed) ms (books_of d).stored → HasFewStores files (books_of d)
+few_stores n xs ms d old files is of next stored limit bound r = go r
+  where
+    ys : List Found
+    ys = take n xs
+
+    none : (r : ℕ) → ((m : RegionBase) → Contains ms m → m.region ≢ r) → get_or (books_of d).next_store r 0 ≤ limit + 1 + get_or (books_of d).stored r 0
+    none r other = (let zero_next = next.others r other in omega (arith, zero_next))
+
+    found : (m : RegionBase) → Contains ms m → IsMark 1 ys m
+    found m has = mark_in 1 ys m (subst (λ (l : List RegionBase). Contains l m) is has)
+
+    go : (r : ℕ) → get_or (books_of d).next_store r 0 ≤ limit + 1 + get_or (books_of d).stored r 0
+    go zero = none 0 (λ m has region. (let q = found m has in let at : m.region ≡ 1 + q.k = ap (λ (b : RegionBase). b.region) q.is in omega (arith, region, at)))
+    go (suc k) = elim (cases_lt k (length ys)) as (λ _. get_or (books_of d).next_store (suc k) 0 ≤ limit + 1 + get_or (books_of d).stored (suc k) 0) [
+      | inl low ↦ (
+          let x = some_at ys k low in
+          let has = subst (λ (l : List RegionBase). Contains l (mark (1 + k) x.0)) (sym is) (mark_at 1 ys k x.0 x.1) in
+          let same : suc k ≡ 1 + k = omega arith in
+          let few = (of_at old files 1 xs of k x.0 (get_take n xs k x.0 x.1)).few limit (λ m store region here. bound m here) in
+          let a : get_or (books_of d).next_store (suc k) 0 ≡ x.0.next_store = ap (λ (i : ℕ). get_or (books_of d).next_store i 0) same ∙ next.named (mark (1 + k) x.0) has in
+          let b : get_or (books_of d).stored (suc k) 0 ≡ x.0.flushed = ap (λ (i : ℕ). get_or (books_of d).stored i 0) same ∙ stored.named (mark (1 + k) x.0) has in
+          omega (arith, few, a, b))
+      | inr high ↦ none (suc k) (λ m has region. (
+          let q = found m has in
+          let at : m.region ≡ 1 + q.k = ap (λ (b : RegionBase). b.region) q.is in
+          let low = slice_get_within ys q.k q.x q.at in
+          omega (arith, region, at, low, high)))
+    ]
+
 pub begins_as : {D : Type 0} (n : ℕ) (xs : List Found) (ms : List RegionBase) (first : List ℕ) (d : Device D) (F : Files) (v : DiskView) → ms ≡ marks_from 1 (take n xs) → first ≡ flushed_of ms
-    → IsWhole d v (started_in F (flushed_in xs)) → BeginsAs F first d v (started_in F (flushed_in xs))
-begins_as n xs ms first d F v is e whole = record {
+    → HasFewStores F (books_of d) → IsWhole d v (started_in F (flushed_in xs)) → BeginsAs F first d v (started_in F (flushed_in xs))
+begins_as n xs ms first d F v is e few whole = record {
   whole = whole;
   began = record { base = refl; first = λ r low high. (marked n xs ms first is e r low high).flushed };
   none_durable = refl;
   none_staged = refl;
   no_logs = refl;
+  few = few;
 }

@@ -3,7 +3,6 @@ use Rattle.std.specs.Prelude.{◌≡◌, ℕ, ◌+◌, ◌-◌, ◌≤◌, List,
 use Rattle.std.specs.Global.{Vec}
 use Rattle.log_berth.specs.Standing.{AreBack}
 use Rattle.log_service.specs.declared.seats.LogSeat.{LogSeat}
-use Rattle.log_service.specs.declared.seats.LogSeats.{LogSeats}
 use Rattle.log_service.specs.Places.{Place, IsSeatOf}
 use Rattle.region_lock.specs.declared.pass.RegionPass.{RegionPass}
 use Rattle.region_lock.specs.declared.naming.Naming.{Ghosts}

@@ -1,5 +1,5 @@
 -- Names of servers.
-use Rattle.std.specs.Prelude.{◌≡◌, ℕ, ◌≤◌, List, [], length}
+use Rattle.std.specs.Prelude.{◌≡◌, ℕ, List, []}
 use Rattle.atomic_table.specs.Seated.{TableId}
 use Rattle.logbook.specs.Pages.{Book}
 use Rattle.region_model.specs.Journal.{Base, Caller}

@@ -1,5 +1,5 @@
 -- What a handler's pass knows of its server.
-use Rattle.std.specs.Prelude.{◌≡◌, ℕ, zero, suc, ◌+◌, ◌≤◌, List, [], ◌∷◌, length, Option, Some, None, slice_get}
+use Rattle.std.specs.Prelude.{◌≡◌, ℕ, zero, suc, ◌+◌, List, [], length, Option, Some, None, slice_get}
 use Rattle.hand_register.specs.Desks.{record_of}
 use Rattle.hand_register.specs.Rule.{empty}
 use Rattle.log_service.specs.declared.seats.LogSeat.{LogSeat}

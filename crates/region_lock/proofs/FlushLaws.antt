@@ -1,13 +1,13 @@
 -- What a flush's steps come to.
-use Rattle.std.proofs.Common.{◌≡◌, ◌≢◌, ℕ, ◌+◌, ◌<◌, ◌≤◌, Bool, true, List, Contains, Option, Some, None, Result, Ok, Err, refl, sym, ap, ◌∙◌, subst, arith}
+use Rattle.std.proofs.Common.{◌≡◌, ◌≢◌, ℕ, ◌+◌, ◌≤◌, true, List, Contains, Some, Result, Ok, Err, refl, sym, ◌∙◌, subst, arith}
 use mathlib.Core.List.{IsPrefix}
-use Rattle.region_model.specs.Journal.{Base, Caller, Edit, last_of}
+use Rattle.region_model.specs.Journal.{Base, Caller}
 use Rattle.region_model.specs.Calls.{Answer, FlushNothing, FlushBusy, FlushFault, FlushMemory}
 use Rattle.log_device.specs.declared.error.DeviceFlush.{DeviceFlush}
 use Rattle.log_device.specs.declared.error.DeviceFlush.TheVariants as device
 use Rattle.region_lock.specs.Answers.{refused_flush}
 use Rattle.region_model.specs.Lawful.{flushed_of}
-use Rattle.region_model.specs.Lines.{Line, edits_in, last_in}
+use Rattle.region_model.specs.Lines.{Line, last_in}
 use Rattle.log_service.specs.declared.seats.LogSeat.{LogSeat}
 use Rattle.log_service.specs.Numbers.{seen_stored}
 use Rattle.log_service.specs.Places.{IsLaterSeat}

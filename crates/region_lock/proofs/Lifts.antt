@@ -1,12 +1,12 @@
 -- One call of a pass, from what it does to what is known of its region.
 use Rattle.std.proofs.lemmas.Bool.{cases_eq}
-use Rattle.std.proofs.Common.{◌≡◌, ◌≢◌, ℕ, zero, suc, ◌+◌, ◌<◌, ◌≤◌, Bool, true, IsTrue, List, refl, sym, ap, ◌∙◌, subst, inl, inr, arith}
+use Rattle.std.proofs.Common.{◌≡◌, ◌≢◌, ℕ, ◌≤◌, Bool, IsTrue, List, sym, ◌∙◌, subst, inl, inr, arith}
 use Rattle.cell_model.specs.Cell.{Cell}
 use Rattle.region_model.specs.Journal.{Caller}
 use Rattle.region_model.specs.Calls.{Answer, is_put, is_scan, is_flush, is_roll}
 use Rattle.log_service.specs.declared.seats.LogSeat.{LogSeat}
-use Rattle.server_model.specs.Pass.{Known, Pass, Naming, IsLaterOf, IsLater, IsQuiet}
-use Rattle.server_model.specs.Steps.{Puts, Scans, Flushes, Rolls, IsQuietPass, IsRolled}
+use Rattle.server_model.specs.Pass.{Pass, Naming, IsLaterOf, IsQuiet}
+use Rattle.server_model.specs.Steps.{Puts, Scans, Flushes, Rolls, IsRolled}
 use Rattle.region_lock.specs.Calls.{PutsAt, ScansAt, FlushesAt, RollsAt}
 
 -- what is so of one region and of all others is so of each

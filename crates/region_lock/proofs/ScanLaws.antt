@@ -1,8 +1,8 @@
 -- What a scan comes to.
-use Rattle.std.proofs.Common.{◌≡◌, ℕ, ◌<◌, ◌≤◌, List, refl, sym, ap, ◌∙◌, subst}
+use Rattle.std.proofs.Common.{◌≡◌, ℕ, List, sym, ap, ◌∙◌}
 use mathlib.Core.List.{IsPrefix}
 use Rattle.cell_model.specs.Cell.{Cell}
-use Rattle.region_model.specs.Journal.{Base, last_of, visible}
+use Rattle.region_model.specs.Journal.{Base, visible}
 use Rattle.region_model.specs.Calls.{Answer, Scanned, ScanMemory}
 use Rattle.region_model.specs.Lines.{Line, edits_in, last_in}
 use Rattle.log_service.specs.declared.seats.LogSeat.{LogSeat}

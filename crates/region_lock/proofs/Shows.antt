@@ -1,8 +1,8 @@
 -- What is shown of a region stays a beginning of its journal.
-use Rattle.std.proofs.Common.{◌≡◌, ◌≢◌, ℕ, zero, suc, ◌+◌, ◌<◌, ◌≤◌, ◌==◌, Bool, true, false, true≢false, cond, List, [], ◌∷◌, ◌++◌, length, Contains, refl, sym, ap, ◌∙◌, subst, arith, Result, Ok, Err, OnOk, OnErr, take, get_or, ne_eqb, append_assoc}
+use Rattle.std.proofs.Common.{◌≡◌, ◌≢◌, ℕ, zero, suc, ◌+◌, ◌<◌, ◌≤◌, Bool, true, false, true≢false, cond, List, [], ◌∷◌, ◌++◌, length, refl, sym, ap, ◌∙◌, subst, arith, Result, Ok, Err, OnOk, OnErr, take, get_or, ne_eqb, append_assoc}
 use Rattle.std.specs.List.{AllPass}
 use mathlib.Core.List.{IsPrefix}
-use Rattle.region_model.specs.Journal.{Outcome, Edit, Follows, is_completed}
+use Rattle.region_model.specs.Journal.{Outcome, Follows, is_completed}
 use Rattle.region_model.specs.Lines.{Line, edits_in, ended, with_outcome, IsPending, is_completed_line}
 use Rattle.region_versions.specs.Histories.{Beginning}
 use Rattle.region_versions.proofs.Fronts.{prefix_self, prefix_trans}

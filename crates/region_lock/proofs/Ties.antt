@@ -1,22 +1,21 @@
 -- The ties of a region stand where a line is begun, and where it ends.
-use Rattle.std.proofs.Common.{◌≡◌, ◌≢◌, ◌⊎◌, ℕ, zero, suc, ◌+◌, ◌-◌, ◌<◌, ◌≤◌, ◌==◌, Bool, true, false, cond, List, [], ◌∷◌, ◌++◌, length, set, map, filter, Contains, Some, None, Option, slice_get, refl, sym, ap, ◌∙◌, subst, inl, inr, ⊎_elim, arith, take, eq-eqb, ne_eqb, append_assoc, append-nil, length-append}
+use Rattle.std.proofs.Common.{◌≡◌, ◌≢◌, ℕ, zero, suc, ◌+◌, ◌-◌, ◌<◌, ◌≤◌, ◌==◌, Bool, true, false, cond, List, [], ◌∷◌, ◌++◌, length, set, Contains, Some, None, Option, slice_get, refl, sym, ap, ◌∙◌, subst, ⊎_elim, arith, take, eq-eqb, ne_eqb, append-nil}
 use Rattle.std.proofs.lemmas.Bool.Decides.{nat_tests}
 use Rattle.std.proofs.lemmas.List.Elements.{filter-append, Contains-push_cases}
-use Rattle.crossbeam_queue.specs.Passes.{view}
 use Rattle.hand_register.specs.declared.known.Record.{Record}
 use Rattle.hand_register.specs.Desks.{with_value, with_last}
 use Rattle.append_ring.specs.Rules.{end_of, next_or}
 use Rattle.log_model.specs.Entry.{Entry}
 use Rattle.log_trucks.specs.Held.{Held, held_of}
-use Rattle.region_model.specs.Journal.{Base, Caller, Outcome, Pending, Edit, Follows}
-use Rattle.region_model.specs.Lines.{Line, edit_in, edits_in, last_in, ended, with_outcome, handled_lines, IsNextCall, IsPending}
+use Rattle.region_model.specs.Journal.{Caller, Outcome, Follows}
+use Rattle.region_model.specs.Lines.{Line, edit_in, edits_in, ended, with_outcome, handled_lines, IsNextCall, IsPending}
 use Rattle.region_model.proofs.LineLaws.{others_stay}
 use Rattle.log_service.specs.declared.item.Item.{Item}
 use Rattle.log_service.specs.declared.item.Item.TheVariants as items
 use Rattle.log_service.specs.Items.{appended, number_of}
 use Rattle.server_model.proofs.JournalLaws.{filter_kept, filter_has}
 use Rattle.region_lock.specs.Parts.{entries_in, AreOwn, AreOwned, AreTold, AreCalledBelow, EndsPending, mark_of, AreMarked, AreBelow}
-use Rattle.region_lock.proofs.Lists.{get_set, length_set, nothing_after, snoc_same, but_last, at_middle}
+use Rattle.region_lock.proofs.Lists.{get_set, nothing_after, but_last}
 
 eqb_eq : (a b : ℕ) → (a == b) ≡ true → a ≡ b
 eqb_eq a b e = grind (arith, nat_tests)

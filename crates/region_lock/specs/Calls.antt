@@ -11,7 +11,8 @@ use Rattle.log_service.specs.Places.{IsLaterSeat}
 use Rattle.log_service.specs.Numbers.{seen_synced, seen_closed}
 
 -- A put. `was` and `is` say whether the seat had seen the fault before, and has now.
-pub record PutsAt (base : Base) (time r : ℕ) (sync : Bool) (cells : List Cell) (caller : Caller) (answer : Answer) (old new : Known) (was is : Bool) : Type 0 where
+pub record PutsAt (base : Base) (time r : ℕ) (sync : Bool) (cells : List Cell) (caller : Caller) (answer : Answer)
+    (old new : Known) (was is : Bool) : Type 0 where
   pub later : IsLaterOf old new
   pub own : new.own ≡ old.own ++ drawn r time cells caller answer (number_of answer)
   pub spent : new.spent ≡ old.spent ++ told_last answer
@@ -29,7 +30,8 @@ pub record PutsAt (base : Base) (time r : ℕ) (sync : Bool) (cells : List Cell)
 pub record ScansAt (base : Base) (from to : List ℕ) (answer : Answer) (old new : Known) : Type 0 where
   pub later : IsLaterOf old new
   pub own : IsQuiet old new
-  pub cells : (p : ℕ) (cells : List (ℕ × Cell)) → answer ≡ Scanned p cells → (p ≡ last_of base.last new.shown) × (cells ≡ visible base.content new.shown p from to)
+  pub cells : (p : ℕ) (cells : List (ℕ × Cell)) → answer ≡ Scanned p cells
+      → (p ≡ last_of base.last new.shown) × (cells ≡ visible base.content new.shown p from to)
 
 -- A flush, of the region's flushes.
 pub record FlushesAt (base : Base) (flushes : List Caller) (caller : Caller) (answer : Answer) (old new : Known) (was is : Bool) : Type 0 where

@@ -38,5 +38,6 @@ IsJobBack r job back = IsJob r back × (line_of 0 back ≡ line_of 0 job)
 -- nothing changed, and the job came back.
 abbrev pub IsBegun : Job → Part → Record Line → Result ℕ Job → Part → Record Line → Type 0
 IsBegun job old mine (Ok n) new mine' =
-    (n ≡ write_point old.state + 1) × (new ≡ with_lines old (old.state.lines ++ line_of n job ∷ []) new.state.room) × (mine' ≡ with_value mine (line_of n job)) × AreBelow n mine.list
+    (n ≡ write_point old.state + 1) × (new ≡ with_lines old (old.state.lines ++ line_of n job ∷ []) new.state.room)
+    × (mine' ≡ with_value mine (line_of n job)) × AreBelow n mine.list
 IsBegun job old mine (Err back) new mine' = (new ≡ old) × (mine' ≡ mine) × IsJobBack old.state.region job back

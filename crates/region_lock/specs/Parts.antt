@@ -22,7 +22,8 @@ abbrev pub coded_caller : Coded Caller
 coded_caller = code_by (ℕ × ℕ) (coded× coded_ℕ coded_ℕ) (λ c. (c.handler, c.call)) (λ p. record { handler = p.0; call = p.1 }) (λ _. refl)
 
 abbrev pub coded_part : Coded Part
-coded_part = code_by (State × Option Caller) (coded× coded_state (coded_option coded_caller)) (λ p. (p.state, p.mark)) (λ p. record { state = p.0; mark = p.1 }) (λ _. refl)
+coded_part =
+    code_by (State × Option Caller) (coded× coded_state (coded_option coded_caller)) (λ p. (p.state, p.mark)) (λ p. record { state = p.0; mark = p.1 }) (λ _. refl)
 
 -- the part with these lines in its journal, and with room for so many edits more
 abbrev pub with_lines : Part → List Line → ℕ → Part
@@ -55,7 +56,8 @@ abbrev pub AreMarked : List (Record Line) → Option Caller → Type 0
 AreMarked records mark = (k : ℕ) (r : Record Line) → slice_get records k ≡ Some r → r.mark ≡ mark_of mark (k + 1)
 
 -- the ties of a region: what was pushed are the journal's entries, and what the hands have are their handlers' lines
-pub record IsPart (flushes : List Caller) (r : ℕ) (base : Base) (xs : List Line) (mark : Option Caller) (ours : List (Record Line)) (theirs : List (Record ℕ)) (pass : RingPass Item) : Type 0 where
+pub record IsPart (flushes : List Caller) (r : ℕ) (base : Base) (xs : List Line) (mark : Option Caller)
+    (ours : List (Record Line)) (theirs : List (Record ℕ)) (pass : RingPass Item) : Type 0 where
   pub pushed : HasPushedEntries pass (entries_in r xs)
   pub drawn : last_pushed number_of pass ≡ last_in base xs
   pub own : AreOwn ours xs
@@ -65,7 +67,8 @@ pub record IsPart (flushes : List Caller) (r : ℕ) (base : Base) (xs : List Lin
   pub listed : (c : Caller) → mark ≡ Some c → (1 ≤ c.call) × Contains flushes c
 
 -- whose they are
-pub record IsNamed (desks spents : ℕ → TableId) (ring_id : TableId) (bases : ℕ → Base) (handlers : ℕ) (r : ℕ) (base : Base) (count : ℕ) (of_desk of_spent of_ring : TableId) (of_region : ℕ) : Type 0 where
+pub record IsNamed (desks spents : ℕ → TableId) (ring_id : TableId) (bases : ℕ → Base) (handlers : ℕ) (r : ℕ) (base : Base)
+    (count : ℕ) (of_desk of_spent of_ring : TableId) (of_region : ℕ) : Type 0 where
   pub desk : of_desk ≡ desks r
   pub spent : of_spent ≡ spents r
   pub ring : of_ring ≡ ring_id

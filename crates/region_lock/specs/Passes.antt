@@ -9,7 +9,6 @@ use Rattle.region_model.specs.Lines.{edits_in}
 use Rattle.server_model.specs.Pass.{Known}
 use Rattle.region_lock.specs.declared.pass.RegionPass.{RegionPass}
 use Rattle.region_lock.specs.declared.naming.Naming.{Ghosts}
-use Rattle.region_lock.specs.Hands.{SameHand}
 
 module _ {N : Type 0} {g : Ghosts N} where
   -- what it knows of its region, with this seat of a service of n regions
@@ -34,7 +33,8 @@ module _ {N : Type 0} {g : Ghosts N} where
 
   -- all stays but the mark of the first hand
   abbrev pub SameButMark : RegionPass N g → RegionPass N g → Type 0
-  SameButMark old new = (new.viewer ≡ old.viewer) × (new.hand.number ≡ old.hand.number) × ((record_of new.hand).list ≡ (record_of old.hand).list) × (new.told ≡ old.told)
+  SameButMark old new =
+      (new.viewer ≡ old.viewer) × (new.hand.number ≡ old.hand.number) × ((record_of new.hand).list ≡ (record_of old.hand).list) × (new.told ≡ old.told)
 
 -- the service is over this ring, the region is one of its own, and so is the seat, which has no turn
 pub record IsAtService (named : TableId) (place : Place) (r : ℕ) (used : LogSeat) : Type 0 where

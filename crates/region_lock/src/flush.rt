@@ -87,7 +87,8 @@ pub fn flush_in<
     requires caller { (by.handler ≡ at.old.hand.number) × (1 ≤ by.call) × Contains (N.flushes at.old.viewer.region) by }
     requires free { (record_of at.old.hand).mark ≡ 0 }
     ensures flushes { FlushesAt (N.Naming-3.base at.old.viewer.region) (N.flushes at.old.viewer.region) by (flush_answer result)
-        (known_of service.now.regions at.old seat.old) (known_of service.now.regions at.new seat.new) seat.old.device.knows.broken seat.new.device.knows.broken }
+        (known_of service.now.regions at.old seat.old) (known_of service.now.regions at.new seat.new)
+        seat.old.device.knows.broken seat.new.device.knows.broken }
     ensures same { SamePass at.old at.new }
     ensures seat { IsSeatOf service.now seat.new }
     ensures later { IsLaterSeat seat.old seat.new }

@@ -191,7 +191,8 @@ impl<N: Naming + log_service::Naming + region_versions::Naming, R: Wait + Drop> 
         ensures own { (record_of at.new.hand).list ≡ handled_lines at.new.hand.number self.old.state.lines }
         ensures spent { (n : ℕ) → Contains (record_of at.new.told).list n → n ≤ last_in self.old.state.base self.old.state.lines }
         ensures shown { IsTrue result → IsPrefix at.new.viewer.lines self.old.state.lines }
-        ensures met { IsTrue result → (n : ℕ) (seat : LogSeat) → IsMet self.old.state.base (edits_in self.old.state.region self.old.state.lines) at.new.hand.number (known_of n at.new seat) }
+        ensures met { IsTrue result → (n : ℕ) (seat : LogSeat)
+            → IsMet self.old.state.base (edits_in self.old.state.region self.old.state.lines) at.new.hand.number (known_of n at.new seat) }
     {
         self.part.meet(&mut at.hand);
         self.part.meet_told(&mut at.told);

@@ -46,7 +46,8 @@ impl<N: Naming + log_service::Naming + region_versions::Naming> Model for Region
     ghost view = { λ p. record { state = p.state; mark = p.mark } };
 
     ghost invariant = { λ p. IsPart (N.flushes p.state.region) p.state.region p.state.base p.state.lines p.mark (records p.desk) (records p.spent) p.pass
-        × IsNamed N.desk N.spent N.ring ⟦<N as region_versions::Naming>⟧.base N.handlers p.state.region p.state.base (length (records p.desk)) p.desk.seat.table_id p.spent.seat.table_id p.pass.pass.table_id p.pass.region };
+        × IsNamed N.desk N.spent N.ring ⟦<N as region_versions::Naming>⟧.base N.handlers p.state.region p.state.base
+        (length (records p.desk)) p.desk.seat.table_id p.spent.seat.table_id p.pass.pass.table_id p.pass.region };
 }
 
 impl<N: Naming + log_service::Naming + region_versions::Naming> RegionPart<N> {

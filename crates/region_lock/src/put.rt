@@ -221,8 +221,10 @@ pub fn put_in<
     requires service { IsAtService N.ring service.now at.old.viewer.region seat.old }
     requires job { IsJob at.old.viewer.region job }
     requires caller { (job.caller.handler ≡ at.old.hand.number) × AreCalledBelow job.caller.call (record_of at.old.hand).list }
-    ensures puts { PutsAt (N.Naming-3.base at.old.viewer.region) job.time at.old.viewer.region (is_sync durability) (arc_value job.batch) job.caller (put_answer result)
-        (known_of service.now.regions at.old seat.old) (known_of service.now.regions at.new seat.new) seat.old.device.knows.broken seat.new.device.knows.broken }
+    ensures puts { PutsAt (N.Naming-3.base at.old.viewer.region) job.time at.old.viewer.region
+        (is_sync durability) (arc_value job.batch) job.caller (put_answer result)
+        (known_of service.now.regions at.old seat.old) (known_of service.now.regions at.new seat.new)
+        seat.old.device.knows.broken seat.new.device.knows.broken }
     ensures same { SamePass at.old at.new }
     ensures seat { IsSeatOf service.now seat.new }
     ensures later { IsLaterSeat seat.old seat.new }

@@ -4,8 +4,8 @@ ghost use Rattle.std.specs.Prelude.{◌≡◌, ℕ, IfOk};
 ghost use Rattle.std.specs.Arc.{arc_value};
 ghost use mathlib.Core.List.{IsPrefix};
 ghost use Rattle.log_service.specs.declared.seats.LogSeat.{LogSeat};
-ghost use Rattle.region_model.specs.Journal.{visible};
-ghost use Rattle.region_model.specs.Lines.{edits_in, last_in};
+ghost use Rattle.region_model.specs.Lines.{last_in};
+ghost use Rattle.region_state.specs.Versions.{seen_in};
 ghost use Rattle.region_lock.specs.Answers.{scan_answer};
 ghost use Rattle.region_lock.specs.Calls.{ScansAt};
 ghost use Rattle.region_lock.specs.Passes.{known_of};
@@ -31,7 +31,7 @@ fn cells_of(
     from: &[u8],
     to: &[u8],
 ) -> Result<NumberedCells, NoMemory>
-    ensures { IfOk result (λ cells. (region : ℕ) → cells ≡ visible version.now.base.content (edits_in region version.now.cut) version.now.point from.now to.now) }
+    ensures { IfOk result (λ cells. (region : ℕ) → cells ≡ seen_in region version.now from.now to.now) }
 {
     let mut cells = NumberedCells::new(alloc);
     let mut walk = version.scan(alloc, from, to)?;
@@ -62,7 +62,8 @@ pub fn scan_in<N: Naming + region_versions::Naming>(
     from: &[u8],
     to: &[u8],
 ) -> Result<ScanReply, NoMemory>
-    ensures scans { (n : ℕ) (seat : LogSeat) → ScansAt (N.Naming-2.base at.old.viewer.region) from.now to.now (scan_answer result) (known_of n at.old seat) (known_of n at.new seat) }
+    ensures scans { (n : ℕ) (seat : LogSeat) → ScansAt (N.Naming-2.base at.old.viewer.region) from.now to.now (scan_answer result)
+        (known_of n at.old seat) (known_of n at.new seat) }
     ensures region { at.new.viewer.region ≡ at.old.viewer.region }
     ensures hand { (at.new.hand ≡ at.old.hand) × (at.new.told ≡ at.old.told) }
 {

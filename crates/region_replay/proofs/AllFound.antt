@@ -17,7 +17,8 @@ use Rattle.region_replay.specs.Ready.{Found, IsOf}
 use Rattle.region_replay.specs.Regions.{IsInOrder, IsFound}
 use Rattle.region_replay.specs.Whole.{AreApart, AreAllFound, AllOf, NoNewNames}
 use Rattle.region_replay.proofs.Passing.{of_alike}
-use Rattle.region_replay.proofs.RegionsFound.{in_order, is_found}
+use Rattle.region_replay.proofs.RegionsFound.{is_found}
+use Rattle.region_replay.proofs.RegionsInOrder.{in_order}
 use Rattle.region_replay.proofs.Shares.{good_name}
 
 -- the regions of a list, from one on

@@ -9,5 +9,6 @@ pub mod Passing
 pub mod InTurn
 pub mod Shares
 pub mod Lists
+pub mod RegionsInOrder
 pub mod RegionsFound
 pub mod AllFound

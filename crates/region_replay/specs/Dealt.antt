@@ -54,12 +54,14 @@ pub record IsDealt (job : EditsJob) (r upto : ℕ) (ns : List Name) (ss : List F
 -- each has the entries of its edits file and nothing else yet
 pub record AreBegun (jobs : List EditsJob) (flushed : List ℕ) (xs : List RegionFiles) : Type 0 where
   pub long : length xs ≡ length jobs
-  pub each : (k : ℕ) (d : RegionFiles) (j : EditsJob) → k < length jobs → IsDealt (slice_index_or jobs k j) (slice_index_or jobs k j).name.region (slice_index flushed (slice_index_or jobs k j).name.region) [] [] [] (slice_index_or xs k d)
+  pub each : (k : ℕ) (d : RegionFiles) (j : EditsJob) → k < length jobs
+      → IsDealt (slice_index_or jobs k j) (slice_index_or jobs k j).name.region (slice_index flushed (slice_index_or jobs k j).name.region) [] [] [] (slice_index_or xs k d)
 
 -- each of the regions 1 to 64 has
 pub record AreDealt (jobs : List EditsJob) (flushed : List ℕ) (ns : List Name) (ss : List FoundStore) (ks : List Entry) (xs : List RegionFiles) : Type 0 where
   pub long : length xs ≡ 64
-  pub each : (k : ℕ) (d : RegionFiles) (j : EditsJob) → k < 64 → IsDealt (slice_index_or jobs k j) (k + 1) (slice_index flushed (k + 1)) ns ss ks (slice_index_or xs k d)
+  pub each : (k : ℕ) (d : RegionFiles) (j : EditsJob) → k < 64
+      → IsDealt (slice_index_or jobs k j) (k + 1) (slice_index flushed (k + 1)) ns ss ks (slice_index_or xs k d)
   pub valid : (e : Entry) → Contains ks e → IsEntry e
 
 -- the region r alone makes a step

@@ -21,7 +21,8 @@ use wal_split::{EditsJob, Plan, SplitFiles};
 /// of a cell is copied.
 pub(crate) fn regions_of(alloc: Global, split: SplitFiles) -> Result<Vec<RegionFiles>, NoMemory>
     requires { IsInRange split }
-    ensures { IfOk result (λ regions. AreDealt split.plan.jobs.items split.plan.flushed.items split.names split.stores.items split.plan.kept.items regions.items) }
+    ensures { IfOk result (λ regions. AreDealt split.plan.jobs.items split.plan.flushed.items
+        split.names split.stores.items split.plan.kept.items regions.items) }
 {
     let SplitFiles {
         names,
@@ -105,7 +106,8 @@ fn deal_stores(regions: &mut Vec<RegionFiles>, stores: Vec<FoundStore>) -> Resul
 
 fn deal_kept(regions: &mut Vec<RegionFiles>, kept: Vec<Entry>) -> Result<(), NoMemory>
     requires { vec_len regions.old ≡ 64 }
-    ensures { OnOk result ((jobs : List TheJob) (flushed : List ℕ) (names : List TheName) (stores : List TheStore) → AreDealt jobs flushed names stores [] regions.old.items
+    ensures { OnOk result ((jobs : List TheJob) (flushed : List ℕ) (names : List TheName) (stores : List TheStore)
+        → AreDealt jobs flushed names stores [] regions.old.items
         → AreDealt jobs flushed names stores kept.items regions.new.items) }
 {
     for entry in kept {

@@ -121,7 +121,4 @@ alike_keeps found J alike = record {
 
 -- where an opening was left
 pub half_keeps : (found left : DiskView) → IsHalfOpened found left → KeepsFound found left
-half_keeps found left half J image = elim (half J image) as (λ _. ∥ IsImageNow found J ⊎ KeepsIn found.files J ∥₁) [
-  | inl was ↦ ∣ inl was ∣₁
-  | inr alike ↦ ∣ inr (alike_keeps found.files J alike) ∣₁
-]
+half_keeps found left half J image = ∥∥₁_map (half J image) (λ either. elim either as (λ _. IsImageNow found J ⊎ KeepsIn found.files J) [ inl was ↦ inl was | inr alike ↦ inr (alike_keeps found.files J alike) ])

@@ -1,5 +1,5 @@
 -- The first put that was answered spent, found from the front of the replies.
-use Rattle.std.proofs.Common.{◌≡◌, ℕ, List, [], ◌∷◌, Contains, Some, None, refl, sym, ap, ◌∙◌, arith, subst}
+use Rattle.std.proofs.Common.{Option, ◌++◌, ◌≡◌, ℕ, List, [], ◌∷◌, Contains, Some, None, refl, sym, ap, ◌∙◌, arith, subst}
 use Rattle.region_model.specs.Calls.{Call, Put, Answer, PutSpent, Reply}
 use Rattle.server_model.proofs.JournalLaws.{contains_cons}
 use Rattle.run_model.proofs.Choices.{with_first}
@@ -62,3 +62,21 @@ none_found (x ∷ xs) is =
 
 pub first_is_first : FirstSpentIsFirst
 first_is_first replies only = (found replies only, none_found replies)
+
+-- ---- parts of the replies
+
+first_none : (o : Option Spent) → first_of o None ≡ o
+first_none None = refl
+first_none (Some s) = refl
+
+pub first_assoc : (a b c : Option Spent) → first_of (first_of a b) c ≡ first_of a (first_of b c)
+first_assoc None b c = refl
+first_assoc (Some s) b c = refl
+
+pub first_append : (xs ys : List Reply) → first_spent (xs ++ ys) ≡ first_of (first_spent xs) (first_spent ys)
+first_append [] ys = refl
+first_append (x ∷ xs) ys = ap (first_of (told_spent x.call x.answer)) (first_append xs ys) ∙ sym (first_assoc (told_spent x.call x.answer) (first_spent xs) (first_spent ys))
+
+-- one reply more
+pub first_push : (xs : List Reply) (x : Reply) → first_spent (xs ++ x ∷ []) ≡ first_of (first_spent xs) (told_spent x.call x.answer)
+first_push xs x = first_append xs (x ∷ []) ∙ ap (first_of (first_spent xs)) (first_none (told_spent x.call x.answer))

@@ -145,4 +145,4 @@ KeepsFound found left = (J : Files) → IsImageNow left J → ∥ IsImageNow fou
 
 -- Each image was one before, or recovers for every region to what was found.
 abbrev pub IsHalfOpened : DiskView → DiskView → Type 0
-IsHalfOpened found left = (J : Files) → IsImageNow left J → IsImageNow found J ⊎ AllAlike found.files J
+IsHalfOpened found left = (J : Files) → IsImageNow left J → ∥ IsImageNow found J ⊎ AllAlike found.files J ∥₁

@@ -28,10 +28,13 @@ region_of (Scan region from to) = region
 region_of (Flush region) = region
 region_of Roll = 0
 
--- what a call's answer tells, where it tells that numbers are spent
+-- what an answer tells of a region, where it tells that numbers are spent
+abbrev pub told_at : ℕ → Answer → Option Spent
+told_at region (PutSpent last) = Some (record { region = region; last = last })
+told_at region _ = None
+
 abbrev pub told_spent : Call → Answer → Option Spent
-told_spent call (PutSpent last) = Some (record { region = region_of call; last = last })
-told_spent call _ = None
+told_spent call answer = told_at (region_of call) answer
 
 -- the first of the two
 abbrev pub first_of : Option Spent → Option Spent → Option Spent

@@ -29,7 +29,8 @@ pub record IsInRange (x : SplitFiles) : Type 0 where
   pub above : (m : Name) → Contains x.names m → m.kind ≢ kinds.Store → m.number < number
   pub long : length x.plan.jobs.items ≡ 64
   pub named : (k : ℕ) (d : EditsJob) → k < 64 → (job_at x k d).name ≡ edits_name (k + 1) number
-  pub pending : (k : ℕ) (d : EditsJob) (e : Entry) → k < 64 → Contains (job_at x k d).entries.items e → (e.region ≡ k + 1) × IsEntry e × IsAbove x.plan.flushed.items e
+  pub pending : (k : ℕ) (d : EditsJob) (e : Entry) → k < 64 → Contains (job_at x k d).entries.items e
+      → (e.region ≡ k + 1) × IsEntry e × IsAbove x.plan.flushed.items e
   pub kept : (e : Entry) → Contains x.plan.kept.items e → IsAbove x.plan.flushed.items e
   pub flushed : AreFlushed x.stores.items x.plan.flushed.items
   pub stores : (y : FoundStore) → Contains x.stores.items y → IsStore (store_of y) × Contains x.names y.name × (y.name.kind ≡ kinds.Store)
@@ -49,7 +50,8 @@ pub record AreLeft (files : Files) (x : SplitFiles) : Type 0 where
   pub jobs_rise : (k : ℕ) (d : EditsJob) → k < 64 → AllPairs (λ a b. a.number < b.number) (job_at x k d).entries.items
   pub kept : (e : Entry) → Contains x.plan.kept.items e → (m : Name) × (l : List Entry) × (m.kind ≡ kinds.Edits) × IsLogFile files m l × Contains l e
   pub kept_rise : AllPairs IsBefore x.plan.kept.items
-  pub apart : (k : ℕ) (d : EditsJob) (a b : Entry) → k < 64 → Contains (job_at x k d).entries.items a → Contains x.plan.kept.items b → a.region ≡ b.region → a.number ≢ b.number
+  pub apart : (k : ℕ) (d : EditsJob) (a b : Entry) → k < 64 → Contains (job_at x k d).entries.items a → Contains x.plan.kept.items b
+      → a.region ≡ b.region → a.number ≢ b.number
   pub no_logs : (m : Name) → m.kind ≡ kinds.Log → IsAbsent files m
   pub edits : (m : Name) → Contains x.names m → m.kind ≡ kinds.Edits → (l : List Entry) × IsLogFile files m l
   pub all_edits : (m : Name) → m.kind ≡ kinds.Edits → IsPresent files m

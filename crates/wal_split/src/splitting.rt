@@ -38,7 +38,8 @@ pub fn split_found<D: Disk>(
     ensures gone { IsTrue D.told → OnOk result ((n : ℕ) → Contains logs.now n → IsAbsent (D.view disk.new).files (log_name n)) }
     ensures written { IsTrue D.told → OnOk result ((j : TheJob) (e : TheEntry) → Contains jobs.now j → Contains j.entries.items e
         → HasText j.name j.entries.items None (content (D.view disk.new).files j.name)) }
-    ensures others { IsTrue D.told → OnOk result ((m : TheName) → IsNoJob jobs.now m → IsOther logs.now m → content (D.view disk.new).files m ≡ content (D.view disk.old).files m) }
+    ensures others { IsTrue D.told → OnOk result ((m : TheName) → IsNoJob jobs.now m → IsOther logs.now m
+        → content (D.view disk.new).files m ≡ content (D.view disk.old).files m) }
     ensures cause { HasCause (D.faults disk.old) (D.faults disk.new) (IsErrOf result FileRefusal.DiskFault) }
 {
     write_all(alloc, disk, jobs)?;

@@ -1,5 +1,5 @@
 use Rattle.disk_images.specs.Calls.{Rose}
-use Rattle.std.proofs.Common.{Some}
+use Rattle.std.proofs.Common.{Some, inl}
 use Rattle.disk_images.specs.Crash.{IsImageNow}
 use Rattle.wal_split.specs.Moments.{WasOrAlike}
 use Rattle.command_ends.proofs.Endings.{time_of}
@@ -68,3 +68,6 @@ returns-in-Some-Recover-clause-complete g c told told_disk word names ready no_s
     (Rose (g.D.Disk.faults c.args.disk) (g.D.Disk.faults c.recover.new.disk)) (Rose (g.K.Sink.faults c.args.out.now) (g.K.Sink.faults c.recover.new.out))
     (word_is c.in-Some-Recover.field-0 Recover _ word c.in-Some-Recover.ensures c.in-Some-Recover.field-0-is names)
     c.recover.ensures.status (c.recover.ensures.damage told_disk) c.recover.ensures.disk_cause c.recover.ensures.sink_cause ready no_disk no_sink
+
+pub returns-in-None-clause-usage : goal.returns-in-None-clause-usage
+returns-in-None-clause-usage g c none = inl c.refuse.ensures.status

@@ -9,13 +9,14 @@ use Rattle.region_replay.specs.Ready.{Found}
 use Rattle.region_replay.specs.Cleared.{IsReady}
 use Rattle.region_replay.specs.Opened.{AreOf, AtMostOneHigher}
 use Rattle.log_ledger.specs.declared.base.RegionBase.{RegionBase}
+use Rattle.log_ledger.specs.Bases.{AreNumbersOf}
 use Rattle.log_ledger.specs.History.{started_in}
 use Rattle.log_service.specs.Begun.{AreNewParts}
 use Rattle.region_calls.specs.Bases.{AreBasesOf}
 use Rattle.region_calls.specs.Cleared.{AreCleared}
 use Rattle.region_calls.specs.Seeds.{base_of, bases_found, lasts_of, marks_from, flushed_of}
 use Rattle.region_calls.proofs.Marks.{flushed_in, bases_of}
-use Rattle.region_calls.proofs.Begun.{is_opened, moments, len_map, is_fresh, begins_as}
+use Rattle.region_calls.proofs.Begun.{is_opened, moments, len_map, is_fresh, begins_as, few_stores}
 use Rattle.region_calls.proofs.opening.begin.Goals as goal
 
 -- the marks are those of the regions that were found
@@ -62,7 +63,12 @@ returns-in-Ok-start-clause-store g c =
           let v = g.D.Disk.view c.args.disk in
           let opened = opened_at v _ n xs ms is (c.requires.ready told) (c.requires.recovered told) c.requires.all in
           subst (λ e. ∥ ((h : _) × Rattle.log_service.specs.Begun.BeginsAs (g.D.Disk.view e).files first d (g.D.Disk.view d.disk) h) ∥₁) (sym c.of-split.ensures)
-          ∣ (started_in v.files (flushed_in xs), begins_as n xs ms first d v.files (g.D.Disk.view d.disk) is firsts (c.in-Ok-start.ensures.started told (flushed_in xs) opened)) ∣₁;
+          ∣ (
+            started_in v.files (flushed_in xs),
+            begins_as n xs ms first d v.files (g.D.Disk.view d.disk) is firsts
+                (few_stores n xs ms d _ v.files is (c.requires.recovered told) c.in-Ok-start.ensures.next_store (subst (λ (l : List ℕ). AreNumbersOf (λ m. m.flushed) ms l) (sym c.in-Ok-start.ensures.numbers.1) c.in-Ok-start.ensures.drawn))
+                (c.in-Ok-start.ensures.started told (flushed_in xs) opened),
+          ) ∣₁;
       alike = λ told. subst (λ e. AllAlike (g.D.Disk.view c.args.found.value).files (g.D.Disk.view e).files) (sym c.of-split.ensures) (c.requires.alike told);
       higher = λ told. subst (λ e. AtMostOneHigher (g.D.Disk.view c.args.found.value).files (g.D.Disk.view e).files) (sym c.of-split.ensures) (c.requires.names told);
       recovered = λ told. subst (AreBasesOf (g.D.Disk.view c.args.found.value).files 1) (sym (c.in-Ok.ensures.seeds.1 ∙ ap bases_found taken)) (bases_of _ _ n 1 xs (c.requires.recovered told));

@@ -1,10 +1,10 @@
-use Rattle.std.proofs.Common.{◌≡◌, ℕ, ◌+◌, ◌-◌, ◌≤◌, List, [], ◌∷◌, ◌++◌, length, map, replicate, refl, sym, ap, ◌∙◌, subst, arith, length-append}
+use Rattle.std.proofs.Common.{◌≡◌, ◌+◌, ◌-◌, List, [], ◌∷◌, ◌++◌, length, map, refl, sym, ap, ◌∙◌, subst, arith, length-append}
 use Rattle.log_berth.specs.Standing.{Standing, AreBack, fresh}
 use Rattle.log_berth.specs.Words.{starts}
 use Rattle.log_service.specs.declared.seats.LogSeat.{LogSeat}
 use Rattle.region_lock.proofs.NewPart.{len_replicate}
 use Rattle.region_calls.specs.declared.pass.Pass.{Pass}
-use Rattle.region_calls.specs.Hands.{Deal, AreDeals}
+use Rattle.region_calls.specs.Hands.{AreDeals}
 use Rattle.region_calls.specs.Passes.{knows}
 use Rattle.region_calls.specs.Deals.{AreSeatsOf, AllOf}
 use Rattle.region_calls.proofs.Seated.{back_less, back_replicate}

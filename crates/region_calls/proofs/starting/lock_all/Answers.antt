@@ -1,8 +1,8 @@
-use Rattle.std.proofs.Common.{◌≡◌, ℕ, suc, ◌+◌, ◌<◌, List, [], ◌∷◌, ◌++◌, length, Some, refl, sym, ap, ◌∙◌, subst, arith, length-append}
+use Rattle.std.proofs.Common.{◌≡◌, ℕ, suc, ◌+◌, ◌<◌, List, [], ◌∷◌, ◌++◌, length, sym, ap, ◌∙◌, subst, arith, length-append}
 use Rattle.std.proofs.lemmas.List.{append_assoc}
 use Rattle.std.specs.Vec.Iter.{into_iter_items}
 use Rattle.append_ring.specs.declared.pass.RingPass.{RingPass}
-use Rattle.append_ring.specs.Parts.{IsNew, AreNewAfter, without_first}
+use Rattle.append_ring.specs.Parts.{IsNew, AreNewAfter}
 use Rattle.append_ring.proofs.Handing.{next_new, none_left}
 use Rattle.log_service.specs.declared.item.Item.{Item}
 use Rattle.region_calls.specs.Named.{AreFrom}

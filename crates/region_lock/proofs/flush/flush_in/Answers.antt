@@ -1,4 +1,4 @@
-use Rattle.std.proofs.Common.{◌≡◌, ℕ, ◌≤◌, Err, refl, ap, sym, ◌∙◌, subst}
+use Rattle.std.proofs.Common.{◌≡◌, ℕ, ◌≤◌, Err, ap, sym, ◌∙◌, subst}
 use mathlib.Core.List.{IsPrefix}
 use Rattle.hand_register.specs.declared.hand.Hand.{Hand}
 use Rattle.hand_register.specs.Desks.{record_of}
@@ -35,7 +35,7 @@ returns-in-Err-flushed-clause-flushes g c =
     let later = subst (λ (b : Beginning). IsPrefix c.args.at.now.viewer.lines b.lines) (sym viewer) (prefix_self c.args.at.now.viewer.lines) in
     let why = c.in-Err-flushed.refusal in
     let number : (m : ℕ) → why ≡ DeviceFlush.Nothing m → (c.in-Ok.upto ≤ m) × (m ≤ seen_stored n c.flush-flushed.new.seat.device.knows r) = λ m e.
-        let found = c.flush-flushed.ensures.nothing m (c.in-Err-flushed.is ∙ ap Err e) in
-        (found.0, subst (λ (s : ℕ). m ≤ seen_stored n c.flush-flushed.new.seat.device.knows s) c.region-region.ensures found.1) in
+    let found = c.flush-flushed.ensures.nothing m (c.in-Err-flushed.is ∙ ap Err e) in
+    (found.0, subst (λ (s : ℕ). m ≤ seen_stored n c.flush-flushed.new.seat.device.knows s) c.region-region.ensures found.1) in
     rw c.refusal_of.ensures (refused_at n (g.N.Naming-3.base r) (g.N.Naming-1.flushes r) c.args.by why r c.unmark.new.at.viewer.region _ _ _ _ _ _ c.args.seat.now c.flush-flushed.new.seat c.in-Ok.upto
     (ap (λ (b : Beginning). b.region) viewer) (c.unmark.ensures.same.2 ∙ c.look.ensures.same.2) told later c.flush-flushed.ensures.later looked.0 looked.2 number (λ e. c.flush-flushed.ensures.fault.0 (c.in-Err-flushed.is ∙ ap Err e)))

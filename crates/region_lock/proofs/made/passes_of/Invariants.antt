@@ -1,4 +1,4 @@
-use Rattle.std.proofs.Common.{◌≡◌, ◌+◌, ◌-◌, ◌≤◌, length, replicate}
+use Rattle.std.proofs.Common.{◌≡◌, ◌+◌, ◌-◌, length, replicate}
 use Rattle.hand_register.specs.Desks.{AreFresh}
 use Rattle.region_lock.specs.Made.{AreFreshPasses}
 use Rattle.region_lock.proofs.made.passes_of.Given as goal

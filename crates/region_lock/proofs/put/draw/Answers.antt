@@ -1,7 +1,7 @@
-use Rattle.std.proofs.Common.{◌≡◌, ℕ, ◌<◌, List, [], ◌∷◌, ◌++◌, subst, sym, ap, ◌∙◌, arith}
+use Rattle.std.proofs.Common.{◌≡◌, [], ◌∷◌, ◌++◌, subst, sym, ap, ◌∙◌, arith}
 use Rattle.region_model.specs.Journal.{Caller}
 use Rattle.region_model.specs.Lines.{Line}
-use Rattle.region_lock.specs.Parts.{AreBelow, AreCalledBelow}
+use Rattle.region_lock.specs.Parts.{AreBelow}
 use Rattle.region_lock.specs.Jobs.{line_of}
 use Rattle.region_lock.proofs.put.draw.Goals as goal
 

@@ -1,4 +1,4 @@
-use Rattle.std.proofs.Common.{◌≡◌, ℕ, ◌-◌, ◌<◌, ◌≤◌, true, false, List, [], ◌∷◌, ◌++◌, Some, refl, subst, sym, ap, ◌∙◌, arith}
+use Rattle.std.proofs.Common.{◌≡◌, ℕ, ◌-◌, ◌≤◌, true, List, [], ◌∷◌, ◌++◌, Some, refl, subst, sym, ap, ◌∙◌, arith}
 use Rattle.std.specs.Arc.{arc_value}
 use mathlib.Core.List.{IsPrefix}
 use Rattle.hand_register.specs.declared.hand.Hand.{Hand}

@@ -1,9 +1,8 @@
-use Rattle.std.proofs.Common.{◌≡◌, ℕ, List, ap, sym, ◌∙◌}
+use Rattle.std.proofs.Common.{◌≡◌, ℕ, ap, sym, ◌∙◌}
 use Rattle.std.specs.Arc.{arc_value}
-use Rattle.cell_model.specs.Cell.{Cell}
 use Rattle.hand_register.specs.declared.hand.Hand.{Hand}
 use Rattle.hand_register.specs.Desks.{record_of}
-use Rattle.region_model.specs.Journal.{Base, visible}
+use Rattle.region_model.specs.Journal.{visible}
 use Rattle.region_model.specs.Lines.{Line, edits_in, last_in}
 use Rattle.region_state.specs.Versions.{Shown}
 use Rattle.region_lock.proofs.ScanLaws.{scan_ok, scan_none}
@@ -33,6 +32,6 @@ returns-in-Ok-cells_of-clause-scans g c n seat =
     let point : c.point.result ≡ v.point = c.point.ensures.point ∙ ap (λ (w : Shown). w.point) here in
     let last : c.point.result ≡ last_in base lines = c.point.ensures.end ∙ (λ i. last_in (here i).base (here i).cut) ∙ (λ i. last_in (of i) (cut i)) in
     let cells : c.in-Ok-cells_of.cells ≡ visible base.content (edits_in r lines) c.point.result from to =
-        c.in-Ok-cells_of.ensures r ∙ ap (λ (w : Shown). visible w.base.content (edits_in r w.cut) w.point from to) c.deref.ensures ∙ (λ i. visible (of i).content (edits_in r (cut i)) (sym point i) from to) in
+    c.in-Ok-cells_of.ensures r ∙ ap (λ (w : Shown). visible w.base.content (edits_in r w.cut) w.point from to) c.deref.ensures ∙ (λ i. visible (of i).content (edits_in r (cut i)) (sym point i) from to) in
     scan_ok n base from to _ _ _ _ _ _ _ _ seat c.point.result c.in-Ok-cells_of.cells
     c.view_in.ensures.region (ap (λ (h : Hand Line). (record_of h).list) c.view_in.ensures.hand.0) (ap (λ (h : Hand ℕ). (record_of h).list) c.view_in.ensures.hand.1) c.view_in.ensures.later last cells

@@ -1,4 +1,4 @@
-use Rattle.std.proofs.Common.{List, sym, ap, subst}
+use Rattle.std.proofs.Common.{List, sym, subst}
 use Rattle.log_service.specs.declared.seats.LogSeat.{LogSeat}
 use Rattle.region_calls.specs.Deals.{AreSeatsOf}
 use Rattle.region_calls.proofs.Seated.{seat_more}

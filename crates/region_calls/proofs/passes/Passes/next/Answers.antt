@@ -1,11 +1,9 @@
-use Rattle.std.proofs.Common.{◌≡◌, ℕ, ◌+◌, ◌-◌, ◌≤◌, List, [], ◌∷◌, ◌++◌, length, refl, sym, ap, ◌∙◌, subst, arith, length-append}
+use Rattle.std.proofs.Common.{◌≡◌, ◌+◌, ◌-◌, List, [], ◌∷◌, length, ap, ◌∙◌, subst, arith, length-append}
 use Rattle.std.specs.Global.{Vec}
 use Rattle.log_berth.specs.Standing.{Standing, AreBack}
-use Rattle.log_service.specs.Places.{Place, IsSeatOf}
 use Rattle.region_lock.specs.declared.pass.RegionPass.{RegionPass}
-use Rattle.region_calls.specs.Hands.{Deal, AreDeals}
-use Rattle.region_calls.specs.Deals.{AreRooms, ArePassesOf}
-use Rattle.region_calls.specs.Passes.{IsPassOf}
+use Rattle.region_calls.specs.Hands.{AreDeals}
+use Rattle.region_calls.specs.Deals.{AreRooms}
 use Rattle.region_calls.proofs.Seated.{rooms_less, back_less, new_hand}
 use Rattle.region_calls.proofs.passes.Passes.next.Goals as goal
 

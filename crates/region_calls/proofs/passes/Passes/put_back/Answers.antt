@@ -1,7 +1,7 @@
-use Rattle.std.proofs.Common.{◌≡◌, ℕ, List, sym, subst, arith}
+use Rattle.std.proofs.Common.{List, sym, subst, arith}
 use Rattle.region_calls.specs.declared.pass.Pass.{Pass}
 use Rattle.region_calls.specs.Passes.{knows}
-use Rattle.region_calls.specs.Deals.{AllOf, ArePassesOf}
+use Rattle.region_calls.specs.Deals.{AllOf}
 use Rattle.region_calls.proofs.Begun.{len_map}
 use Rattle.region_calls.proofs.Seated.{all_more}
 use Rattle.region_calls.proofs.passes.Passes.put_back.Goals as goal

@@ -1,4 +1,4 @@
-use Rattle.std.proofs.Common.{◌≡◌, ap}
+use Rattle.std.proofs.Common.{ap}
 use Rattle.region_state.specs.Outcomes.{outcome_at_end}
 use Rattle.region_lock.specs.Parts.{Part}
 use Rattle.region_lock.proofs.Shows.{shown_ended}

@@ -1,4 +1,4 @@
-use Rattle.std.proofs.Common.{◌≡◌, ℕ, ◌≤◌, ◌∙◌, refl, subst, Contains}
+use Rattle.std.proofs.Common.{◌≡◌, ℕ, ◌≤◌, ◌∙◌, subst, Contains}
 use Rattle.hand_register.specs.Desks.{record_of}
 use Rattle.region_model.specs.Lines.{last_in, handled_lines}
 use Rattle.region_lock.specs.Parts.{Part}

@@ -1,4 +1,4 @@
-use Rattle.std.proofs.Common.{◌≡◌, ◌∙◌, refl, MatchResult}
+use Rattle.std.proofs.Common.{◌∙◌}
 use Rattle.region_lock.proofs.Parts.{asked}
 use Rattle.region_lock.proofs.part.RegionPart.ask.Goals as goal
 

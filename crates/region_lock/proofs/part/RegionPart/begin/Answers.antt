@@ -1,8 +1,7 @@
 use Rattle.std.proofs.Common.{◌≡◌, ℕ, ◌+◌, ◌-◌, ◌^◌, ◌<◌, ◌≤◌, List, [], ◌∷◌, ◌++◌, length, get_or, Some, refl, sym, ap, ◌∙◌, subst, arith}
-use Rattle.std.specs.Arc.{arc_value}
 use Rattle.hand_register.specs.Desks.{records, record_of, with_value}
 use Rattle.region_model.specs.Journal.{Follows}
-use Rattle.region_model.specs.Lines.{Line, edits_in, pending}
+use Rattle.region_model.specs.Lines.{Line, edits_in}
 use Rattle.region_state.specs.States.{State, write_point}
 use Rattle.region_lock.specs.Parts.{Part}
 use Rattle.log_trucks.specs.Held.{Haul, IsHeld, held_of}

@@ -1,4 +1,4 @@
-use Rattle.std.proofs.Common.{◌≡◌, take, ℕ, ◌+◌, ◌-◌, ◌<◌, ◌≤◌, List, [], ◌∷◌, ◌++◌, length, Contains, Some, refl, sym, ap, ◌∙◌, subst, arith}
+use Rattle.std.proofs.Common.{◌≡◌, take, ◌+◌, ◌-◌, ◌<◌, ◌≤◌, List, [], ◌∷◌, ◌++◌, length, Contains, ap, ◌∙◌, subst, arith}
 use Rattle.hand_register.specs.Desks.{records, record_of, with_last}
 use Rattle.region_model.specs.Lines.{Line, with_outcome}
 use Rattle.region_model.proofs.LineLaws.{length-with_outcome}
@@ -44,8 +44,17 @@ invariant_of-self g c =
     let listed : Contains (with_outcome c.args.entry o s.lines) c.line.result.now = subst (λ (t : State). Contains t.lines c.line.result.now) c.end_edit-point.ensures.lines c.line.ensures.listed in
     let ended : c.line.result.now ≡ x' = p.there c.line.result.now listed (c.line.ensures.number ∙ c.number-number.ensures) in
     let t = part_ended _ s.region s.base s.lines _ _ _ _ h q l.front l.last o i.0 follows c.meet.ensures.met l.is in
-    rw (c.end_edit-point.ensures.lines, c.amend.ensures.desk, c.amend.ensures.hand, ended, c.meet.ensures.same.0, c.meet.ensures.same.1, c.meet.ensures.still.0, ← l.number) (t, record { desk = c.amend.ensures.still.2 ∙ c.meet.ensures.still.2 ∙ i.1.desk; spent = i.1.spent; ring = i.1.ring; region = i.1.region; known = i.1.known;
-          hands = length_set (records c.self.inside.desk) h (with_last q x') ∙ i.1.hands })
+    rw (c.end_edit-point.ensures.lines, c.amend.ensures.desk, c.amend.ensures.hand, ended, c.meet.ensures.same.0, c.meet.ensures.same.1, c.meet.ensures.still.0, ← l.number) (
+      t,
+      record {
+        desk = c.amend.ensures.still.2 ∙ c.meet.ensures.still.2 ∙ i.1.desk;
+        spent = i.1.spent;
+        ring = i.1.ring;
+        region = i.1.region;
+        known = i.1.known;
+        hands = length_set (records c.self.inside.desk) h (with_last q x') ∙ i.1.hands;
+      },
+    )
 
 pub returns-clause-was : goal.returns-clause-was
 returns-clause-was g c = rw (← c.self.view_is) (pending_in (records c.self.inside.desk) c.self.inside.state.lines (c.args.hand.now.number - 1) c.args.entry (record_of c.args.hand.now) c.self.invariant.0.own c.meet.ensures.met c.requires.last)
@@ -63,5 +72,5 @@ returns-clause-own g c =
     let listed : Contains (with_outcome c.args.entry o s.lines) c.line.result.now = subst (λ (t : State). Contains t.lines c.line.result.now) c.end_edit-point.ensures.lines c.line.ensures.listed in
     let ended : c.line.result.now ≡ x' = p.there c.line.result.now listed (c.line.ensures.number ∙ c.number-number.ensures) in
     let last : (record_of c.amend.new.hand).list ≡ l.front ++ x' ∷ [] =
-        ap (λ r. r.list) c.amend.ensures.hand ∙ (λ j. (with_last (c.meet.ensures.same.1 j) (ended j)).list) ∙ ap (λ (z : List Line). take (length z - 1) z ++ x' ∷ []) l.is ∙ ap (λ (z : List Line). z ++ x' ∷ []) (but_last l.front l.last) in
+    ap (λ r. r.list) c.amend.ensures.hand ∙ (λ j. (with_last (c.meet.ensures.same.1 j) (ended j)).list) ∙ ap (λ (z : List Line). take (length z - 1) z ++ x' ∷ []) l.is ∙ ap (λ (z : List Line). z ++ x' ∷ []) (but_last l.front l.last) in
     record { front = l.front; last = l.last; before = l.is; after = last }

@@ -1,4 +1,4 @@
-use Rattle.std.proofs.Common.{◌≡◌, ℕ, ◌+◌, ◌-◌, ◌<◌, refl, ap, ◌∙◌, arith}
+use Rattle.std.proofs.Common.{ℕ, ◌-◌, refl, ap, ◌∙◌, arith}
 use Rattle.hand_register.specs.Desks.{records, record_of, with_mark}
 use Rattle.region_model.specs.Journal.{Caller}
 use Rattle.region_state.specs.States.{State}

@@ -1,4 +1,4 @@
-use Rattle.std.proofs.Common.{◌≡◌, ◌-◌, subst, sym}
+use Rattle.std.proofs.Common.{◌-◌}
 use Rattle.region_lock.proofs.part.RegionPart.meet_told.Goals as goal
 
 pub returns-clause-met : goal.returns-clause-met

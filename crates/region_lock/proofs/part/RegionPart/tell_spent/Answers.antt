@@ -1,5 +1,5 @@
-use Rattle.std.proofs.Common.{◌≡◌, ◌-◌, ◌∙◌, ap, sym, set, length}
-use Rattle.hand_register.specs.Desks.{records, record_of, with_value}
+use Rattle.std.proofs.Common.{◌-◌, ◌∙◌}
+use Rattle.hand_register.specs.Desks.{record_of}
 use Rattle.region_lock.proofs.Parts.{part_told}
 use Rattle.region_lock.proofs.part.RegionPart.tell_spent.Goals as goal
 

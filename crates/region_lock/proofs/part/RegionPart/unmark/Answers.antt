@@ -1,4 +1,4 @@
-use Rattle.std.proofs.Common.{◌≡◌, ◌-◌, ◌∙◌, ap, sym, length}
+use Rattle.std.proofs.Common.{◌-◌, ◌∙◌}
 use Rattle.hand_register.specs.Desks.{records, record_of, with_mark}
 use Rattle.region_lock.proofs.Lists.{length_set}
 use Rattle.region_lock.proofs.Parts.{part_unmarked}
