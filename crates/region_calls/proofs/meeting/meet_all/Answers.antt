@@ -59,7 +59,7 @@ meeting-preserved g c =
             let mine : knows c.index_mut.result.now ≡ p =
             same_of (knows c.index_mut.result.now) p (sym (map_at (knows {N = g.row.N.Denot} {g = g.N.Naming-1}) ps at c.index_mut.result.now here) ∙ ap (λ (l : List ThePass). slice_get l at) inv.known ∙ ap (λ i. slice_get (map knows old) i) (sym same) ∙ is) in
             subst (λ (q : ThePass). IsMet s.base (edits_in s.region s.lines) q.handler (q.known (c.args.place + 1))) mine
-            (subst (λ (l : Part). IsMet l.state.base (edits_in l.state.region l.state.lines) (knows c.index_mut.result.now).handler ((knows c.index_mut.result.now).known (c.args.place + 1))) inv.same (c.meet_one.ensures.met (c.if-not-meet_one.false) ))
+            (subst (λ (l : Part). IsMet l.state.base (edits_in l.state.region l.state.lines) (knows c.index_mut.result.now).handler ((knows c.index_mut.result.now).known (c.args.place + 1))) inv.same (c.meet_one.ensures.met (c.if-not-meet_one.false)))
       ];
     }
 

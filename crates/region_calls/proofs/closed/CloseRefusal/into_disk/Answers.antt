@@ -59,15 +59,15 @@ returns-clause-left g c told r low high =
     let count : c.len-count.result ≡ the.regions = omega (arith, c.len-count.ensures, c.server.inside.regions.ok.0, c.server.invariant.1.locks) in
     let t = done.taken k (omega (arith, within, c.server.invariant.1.locks)) in
     let sure = subst (λ (m : ℕ). slice_index c.let_all_go.new.lasts k ≤ stored_in m words (k + 1)) count
-        (subst (λ (l : List ℕ). slice_index c.let_all_go.new.lasts k ≤ stored_in c.len-count.result l (k + 1)) c.as_slice-2.ensures (c.sure_stored.ensures k (omega (arith, within, count)))) in
+    (subst (λ (l : List ℕ). slice_index c.let_all_go.new.lasts k ≤ stored_in c.len-count.result l (k + 1)) c.as_slice-2.ensures (c.sure_stored.ensures k (omega (arith, within, count)))) in
     let all : AreAll handlers passes =
-        λ h few most.
-            let x = c.are_all-all.ensures c.sure.ensures h few (omega (arith, most, c.requires.back.of.all)) in
-            (x.0, subst (λ (l : List (Pass g.row.N.Denot g.N.Naming-2)). Contains (map knows l) x.0) c.as_slice.ensures.value x.1, x.2) in
+    λ h few most.
+    let x = c.are_all-all.ensures c.sure.ensures h few (omega (arith, most, c.requires.back.of.all)) in
+    (x.0, subst (λ (l : List (Pass g.row.N.Denot g.N.Naming-2)). Contains (map knows l) x.0) c.as_slice.ensures.value x.1, x.2) in
     subst (λ (q : ℕ). ∥ ((x : Region) × IsClosedRegion name q passes x × Survives disk true q x) ∥₁) same
     (left_made bases handlers ring passes c.let_all_go.new.places the.regions words g.N.Naming-1.found g.N.Naming-3.base g.N.Naming-3.lasts begun.lasts_are (begun.alike told) (begun.recovered told) name disk broken k t.0 t.1
-        (ap (λ (n : Naming). n.bases) begun.named) within t.2 (omega (arith, t.3, sure)) all
-        (λ s few most p is. all_seen the now words broken (done.of the of.back) c.shut-disk.ensures.saw s few most p (subst (λ (l : List ThePass). Contains l p) (sym done.knows) is)) (c.shut-disk.ensures.commits told))
+    (ap (λ (n : Naming). n.bases) begun.named) within t.2 (omega (arith, t.3, sure)) all
+    (λ s few most p is. all_seen the now words broken (done.of the of.back) c.shut-disk.ensures.saw s few most p (subst (λ (l : List ThePass). Contains l p) (sym done.knows) is)) (c.shut-disk.ensures.commits told))
 
 pub returns-clause-leaves : goal.returns-clause-leaves
 returns-clause-leaves g c told =
