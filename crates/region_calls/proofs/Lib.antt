@@ -8,3 +8,7 @@ pub mod Knowing
 pub mod Calling
 pub mod Using
 pub mod Paging
+pub mod ClosedLaws
+pub mod LeavesLaws
+pub mod BackLaws
+pub mod TakenLaws

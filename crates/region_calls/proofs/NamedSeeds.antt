@@ -1,5 +1,5 @@
 -- A name that tells the tables of an opened store names its regions' parts.
-use Rattle.std.proofs.Common.{◌≡◌, ℕ, zero, suc, ◌+◌, ◌-◌, ◌<◌, ◌≤◌, List, [], ◌∷◌, length, map, get_or, sym, ap, ◌∙◌, subst, arith}
+use Rattle.std.proofs.Common.{◌≡◌, ℕ, zero, suc, ◌+◌, ◌-◌, ◌<◌, ◌≤◌, List, [], ◌∷◌, length, map, get_or, refl, sym, ap, ◌∙◌, subst, arith}
 use Rattle.atomic_table.specs.Seated.{TableId}
 use Rattle.logbook.specs.Pages.{Book}
 use Rattle.append_ring.specs.Rules.{base_of as last_before}
@@ -11,7 +11,7 @@ use Rattle.region_calls.specs.declared.seeds.RegionSeeds.{RegionSeeds}
 use Rattle.region_calls.specs.declared.store.Opened.{Opened}
 use Rattle.region_calls.specs.Bases.{IsBaseOf, AreBasesOf}
 use Rattle.region_calls.specs.Seeds.{AreSeeds, base_of, desk_of, spent_of, book_of, lasts_of, base_at}
-use Rattle.region_calls.specs.Named.{AreNamedSeeds}
+use Rattle.region_calls.specs.Named.{IsNamedSeed, AreNamedSeeds}
 use Rattle.region_calls.specs.Names.{AreTablesOf}
 use Rattle.region_calls.specs.Store.{bases_of}
 
@@ -74,3 +74,12 @@ base_of_region F bs a (suc k) low high =
     let back : suc k - 1 ≡ k = omega arith in
     let same : 1 + k ≡ suc k = omega arith in
     subst (λ i. IsBaseOf F (suc k) (get_or bs i no_base)) (sym back) (subst (λ r. IsBaseOf F r (get_or bs k no_base)) same (base_from F 1 bs a k (omega (arith, high))))
+
+last_in_bases : (bs : List Base) (k : ℕ) → k < length bs → get_or (lasts_of bs) k 0 ≡ (get_or bs k no_base).last
+last_in_bases [] k low = absurd (omega (arith, low))
+last_in_bases (b ∷ bs) zero low = refl
+last_in_bases (b ∷ bs) (suc k) low = last_in_bases bs k (omega (arith, low))
+
+-- the number before a region's first one is its base's last one
+pub last_at_base : (bs : List Base) (r : ℕ) → 1 ≤ r → r ≤ length bs → last_before (lasts_of bs) r ≡ (base_at bs r).last
+last_at_base bs r low high = last_in_bases bs (r - 1) (omega (arith, low, high))

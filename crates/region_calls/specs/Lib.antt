@@ -1,5 +1,6 @@
 pub mod Bases
 pub mod Seeds
+pub mod Cleared
 pub mod Store
 pub mod Opening
 pub mod Names
@@ -9,3 +10,6 @@ pub mod Deals
 pub mod Named
 pub mod Served
 pub mod Answers
+pub mod Closes
+pub mod Wordings
+pub mod Backs

@@ -3,6 +3,7 @@ use Rattle.std.specs.Prelude.{◌≡◌, ℕ, ◌+◌, ◌≤◌, Bool, List, []
 use Rattle.atomic_table.specs.Seated.{TableId}
 use Rattle.append_ring.specs.declared.pass.RingPass.{RingPass}
 use Rattle.append_ring.specs.Parts.{AreOut}
+use Rattle.append_ring.specs.Rules.{base_of as last_before}
 use Rattle.log_model.specs.Files.{Files}
 use Rattle.recovery.specs.Alike.{AllAlike}
 use Rattle.region_model.specs.Journal.{Base, Caller}
@@ -14,6 +15,7 @@ use Rattle.log_service.specs.Places.{Place}
 use Rattle.region_replay.specs.Opened.{AtMostOneHigher}
 use Rattle.server_model.specs.Pass.{Naming}
 use Rattle.region_calls.specs.Bases.{IsBaseOf}
+use Rattle.region_calls.specs.Cleared.{AreCleared}
 use Rattle.region_calls.specs.Names.{name_of}
 
 -- What its name tells of a server, its log's ring and regions; and of the files as they were found, and as they were when the log was begun:
@@ -27,6 +29,8 @@ pub record IsBegun (told : Bool) (name : Naming) (found : Files) (handlers : ℕ
   pub alike : IsTrue told → AllAlike found begun
   pub higher : IsTrue told → AtMostOneHigher found begun
   pub recovered : IsTrue told → (r : ℕ) → 1 ≤ r → r ≤ place.regions → IsBaseOf found r (bases r)
+  pub cleared : IsTrue told → AreCleared begun
+  pub lasts_are : (r : ℕ) → 1 ≤ r → r ≤ place.regions → last_before lasts r ≡ (bases r).last
 
 -- Each region has a lock, in which its pass of the ring is.
 pub record AreLocked (place : Place) (count : ℕ) (places : List (Option (RingPass Item))) : Type 0 where

@@ -13,6 +13,7 @@ use Rattle.region_replay.specs.Opened.{AtMostOneHigher}
 use Rattle.region_calls.specs.declared.store.Opened.{Opened}
 use Rattle.region_calls.specs.Seeds.{AreSeeds, base_of, desk_of, spent_of, book_of, lasts_of}
 use Rattle.region_calls.specs.Bases.{AreBasesOf}
+use Rattle.region_calls.specs.Cleared.{AreCleared}
 
 module _ {D : Type 0} where
   -- the disk now, as it was found, and as it was when a log was begun on it
@@ -68,3 +69,5 @@ module _ {D : Type 0} where
     pub higher : IsTrue g.told → AtMostOneHigher (g.view (disk_found o)).files (g.view (disk_begun o)).files
     pub recovered : IsTrue g.told → AreBasesOf (g.view (disk_found o)).files 1 (bases_of o)
     pub later : g.faults (disk_found o) ≤ g.faults (disk_now o)
+    -- the files on which a log was begun have none yet
+    pub cleared : IsTrue g.told → AreCleared (g.view (disk_begun o)).files

@@ -1,10 +1,15 @@
 //! A region server: the opening of a store, the passes of its handlers, and its calls.
 #![tactic(auto)]
 
+mod apart;
 mod calls;
+mod closed;
+mod closing;
 mod dealing;
+mod giving;
 mod hands;
 mod helpers;
+mod meeting;
 mod naming;
 mod opening;
 mod pass;
@@ -21,7 +26,9 @@ mod starting;
 mod store;
 mod taking;
 mod unlocked;
+mod wording;
 
+pub use closed::{CloseRefusal, ClosedRegion, ClosedServer};
 pub use helpers::Helpers;
 pub use log_device::{RollRefusal, Rolled};
 pub use log_service::LogSeat;

@@ -13,6 +13,7 @@ use Rattle.log_ledger.specs.Bases.{AreNumbersOf}
 use Rattle.log_ledger.specs.History.{started_in}
 use Rattle.log_service.specs.Begun.{AreNewParts}
 use Rattle.region_calls.specs.Bases.{AreBasesOf}
+use Rattle.region_calls.specs.Cleared.{AreCleared}
 use Rattle.region_calls.specs.Seeds.{base_of, bases_found, lasts_of, marks_from, flushed_of}
 use Rattle.region_calls.proofs.Marks.{flushed_in, bases_of}
 use Rattle.region_calls.proofs.Begun.{is_opened, moments, len_map, is_fresh, begins_as, few_stores}
@@ -72,6 +73,7 @@ returns-in-Ok-start-clause-store g c =
       higher = λ told. subst (λ e. AtMostOneHigher (g.D.Disk.view c.args.found.value).files (g.D.Disk.view e).files) (sym c.of-split.ensures) (c.requires.names told);
       recovered = λ told. subst (AreBasesOf (g.D.Disk.view c.args.found.value).files 1) (sym (c.in-Ok.ensures.seeds.1 ∙ ap bases_found taken)) (bases_of _ _ n 1 xs (c.requires.recovered told));
       later = (let a = c.requires.later in let b = c.in-Ok-start.ensures.cause.later in omega (arith, a, b));
+      cleared = λ told. subst (λ e. AreCleared (g.D.Disk.view e).files) (sym c.of-split.ensures) (record { no_logs = (c.requires.ready told).no_logs; regions = (c.requires.ready told).regions });
     }
 
 pub returns-in-Ok-start-clause-any_moment : goal.returns-in-Ok-start-clause-any_moment

@@ -1,15 +1,17 @@
-use Rattle.std.proofs.Common.{ℕ, ◌≤◌, List, length, sym, ap, subst, arith}
+use Rattle.std.proofs.Common.{◌≡◌, ℕ, ◌+◌, ◌≤◌, List, length, map, IsTrue, sym, ap, ◌∙◌, subst, arith}
 use Rattle.log_model.specs.Files.{Files}
 use Rattle.recovery.specs.Alike.{AllAlike}
 use Rattle.log_ledger.specs.History.{History}
 use Rattle.log_service.specs.Begun.{BeginsAs}
 use Rattle.region_model.specs.Journal.{Base}
 use Rattle.region_replay.specs.Opened.{AtMostOneHigher}
+use Rattle.append_ring.specs.Rules.{base_of as last_before}
 use Rattle.region_calls.specs.Bases.{IsBaseOf}
-use Rattle.region_calls.specs.Seeds.{base_of}
+use Rattle.region_calls.specs.Cleared.{AreCleared}
+use Rattle.region_calls.specs.Seeds.{base_of, lasts_of}
 use Rattle.region_calls.specs.Store.{bases_of, disk_now, disk_found, disk_begun}
 use Rattle.region_calls.proofs.Begun.{len_map}
-use Rattle.region_calls.proofs.NamedSeeds.{named_seeds, base_of_region}
+use Rattle.region_calls.proofs.NamedSeeds.{named_seeds, base_of_region, last_at_base}
 use Rattle.region_calls.proofs.store.Opened.named.Goals as goal
 
 pub make_room-requires-clause-named : goal.make_room-requires-clause-named
@@ -44,4 +46,8 @@ join-requires-clause-served g c =
           let within : r ≤ o.regions = omega (arith, high, service.1) in
           let base = base_of_region (g.D.Disk.view (disk_found o)).files (bases_of o) (store.recovered told) r low (omega (arith, within, bases, store.count)) in
           subst (λ (F : Files). IsBaseOf F r (g.N.Naming-4.base r)) (sym c.requires.found.0) (subst (λ (b : Base). IsBaseOf (g.D.Disk.view (disk_found o)).files r b) (sym (c.requires.regions r low within).base_is) base);
+      cleared = λ told. subst (λ (F : Files). AreCleared F) (sym c.requires.begun.0) (store.cleared told);
+      lasts_are = λ r low high.
+          let within : r ≤ o.regions = omega (arith, high, service.1) in
+          ap (λ (l : List ℕ). last_before l r) c.requires.lasts ∙ last_at_base (bases_of o) r low (omega (arith, within, bases, store.count)) ∙ ap (λ (b : Base). b.last) (sym (c.requires.regions r low within).base_is);
     }

@@ -1,0 +1,52 @@
+use Rattle.std.proofs.Common.{◌≡◌, ◌≢◌, ◌⊎◌, inl, inr, ℕ, ◌+◌, ◌-◌, ◌<◌, ◌^◌, List, map, length, Option, Some, None, slice_get, Contains, refl, sym, ap, ◌∙◌, subst, arith, eqb-true}
+use Rattle.append_ring.specs.declared.pass.RingPass.{RingPass}
+use Rattle.region_model.specs.Journal.{Base, IsJournal}
+use Rattle.region_model.specs.Lines.{Line, edits_in, last_in}
+use Rattle.log_service.specs.declared.item.Item.{Item}
+use Rattle.log_service.specs.Closed.{HasPushedEntries}
+use Rattle.server_model.specs.Pass.{Pass as ThePass}
+use Rattle.region_lock.specs.Met.{IsMet}
+use Rattle.region_lock.specs.Parts.{Part, AreOwned, entries_in}
+use Rattle.region_calls.proofs.BackLaws.{get_set_same, get_set_other}
+use Rattle.region_calls.proofs.apart.take_region.Goals as goal
+
+pub returns-clause-taken : goal.returns-clause-taken
+returns-clause-taken g c =
+    let place = c.args.place in
+    let pass = c.into_parts-base.result.2 in
+    let parts = c.into_parts-base.ensures in
+    let whole : c.into_part.result ≡ c.args.locked = c.into_part.ensures ∙ c.meet_all-met.ensures.same in
+    let region : c.args.locked.state.region ≡ place + 1 = sym c.region.ensures ∙ eqb-true c.region.result (place + 1) c.sure.ensures in
+    let of : c.into_part.result.state.region ≡ place + 1 = ap (λ (p : Part). p.state.region) whole ∙ region in
+    let base : c.into_parts-base.result.0 ≡ c.into_part.result.state.base = parts.base.0 in
+    let lines : c.into_parts-base.result.1.items ≡ c.into_part.result.state.lines = parts.lines in
+    let here : pass.region - 1 ≡ place = omega (arith, parts.ring.1, of) in
+    record {
+      met = record {
+        base_is = base ∙ parts.base.1 ∙ ap g.N.Naming-3.base of;
+        journal = subst (λ (r : ℕ). IsJournal r c.into_parts-base.result.0 (edits_in r c.into_parts-base.result.1.items)) of
+            (subst (λ (b : Base). IsJournal c.into_part.result.state.region b (edits_in c.into_part.result.state.region c.into_parts-base.result.1.items)) (sym base)
+            (subst (λ (l : List Line). IsJournal c.into_part.result.state.region c.into_part.result.state.base (edits_in c.into_part.result.state.region l)) (sym lines) parts.journal));
+        limit = subst (λ (b : Base). last_in b c.into_parts-base.result.1.items < 2 ^ 48) (sym base) (subst (λ (l : List Line). last_in c.into_part.result.state.base l < 2 ^ 48) (sym lines) parts.limit);
+        owners = subst (λ (l : List Line). AreOwned g.N.Naming-1.handlers l) (sym lines) parts.owners;
+        each = λ p has.
+            let met = c.meet_all-met.ensures.met c.sure-2.ensures p has in
+            subst (λ (b : Base). IsMet b (edits_in (place + 1) c.into_parts-base.result.1.items) p.handler (p.known (place + 1))) (sym (base ∙ ap (λ (q : Part). q.state.base) whole))
+            (subst (λ (l : List Line). IsMet c.args.locked.state.base (edits_in (place + 1) l) p.handler (p.known (place + 1))) (sym (lines ∙ ap (λ (q : Part). q.state.lines) whole))
+            (subst (λ (r : ℕ). IsMet c.args.locked.state.base (edits_in r c.args.locked.state.lines) p.handler (p.known (place + 1))) region met));
+      };
+      pass = pass;
+      there = ap (λ (l : List (Option (RingPass Item))). slice_get l place) c.put_back.ensures ∙ get_set_same c.args.places.now (pass.region - 1) place None (Some pass) here c.requires.place.1;
+      of_ring = parts.ring.0;
+      of_region = parts.ring.1 ∙ of;
+      pushed = subst (λ (r : ℕ). HasPushedEntries pass (entries_in r c.into_parts-base.result.1.items)) of
+          (subst (λ (l : List Line). HasPushedEntries pass (entries_in c.into_part.result.state.region l)) (sym lines) parts.pushed);
+    }
+
+pub returns-clause-others : goal.returns-clause-others
+returns-clause-others g c j other =
+    let pass = c.into_parts-base.result.2 in
+    let whole : c.into_part.result ≡ c.args.locked = c.into_part.ensures ∙ c.meet_all-met.ensures.same in
+    let region : c.args.locked.state.region ≡ c.args.place + 1 = sym c.region.ensures ∙ eqb-true c.region.result (c.args.place + 1) c.sure.ensures in
+    let here : pass.region - 1 ≡ c.args.place = omega (arith, c.into_parts-base.ensures.ring.1, ap (λ (p : Part). p.state.region) whole, region) in
+    ap (λ (l : List (Option (RingPass Item))). slice_get l j) c.put_back.ensures ∙ get_set_other c.args.places.now (pass.region - 1) j (Some pass) (λ e. other (e ∙ here))
