@@ -63,58 +63,58 @@ roll_is (Err roll.WriteFault) = refl
 roll_is (Err (roll.NothingToRoll file)) = refl
 
 module _ {N : Type 0} {g : Ghosts N} where
-  -- the hand that a pass has of region r
-  pub record IsUsed (h calls r : ℕ) (ps : List (RegionPass N g)) (p : RegionPass N g) : Type 0 where
-    pub at : slice_get ps (r - 1) ≡ Some p
-    pub low : r - 1 < length ps
-    pub next : suc (r - 1) ≡ r
-    pub hand : IsHandOf h calls (r - 1 + 1) p
-    pub region : p.viewer.region ≡ suc (r - 1)
+  -- the hand that a pass has of region r, at place k of its list
+  pub record IsUsed (h calls r k : ℕ) (ps : List (RegionPass N g)) (p : RegionPass N g) : Type 0 where
+    pub at : slice_get ps k ≡ Some p
+    pub low : k < length ps
+    pub next : suc k ≡ r
+    pub hand : IsHandOf h calls (k + 1) p
+    pub region : p.viewer.region ≡ suc k
 
-  pub used : (h calls n r : ℕ) (ps : List (RegionPass N g)) (p : RegionPass N g) → length ps ≡ n → 1 ≤ r → r ≤ n → AreHandsOf h calls ps → p ≡ get_or ps (r - 1) p → IsUsed h calls r ps p
-  used h calls n r ps p count some few all is =
-      let low : r - 1 < length ps = omega (arith, count, some, few) in
-      let at : slice_get ps (r - 1) ≡ Some p = slice_get_read ps (length ps) (r - 1) p refl low is in
-      let hand : IsHandOf h calls (r - 1 + 1) p = all (r - 1) p at in
-      let region : p.viewer.region ≡ r - 1 + 1 = hand.region in
-      record { at = at; low = low; next = omega (arith, some); hand = hand; region = omega (arith, region) }
+  pub used : (h calls n r k : ℕ) (ps : List (RegionPass N g)) (p : RegionPass N g) → length ps ≡ n → k ≡ r - 1 → 1 ≤ r → r ≤ n → AreHandsOf h calls ps → p ≡ get_or ps k p → IsUsed h calls r k ps p
+  used h calls n r k ps p count place some few all is =
+      let low : k < length ps = omega (arith, count, place, some, few) in
+      let at : slice_get ps k ≡ Some p = slice_get_read ps (length ps) k p refl low is in
+      let hand : IsHandOf h calls (k + 1) p = all k p at in
+      let region : p.viewer.region ≡ k + 1 = hand.region in
+      record { at = at; low = low; next = omega (arith, place, some); hand = hand; region = omega (arith, region) }
 
-  pub puts_used : (name : Naming) (bases : ℕ → Base) (time r : ℕ) (sync : Bool) (cells : List Cell) (caller : Caller) (answer : Answer) (h calls n : ℕ) (ps : List (RegionPass N g)) (p p' : RegionPass N g) (seat seat' : LogSeat)
-      → IsUsed h calls r ps p → name.bases ≡ bases → length ps ≡ n → IsTrue (is_put answer)
+  pub puts_used : (name : Naming) (bases : ℕ → Base) (time r k : ℕ) (sync : Bool) (cells : List Cell) (caller : Caller) (answer : Answer) (h calls n : ℕ) (ps : List (RegionPass N g)) (p p' : RegionPass N g) (seat seat' : LogSeat)
+      → IsUsed h calls r k ps p → name.bases ≡ bases → length ps ≡ n → IsTrue (is_put answer)
       → PutsAt (bases p.viewer.region) time p.viewer.region sync cells caller answer (known_of n p seat) (known_of n p' seat') seat.device.knows.broken seat'.device.knows.broken
-      → IsLaterSeat seat seat' → calls < caller.call → Puts name time r sync cells caller answer (pass_of h calls ps seat) (pass_of h caller.call (set ps (r - 1) p') seat')
-  puts_used name bases time r sync cells caller answer h calls n ps p p' seat seat' u named count answered puts later low =
+      → IsLaterSeat seat seat' → calls < caller.call → Puts name time r sync cells caller answer (pass_of h calls ps seat) (pass_of h caller.call (set ps k p') seat')
+  puts_used name bases time r k sync cells caller answer h calls n ps p p' seat seat' u named count answered puts later low =
       let was = seat.device.knows.broken in
       let is = seat'.device.knows.broken in
       let one = subst (λ (f : ℕ → Base). PutsAt (f p.viewer.region) time p.viewer.region sync cells caller answer (known_of n p seat) (known_of n p' seat') was is) (sym named) puts in
       let two = subst (λ (m : ℕ). PutsAt (name.bases p.viewer.region) time p.viewer.region sync cells caller answer (known_of m p seat) (known_of m p' seat') was is) (sym count) one in
       let all = subst (λ (s : ℕ). PutsAt (name.bases s) time s sync cells caller answer (known_of (length ps) p seat) (known_of (length ps) p' seat') was is) u.region two in
-      subst (λ (s : ℕ). Puts name time s sync cells caller answer (pass_of h calls ps seat) (pass_of h caller.call (set ps (r - 1) p') seat')) u.next
-      (puts_all name time (r - 1) sync cells caller answer h calls ps p p' seat seat' u.at u.low answered all later (omega (arith, low)))
+      subst (λ (s : ℕ). Puts name time s sync cells caller answer (pass_of h calls ps seat) (pass_of h caller.call (set ps k p') seat')) u.next
+      (puts_all name time k sync cells caller answer h calls ps p p' seat seat' u.at u.low answered all later (omega (arith, low)))
 
-  pub flushes_used : (name : Naming) (bases : ℕ → Base) (lists : ℕ → List Caller) (r : ℕ) (caller : Caller) (answer : Answer) (h calls n : ℕ) (ps : List (RegionPass N g)) (p p' : RegionPass N g) (seat seat' : LogSeat)
-      → IsUsed h calls r ps p → name.bases ≡ bases → name.flushes ≡ lists → length ps ≡ n → IsTrue (is_flush answer)
+  pub flushes_used : (name : Naming) (bases : ℕ → Base) (lists : ℕ → List Caller) (r k : ℕ) (caller : Caller) (answer : Answer) (h calls n : ℕ) (ps : List (RegionPass N g)) (p p' : RegionPass N g) (seat seat' : LogSeat)
+      → IsUsed h calls r k ps p → name.bases ≡ bases → name.flushes ≡ lists → length ps ≡ n → IsTrue (is_flush answer)
       → FlushesAt (bases p.viewer.region) (lists p.viewer.region) caller answer (known_of n p seat) (known_of n p' seat') seat.device.knows.broken seat'.device.knows.broken
-      → IsLaterSeat seat seat' → calls < caller.call → Flushes name r caller answer (pass_of h calls ps seat) (pass_of h caller.call (set ps (r - 1) p') seat')
-  flushes_used name bases lists r caller answer h calls n ps p p' seat seat' u named listed count answered flushes later low =
+      → IsLaterSeat seat seat' → calls < caller.call → Flushes name r caller answer (pass_of h calls ps seat) (pass_of h caller.call (set ps k p') seat')
+  flushes_used name bases lists r k caller answer h calls n ps p p' seat seat' u named listed count answered flushes later low =
       let was = seat.device.knows.broken in
       let is = seat'.device.knows.broken in
       let one = subst (λ (f : ℕ → Base). FlushesAt (f p.viewer.region) (lists p.viewer.region) caller answer (known_of n p seat) (known_of n p' seat') was is) (sym named) flushes in
       let two = subst (λ (f : ℕ → List Caller). FlushesAt (name.bases p.viewer.region) (f p.viewer.region) caller answer (known_of n p seat) (known_of n p' seat') was is) (sym listed) one in
       let three = subst (λ (m : ℕ). FlushesAt (name.bases p.viewer.region) (name.flushes p.viewer.region) caller answer (known_of m p seat) (known_of m p' seat') was is) (sym count) two in
       let all = subst (λ (s : ℕ). FlushesAt (name.bases s) (name.flushes s) caller answer (known_of (length ps) p seat) (known_of (length ps) p' seat') was is) u.region three in
-      subst (λ (s : ℕ). Flushes name s caller answer (pass_of h calls ps seat) (pass_of h caller.call (set ps (r - 1) p') seat')) u.next
-      (flushes_all name (r - 1) caller answer h calls ps p p' seat seat' u.at u.low answered all later (omega (arith, low)))
+      subst (λ (s : ℕ). Flushes name s caller answer (pass_of h calls ps seat) (pass_of h caller.call (set ps k p') seat')) u.next
+      (flushes_all name k caller answer h calls ps p p' seat seat' u.at u.low answered all later (omega (arith, low)))
 
-  pub scans_used : (name : Naming) (bases : ℕ → Base) (r : ℕ) (from to : List ℕ) (answer : Answer) (h calls : ℕ) (ps : List (RegionPass N g)) (p p' : RegionPass N g) (seat : LogSeat)
-      → IsUsed h calls r ps p → name.bases ≡ bases → IsTrue (is_scan answer)
+  pub scans_used : (name : Naming) (bases : ℕ → Base) (r k : ℕ) (from to : List ℕ) (answer : Answer) (h calls : ℕ) (ps : List (RegionPass N g)) (p p' : RegionPass N g) (seat : LogSeat)
+      → IsUsed h calls r k ps p → name.bases ≡ bases → IsTrue (is_scan answer)
       → ScansAt (bases p.viewer.region) from to answer (known_of (length ps) p seat) (known_of (length ps) p' seat)
-      → Scans name r from to answer (pass_of h calls ps seat) (pass_of h calls (set ps (r - 1) p') seat)
-  scans_used name bases r from to answer h calls ps p p' seat u named answered scans =
+      → Scans name r from to answer (pass_of h calls ps seat) (pass_of h calls (set ps k p') seat)
+  scans_used name bases r k from to answer h calls ps p p' seat u named answered scans =
       let one = subst (λ (f : ℕ → Base). ScansAt (f p.viewer.region) from to answer (known_of (length ps) p seat) (known_of (length ps) p' seat)) (sym named) scans in
       let all = subst (λ (s : ℕ). ScansAt (name.bases s) from to answer (known_of (length ps) p seat) (known_of (length ps) p' seat)) u.region one in
-      subst (λ (s : ℕ). Scans name s from to answer (pass_of h calls ps seat) (pass_of h calls (set ps (r - 1) p') seat)) u.next
-      (scans_all name (r - 1) from to answer h calls ps p p' seat u.at u.low answered all)
+      subst (λ (s : ℕ). Scans name s from to answer (pass_of h calls ps seat) (pass_of h calls (set ps k p') seat)) u.next
+      (scans_all name k from to answer h calls ps p p' seat u.at u.low answered all)
 
   closed_in : (n k : ℕ) (answer : Answer) (before after : LogSeat) (o : Option (RegionPass N g)) → ((p : RegionPass N g) → o ≡ Some p → (p.viewer.region ≡ k + 1) × (k < n))
       → RollsAt n answer before after → IsRolled answer → (known_at n before o).synced ≤ (known_at n after o).closed
@@ -158,18 +158,18 @@ module _ {N : Type 0} {g : Ghosts N} where
   }
 
   -- what a pass knows as synced of a region whose hand it used
-  pub synced_used : (h calls r : ℕ) (ps : List (RegionPass N g)) (p p' : RegionPass N g) (seat : LogSeat) → IsUsed h calls r ps p → p'.viewer.region ≡ p.viewer.region
-      → seen_synced seat.device.knows p.viewer.region ≡ (known_in (set ps (r - 1) p') seat r).synced
-  synced_used h calls r ps p p' seat u same =
-      ap (seen_synced seat.device.knows) (sym same) ∙ sym (ap (λ (k : Known). k.synced) (known_here ps (r - 1) p' seat u.low)) ∙ ap (λ (s : ℕ). (known_in (set ps (r - 1) p') seat s).synced) u.next
+  pub synced_used : (h calls r k : ℕ) (ps : List (RegionPass N g)) (p p' : RegionPass N g) (seat : LogSeat) → IsUsed h calls r k ps p → p'.viewer.region ≡ p.viewer.region
+      → seen_synced seat.device.knows p.viewer.region ≡ (known_in (set ps k p') seat r).synced
+  synced_used h calls r k ps p p' seat u same =
+      ap (seen_synced seat.device.knows) (sym same) ∙ sym (ap (λ (k : Known). k.synced) (known_here ps k p' seat u.low)) ∙ ap (λ (s : ℕ). (known_in (set ps k p') seat s).synced) u.next
 
   -- the point that a pass has seen of a region whose hand it used
-  pub point_used : (name : Naming) (bases : ℕ → Base) (h calls r : ℕ) (ps : List (RegionPass N g)) (p p' : RegionPass N g) (seat : LogSeat) → IsUsed h calls r ps p → name.bases ≡ bases → p'.viewer.region ≡ p.viewer.region
-      → last_in (bases p.viewer.region) p'.viewer.lines ≡ point_seen name r (pass_of h calls (set ps (r - 1) p') seat)
-  point_used name bases h calls r ps p p' seat u named same =
+  pub point_used : (name : Naming) (bases : ℕ → Base) (h calls r k : ℕ) (ps : List (RegionPass N g)) (p p' : RegionPass N g) (seat : LogSeat) → IsUsed h calls r k ps p → name.bases ≡ bases → p'.viewer.region ≡ p.viewer.region
+      → last_in (bases p.viewer.region) p'.viewer.lines ≡ point_seen name r (pass_of h calls (set ps k p') seat)
+  point_used name bases h calls r k ps p p' seat u named same =
       let lines = p'.viewer.lines in
-      let here = known_here ps (r - 1) p' seat u.low in
+      let here = known_here ps k p' seat u.low in
       let first : last_in (bases p.viewer.region) lines ≡ last_of (bases p.viewer.region).last (edits_in p'.viewer.region lines) = sym (last_same (bases p.viewer.region) p'.viewer.region lines) in
-      let next : last_of (bases p.viewer.region).last (edits_in p'.viewer.region lines) ≡ point_seen name (suc (r - 1)) (pass_of h calls (set ps (r - 1) p') seat) =
+      let next : last_of (bases p.viewer.region).last (edits_in p'.viewer.region lines) ≡ point_seen name (suc k) (pass_of h calls (set ps k p') seat) =
       (λ i. last_of (sym named i (u.region i)).last (sym here i).shown) in
-      first ∙ next ∙ ap (λ (s : ℕ). point_seen name s (pass_of h calls (set ps (r - 1) p') seat)) u.next
+      first ∙ next ∙ ap (λ (s : ℕ). point_seen name s (pass_of h calls (set ps k p') seat)) u.next

@@ -1,6 +1,6 @@
 //! A server's calls, each on one region.
 
-ghost use Rattle.std.specs.Prelude.{◌≡◌, ◌≤◌, ◌<◌, ◌^◌, ℕ, Contains, IfOk};
+ghost use Rattle.std.specs.Prelude.{◌≡◌, ◌-◌, ◌≤◌, ◌<◌, ◌^◌, Contains};
 ghost use Rattle.log_service.specs.Places.{IsSeatOf, IsLaterSeat};
 ghost use Rattle.server_model.specs.Pass.{IsLater};
 ghost use Rattle.server_model.specs.Steps.{IsQuietPass, Puts, Scans, Flushes, Rolls};
@@ -31,6 +31,18 @@ impl<
     N: Naming + region_lock::Naming + log_service::Naming + region_versions::Naming,
     R: Wait,
 > Server<'a, D, N, R> {
+    /// Where a region of the server's stands in its lists.
+    fn place_of(&self, region: u32) -> usize
+        requires region { (1 ≤ region) × (region ≤ N.name.regions) }
+        ensures place { result ≡ region - 1 }
+        ensures few { region ≤ self.now.regions }
+        ensures bases { N.name.bases ≡ N.Naming-4.base }
+        ensures flushes { N.name.flushes ≡ N.flushes }
+    {
+        let _ = &self.service;
+        region as usize - 1
+    }
+
     /// Puts the cells of one edit into a region: draws its number, logs it, waits for the log where durability was asked for, and shows it.
     /// It answers the number once the pass has seen a version at or above it. A put that answered Memory with a number, or WriteFault with
     /// one, is in the journal.
@@ -47,7 +59,7 @@ impl<
         gate: &G,
     ) -> Result<u64, PutRefusal>
         requires of { IsPassOf self.now pass.old }
-        requires region { (1 ≤ region) × (region ≤ self.now.regions) }
+        requires region { (1 ≤ region) × (region ≤ N.name.regions) }
         requires call { (knows pass.old).calls < call }
         requires time { time < 2 ^ 63 }
         ensures puts { Puts N.name time region (is_sync durability) batch (record { handler = (knows pass.old).handler; call = call }) (put_answer result) (knows pass.old) (knows pass.new) }
@@ -58,7 +70,7 @@ impl<
             handler: pass.handler,
             call,
         };
-        let place = region as usize - 1;
+        let place = self.place_of(region);
         let answer = put_at(
             rt,
             alloc,
@@ -87,12 +99,11 @@ impl<
         to: &[u8],
     ) -> Result<ScanReply, NoMemory>
         requires of { IsPassOf self.now pass.old }
-        requires region { (1 ≤ region) × (region ≤ self.now.regions) }
+        requires region { (1 ≤ region) × (region ≤ N.name.regions) }
         ensures scans { Scans N.name region from.now to.now (scan_answer result) (knows pass.old) (knows pass.new) }
         ensures of { IsPassOf self.now pass.new }
     {
-        let _ = &self.service;
-        let place = region as usize - 1;
+        let place = self.place_of(region);
         scan_in(alloc, &mut pass.regions[place], from, to)
     }
 
@@ -108,27 +119,25 @@ impl<
         to: &[u8],
     ) -> Result<Scanner, NoMemory>
         requires of { IsPassOf self.now pass.old }
-        requires region { (1 ≤ region) × (region ≤ self.now.regions) }
+        requires region { (1 ≤ region) × (region ≤ N.name.regions) }
         ensures scans { Scans N.name region from.now to.now (begun_answer (point_seen N.name region (knows pass.new)) result) (knows pass.old) (knows pass.new) }
         ensures of { IsPassOf self.now pass.new }
     {
-        let _ = &self.service;
-        let place = region as usize - 1;
+        let place = self.place_of(region);
         scanner_in(alloc, &mut pass.regions[place], from, to)
     }
 
     /// The point of the region's version that is shown, at or above each one that the pass has seen. It waits for nobody.
     pub fn read_point(&self, pass: &mut Pass<N>, region: u32) -> u64
         requires of { IsPassOf self.now pass.old }
-        requires region { (1 ≤ region) × (region ≤ self.now.regions) }
+        requires region { (1 ≤ region) × (region ≤ N.name.regions) }
         ensures point { result ≡ point_seen N.name region (knows pass.new) }
         ensures later { IsLater (knows pass.old) (knows pass.new) }
         ensures own { IsQuietPass (knows pass.old) (knows pass.new) }
         ensures used { (knows pass.new).calls ≡ (knows pass.old).calls }
         ensures of { IsPassOf self.now pass.new }
     {
-        let _ = &self.service;
-        let place = region as usize - 1;
+        let place = self.place_of(region);
         point_in(&mut pass.regions[place])
     }
 
@@ -143,9 +152,9 @@ impl<
         call: u32,
     ) -> Result<u64, FlushRefusal>
         requires of { IsPassOf self.now pass.old }
-        requires region { (1 ≤ region) × (region ≤ self.now.regions) }
+        requires region { (1 ≤ region) × (region ≤ N.name.regions) }
         requires call { (knows pass.old).calls < call }
-        requires listed { Contains (N.flushes region) (record { handler = (knows pass.old).handler; call = call }) }
+        requires listed { Contains (N.name.flushes region) (record { handler = (knows pass.old).handler; call = call }) }
         ensures flushes { Flushes N.name region (record { handler = (knows pass.old).handler; call = call }) (flush_answer result) (knows pass.old) (knows pass.new) }
         ensures of { IsPassOf self.now pass.new }
     {
@@ -153,7 +162,7 @@ impl<
             handler: pass.handler,
             call,
         };
-        let place = region as usize - 1;
+        let place = self.place_of(region);
         let answer = flush_in(
             rt,
             alloc,

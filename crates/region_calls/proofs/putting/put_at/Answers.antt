@@ -1,23 +1,33 @@
-use Rattle.std.proofs.Common.{◌≡◌, ℕ, ◌∙◌, ap, sym, subst}
+use Rattle.std.proofs.Common.{◌≡◌, ℕ, Bool, ap, sym, subst}
 use Rattle.hand_register.specs.Desks.{record_of}
-use Rattle.region_model.specs.Journal.{Caller}
-use Rattle.region_model.specs.Lines.{Line}
+use Rattle.region_model.specs.Calls.{Answer}
+use Rattle.region_model.specs.Journal.{Base, Caller}
+use Rattle.region_model.specs.Lines.{Line, pending}
 use Rattle.region_lock.specs.Answers.{is_sync, put_answer}
 use Rattle.region_lock.specs.Calls.{PutsAt}
+use Rattle.region_lock.specs.Jobs.{line_of}
 use Rattle.region_lock.specs.Parts.{AreCalledBelow}
 use Rattle.region_lock.specs.Passes.{known_of}
+use Rattle.server_model.specs.Pass.{Known}
 use Rattle.region_calls.proofs.putting.put_at.Goals as goal
+
+caller_of : (a b : Line) → a ≡ b → a.caller ≡ b.caller
+caller_of a b e = ap (λ (x : Line). x.caller) e
 
 pub put_in-requires-clause-caller : goal.put_in-requires-clause-caller
 put_in-requires-clause-caller g c =
     let at = c.args.at.now in
-    let same : c.in-Ok.job.caller ≡ c.args.caller = ap (λ (x : Line). x.caller) (c.in-Ok.ensures.of 0) in
+    let same : c.in-Ok.job.caller ≡ c.args.caller = caller_of (line_of 0 c.in-Ok.job) (pending 0 c.args.caller c.args.time c.args.batch) (c.in-Ok.ensures.of 0) in
     subst (λ (k : Caller). (k.handler ≡ at.hand.number) × AreCalledBelow k.call (record_of at.hand).list) (sym same) c.requires.caller
+
+puts_of : (base : Base) (r : ℕ) (sync : Bool) (answer : Answer) (old new : Known) (was is : Bool) (a b : Line) → a ≡ b
+    → PutsAt base a.time r sync a.cells a.caller answer old new was is → PutsAt base b.time r sync b.cells b.caller answer old new was is
+puts_of base r sync answer old new was is a b e puts = subst (λ (x : Line). PutsAt base x.time r sync x.cells x.caller answer old new was is) e puts
 
 pub returns-in-Ok-clause-puts : goal.returns-in-Ok-clause-puts
 returns-in-Ok-clause-puts g c =
     let n = c.args.service.now.regions in
     let at = c.args.at.now in
     let seat = c.args.seat.now in
-    subst (λ (x : Line). PutsAt (g.N.Naming-3.base at.viewer.region) x.time at.viewer.region (is_sync c.args.durability) x.cells x.caller (put_answer c.put_in.result)
-    (known_of n at seat) (known_of n c.put_in.new.at c.put_in.new.seat) seat.device.knows.broken c.put_in.new.seat.device.knows.broken) (c.in-Ok.ensures.of 0) c.put_in.ensures.puts
+    puts_of (g.N.Naming-3.base at.viewer.region) at.viewer.region (is_sync c.args.durability) (put_answer c.put_in.result) (known_of n at seat) (known_of n c.put_in.new.at c.put_in.new.seat)
+    seat.device.knows.broken c.put_in.new.seat.device.knows.broken (line_of 0 c.in-Ok.job) (pending 0 c.args.caller c.args.time c.args.batch) (c.in-Ok.ensures.of 0) c.put_in.ensures.puts

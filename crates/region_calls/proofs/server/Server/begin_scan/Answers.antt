@@ -16,23 +16,25 @@ returns-clause-scans g c =
     let done = c.scanner_in in
     let r = c.args.region in
     let ps = pass.regions.items in
-    let u = used pass.handler pass.calls c.args.self.now.regions r ps p c.requires.of.count c.requires.region.0 c.requires.region.1 c.requires.of.hands c.index_mut.ensures.value in
-    let named = ap (λ (n : Naming). n.bases) c.self.invariant.0.named in
+    let k = c.place_of-place.result in
+    let u = used pass.handler pass.calls c.args.self.now.regions r k ps p c.requires.of.count c.place_of-place.ensures.place c.requires.region.0 c.place_of-place.ensures.few c.requires.of.hands c.index_mut.ensures.value in
+    let named = c.place_of-place.ensures.bases in
     let point = last_in (g.N.Naming-4.base p.viewer.region) done.new.at.viewer.lines in
-    let scans = scans_used g.N.Naming-1.name g.N.Naming-4.base r c.args.from.now c.args.to.now (begun_answer point done.result) pass.handler pass.calls ps p done.new.at pass.seat u
+    let scans = scans_used g.N.Naming-1.name g.N.Naming-4.base r k c.args.from.now c.args.to.now (begun_answer point done.result) pass.handler pass.calls ps p done.new.at pass.seat u
     named (begun_is point done.result) (done.ensures.scans (length ps) pass.seat) in
-    subst (λ (n : ℕ). Scans g.N.Naming-1.name r c.args.from.now c.args.to.now (begun_answer n done.result) (pass_of pass.handler pass.calls ps pass.seat) (pass_of pass.handler pass.calls (set ps (r - 1) done.new.at) pass.seat))
-    (point_used g.N.Naming-1.name g.N.Naming-4.base pass.handler pass.calls r ps p done.new.at pass.seat u named done.ensures.region) scans
+    subst (λ (n : ℕ). Scans g.N.Naming-1.name r c.args.from.now c.args.to.now (begun_answer n done.result) (pass_of pass.handler pass.calls ps pass.seat) (pass_of pass.handler pass.calls (set ps k done.new.at) pass.seat))
+    (point_used g.N.Naming-1.name g.N.Naming-4.base pass.handler pass.calls r k ps p done.new.at pass.seat u named done.ensures.region) scans
 
 pub returns-clause-of : goal.returns-clause-of
 returns-clause-of g c =
     let pass = c.args.pass.now in
     let p = c.index_mut.result.now in
     let done = c.scanner_in in
-    let u = used pass.handler pass.calls c.args.self.now.regions c.args.region pass.regions.items p c.requires.of.count c.requires.region.0 c.requires.region.1 c.requires.of.hands c.index_mut.ensures.value in
+    let k = c.place_of-place.result in
+    let u = used pass.handler pass.calls c.args.self.now.regions c.args.region k pass.regions.items p c.requires.of.count c.place_of-place.ensures.place c.requires.region.0 c.place_of-place.ensures.few c.requires.of.hands c.index_mut.ensures.value in
     record {
       seat = c.requires.of.seat;
-      count = length_set pass.regions.items (c.args.region - 1) done.new.at ∙ c.requires.of.count;
-      hands = hands_set pass.handler pass.calls pass.calls pass.regions.items (c.args.region - 1) done.new.at c.requires.of.hands (omega arith)
-          (view_hand pass.handler pass.calls (c.args.region - 1 + 1) p done.new.at u.hand done.ensures.region done.ensures.hand.0);
+      count = length_set pass.regions.items k done.new.at ∙ c.requires.of.count;
+      hands = hands_set pass.handler pass.calls pass.calls pass.regions.items k done.new.at c.requires.of.hands (omega arith)
+          (view_hand pass.handler pass.calls (k + 1) p done.new.at u.hand done.ensures.region done.ensures.hand.0);
     }

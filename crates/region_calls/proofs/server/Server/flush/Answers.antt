@@ -14,9 +14,10 @@ returns-clause-flushes g c =
     let pass = c.args.pass.now in
     let p = c.index_mut.result.now in
     let done = c.flush_in-answer in
-    let u = used pass.handler pass.calls c.args.self.now.regions c.args.region pass.regions.items p c.requires.of.count c.requires.region.0 c.requires.region.1 c.requires.of.hands c.index_mut.ensures.value in
-    flushes_used g.N.Naming-1.name g.N.Naming-4.base g.N.Naming-2.flushes c.args.region (record { handler = pass.handler; call = c.args.call }) (flush_answer done.result)
-    pass.handler pass.calls c.self.inside.service.regions pass.regions.items p done.new.at pass.seat done.new.seat u (ap (λ (n : Naming). n.bases) c.self.invariant.0.named) (ap (λ (n : Naming). n.flushes) c.self.invariant.0.named)
+    let k = c.place_of-place.result in
+    let u = used pass.handler pass.calls c.args.self.now.regions c.args.region k pass.regions.items p c.requires.of.count c.place_of-place.ensures.place c.requires.region.0 c.place_of-place.ensures.few c.requires.of.hands c.index_mut.ensures.value in
+    flushes_used g.N.Naming-1.name g.N.Naming-4.base g.N.Naming-2.flushes c.args.region k (record { handler = pass.handler; call = c.args.call }) (flush_answer done.result)
+    pass.handler pass.calls c.self.inside.service.regions pass.regions.items p done.new.at pass.seat done.new.seat u c.place_of-place.ensures.bases c.place_of-place.ensures.flushes
     (c.requires.of.count ∙ sym (ap (λ (q : Place). q.regions) c.self.view_is)) (flush_is done.result) done.ensures.flushes done.ensures.later c.requires.call
 
 pub returns-clause-of : goal.returns-clause-of
@@ -24,11 +25,12 @@ returns-clause-of g c =
     let pass = c.args.pass.now in
     let p = c.index_mut.result.now in
     let done = c.flush_in-answer in
-    let u = used pass.handler pass.calls c.args.self.now.regions c.args.region pass.regions.items p c.requires.of.count c.requires.region.0 c.requires.region.1 c.requires.of.hands c.index_mut.ensures.value in
-    let hand = flush_hand (g.N.Naming-4.base p.viewer.region) (g.N.Naming-2.flushes p.viewer.region) (c.args.region - 1 + 1) c.self.inside.service.regions pass.handler pass.calls
+    let k = c.place_of-place.result in
+    let u = used pass.handler pass.calls c.args.self.now.regions c.args.region k pass.regions.items p c.requires.of.count c.place_of-place.ensures.place c.requires.region.0 c.place_of-place.ensures.few c.requires.of.hands c.index_mut.ensures.value in
+    let hand = flush_hand (g.N.Naming-4.base p.viewer.region) (g.N.Naming-2.flushes p.viewer.region) (k + 1) c.self.inside.service.regions pass.handler pass.calls
     (record { handler = pass.handler; call = c.args.call }) (flush_answer done.result) p done.new.at pass.seat done.new.seat _ _ u.hand done.ensures.same c.requires.call done.ensures.flushes in
     record {
       seat = subst (λ (q : Place). IsSeatOf q done.new.seat) c.self.view_is done.ensures.seat;
-      count = length_set pass.regions.items (c.args.region - 1) done.new.at ∙ c.requires.of.count;
-      hands = hands_set pass.handler pass.calls c.args.call pass.regions.items (c.args.region - 1) done.new.at c.requires.of.hands (omega (arith, c.requires.call)) hand;
+      count = length_set pass.regions.items k done.new.at ∙ c.requires.of.count;
+      hands = hands_set pass.handler pass.calls c.args.call pass.regions.items k done.new.at c.requires.of.hands (omega (arith, c.requires.call)) hand;
     }

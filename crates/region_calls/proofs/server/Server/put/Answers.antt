@@ -15,7 +15,8 @@ pub put_at-answer-requires-clause-caller : goal.put_at-answer-requires-clause-ca
 put_at-answer-requires-clause-caller g c =
     let pass = c.args.pass.now in
     let p = c.index_mut.result.now in
-    let u = used pass.handler pass.calls c.args.self.now.regions c.args.region pass.regions.items p c.requires.of.count c.requires.region.0 c.requires.region.1 c.requires.of.hands c.index_mut.ensures.value in
+    let k = c.place_of-place.result in
+    let u = used pass.handler pass.calls c.args.self.now.regions c.args.region k pass.regions.items p c.requires.of.count c.place_of-place.ensures.place c.requires.region.0 c.place_of-place.ensures.few c.requires.of.hands c.index_mut.ensures.value in
     (sym u.hand.number, below_more (pass.calls + 1) c.args.call (record_of p.hand).list (omega (arith, c.requires.call)) u.hand.called)
 
 pub returns-clause-puts : goal.returns-clause-puts
@@ -23,9 +24,10 @@ returns-clause-puts g c =
     let pass = c.args.pass.now in
     let p = c.index_mut.result.now in
     let done = c.put_at-answer in
-    let u = used pass.handler pass.calls c.args.self.now.regions c.args.region pass.regions.items p c.requires.of.count c.requires.region.0 c.requires.region.1 c.requires.of.hands c.index_mut.ensures.value in
-    puts_used g.N.Naming-1.name g.N.Naming-4.base c.args.time c.args.region (is_sync c.args.durability) c.args.batch (record { handler = pass.handler; call = c.args.call }) (put_answer done.result)
-    pass.handler pass.calls c.self.inside.service.regions pass.regions.items p done.new.at pass.seat done.new.seat u (ap (λ (n : Naming). n.bases) c.self.invariant.0.named)
+    let k = c.place_of-place.result in
+    let u = used pass.handler pass.calls c.args.self.now.regions c.args.region k pass.regions.items p c.requires.of.count c.place_of-place.ensures.place c.requires.region.0 c.place_of-place.ensures.few c.requires.of.hands c.index_mut.ensures.value in
+    puts_used g.N.Naming-1.name g.N.Naming-4.base c.args.time c.args.region k (is_sync c.args.durability) c.args.batch (record { handler = pass.handler; call = c.args.call }) (put_answer done.result)
+    pass.handler pass.calls c.self.inside.service.regions pass.regions.items p done.new.at pass.seat done.new.seat u c.place_of-place.ensures.bases
     (c.requires.of.count ∙ sym (ap (λ (q : Place). q.regions) c.self.view_is)) (put_is done.result) done.ensures.puts done.ensures.later c.requires.call
 
 pub returns-clause-exact : goal.returns-clause-exact
@@ -33,20 +35,22 @@ returns-clause-exact g c =
     let pass = c.args.pass.now in
     let p = c.index_mut.result.now in
     let done = c.put_at-answer in
-    let u = used pass.handler pass.calls c.args.self.now.regions c.args.region pass.regions.items p c.requires.of.count c.requires.region.0 c.requires.region.1 c.requires.of.hands c.index_mut.ensures.value in
+    let k = c.place_of-place.result in
+    let u = used pass.handler pass.calls c.args.self.now.regions c.args.region k pass.regions.items p c.requires.of.count c.place_of-place.ensures.place c.requires.region.0 c.place_of-place.ensures.few c.requires.of.hands c.index_mut.ensures.value in
     subst (λ (word : ℕ). IsFaultExact (is_sync c.args.durability) done.result word done.new.seat.device.knows.broken)
-    (synced_used pass.handler pass.calls c.args.region pass.regions.items p done.new.at done.new.seat u done.ensures.same.0) done.ensures.exact
+    (synced_used pass.handler pass.calls c.args.region k pass.regions.items p done.new.at done.new.seat u done.ensures.same.0) done.ensures.exact
 
 pub returns-clause-of : goal.returns-clause-of
 returns-clause-of g c =
     let pass = c.args.pass.now in
     let p = c.index_mut.result.now in
     let done = c.put_at-answer in
-    let u = used pass.handler pass.calls c.args.self.now.regions c.args.region pass.regions.items p c.requires.of.count c.requires.region.0 c.requires.region.1 c.requires.of.hands c.index_mut.ensures.value in
-    let hand = put_hand (g.N.Naming-4.base p.viewer.region) c.args.time (c.args.region - 1 + 1) c.self.inside.service.regions pass.handler pass.calls (is_sync c.args.durability) c.args.batch
+    let k = c.place_of-place.result in
+    let u = used pass.handler pass.calls c.args.self.now.regions c.args.region k pass.regions.items p c.requires.of.count c.place_of-place.ensures.place c.requires.region.0 c.place_of-place.ensures.few c.requires.of.hands c.index_mut.ensures.value in
+    let hand = put_hand (g.N.Naming-4.base p.viewer.region) c.args.time (k + 1) c.self.inside.service.regions pass.handler pass.calls (is_sync c.args.durability) c.args.batch
     (record { handler = pass.handler; call = c.args.call }) (put_answer done.result) p done.new.at pass.seat done.new.seat _ _ u.hand done.ensures.same c.requires.call done.ensures.puts in
     record {
       seat = subst (λ (q : Place). IsSeatOf q done.new.seat) c.self.view_is done.ensures.seat;
-      count = length_set pass.regions.items (c.args.region - 1) done.new.at ∙ c.requires.of.count;
-      hands = hands_set pass.handler pass.calls c.args.call pass.regions.items (c.args.region - 1) done.new.at c.requires.of.hands (omega (arith, c.requires.call)) hand;
+      count = length_set pass.regions.items k done.new.at ∙ c.requires.of.count;
+      hands = hands_set pass.handler pass.calls c.args.call pass.regions.items k done.new.at c.requires.of.hands (omega (arith, c.requires.call)) hand;
     }

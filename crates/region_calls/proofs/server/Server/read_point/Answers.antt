@@ -15,39 +15,43 @@ returns-clause-point g c =
     let pass = c.args.pass.now in
     let p = c.index_mut.result.now in
     let done = c.point_in in
-    let u = used pass.handler pass.calls c.args.self.now.regions c.args.region pass.regions.items p c.requires.of.count c.requires.region.0 c.requires.region.1 c.requires.of.hands c.index_mut.ensures.value in
+    let k = c.place_of-place.result in
+    let u = used pass.handler pass.calls c.args.self.now.regions c.args.region k pass.regions.items p c.requires.of.count c.place_of-place.ensures.place c.requires.region.0 c.place_of-place.ensures.few c.requires.of.hands c.index_mut.ensures.value in
     done.ensures.point ∙ ap (λ (r : ℕ). last_in (g.N.Naming-4.base r) done.new.at.viewer.lines) done.ensures.region
-    ∙ point_used g.N.Naming-1.name g.N.Naming-4.base pass.handler pass.calls c.args.region pass.regions.items p done.new.at pass.seat u (ap (λ (n : Naming). n.bases) c.self.invariant.0.named) done.ensures.region
+    ∙ point_used g.N.Naming-1.name g.N.Naming-4.base pass.handler pass.calls c.args.region k pass.regions.items p done.new.at pass.seat u c.place_of-place.ensures.bases done.ensures.region
 
 pub returns-clause-later : goal.returns-clause-later
 returns-clause-later g c =
     let pass = c.args.pass.now in
     let p = c.index_mut.result.now in
     let done = c.point_in in
-    let u = used pass.handler pass.calls c.args.self.now.regions c.args.region pass.regions.items p c.requires.of.count c.requires.region.0 c.requires.region.1 c.requires.of.hands c.index_mut.ensures.value in
+    let k = c.place_of-place.result in
+    let u = used pass.handler pass.calls c.args.self.now.regions c.args.region k pass.regions.items p c.requires.of.count c.place_of-place.ensures.place c.requires.region.0 c.place_of-place.ensures.few c.requires.of.hands c.index_mut.ensures.value in
     let scans = scan_none (length pass.regions.items) (g.N.Naming-4.base p.viewer.region) [] [] p.viewer.region done.new.at.viewer.region (record_of p.hand).list (record_of done.new.at.hand).list p.viewer.lines done.new.at.viewer.lines
     (record_of p.told).list (record_of done.new.at.told).list pass.seat done.ensures.region (ap (λ (h : Hand Line). (record_of h).list) done.ensures.hand.0) (ap (λ (h : Hand ℕ). (record_of h).list) done.ensures.hand.1) done.ensures.later in
-    (scans_used g.N.Naming-1.name g.N.Naming-4.base c.args.region [] [] ScanMemory pass.handler pass.calls pass.regions.items p done.new.at pass.seat u (ap (λ (n : Naming). n.bases) c.self.invariant.0.named) refl scans).later
+    (scans_used g.N.Naming-1.name g.N.Naming-4.base c.args.region k [] [] ScanMemory pass.handler pass.calls pass.regions.items p done.new.at pass.seat u c.place_of-place.ensures.bases refl scans).later
 
 pub returns-clause-own : goal.returns-clause-own
 returns-clause-own g c =
     let pass = c.args.pass.now in
     let p = c.index_mut.result.now in
     let done = c.point_in in
-    let u = used pass.handler pass.calls c.args.self.now.regions c.args.region pass.regions.items p c.requires.of.count c.requires.region.0 c.requires.region.1 c.requires.of.hands c.index_mut.ensures.value in
+    let k = c.place_of-place.result in
+    let u = used pass.handler pass.calls c.args.self.now.regions c.args.region k pass.regions.items p c.requires.of.count c.place_of-place.ensures.place c.requires.region.0 c.place_of-place.ensures.few c.requires.of.hands c.index_mut.ensures.value in
     let scans = scan_none (length pass.regions.items) (g.N.Naming-4.base p.viewer.region) [] [] p.viewer.region done.new.at.viewer.region (record_of p.hand).list (record_of done.new.at.hand).list p.viewer.lines done.new.at.viewer.lines
     (record_of p.told).list (record_of done.new.at.told).list pass.seat done.ensures.region (ap (λ (h : Hand Line). (record_of h).list) done.ensures.hand.0) (ap (λ (h : Hand ℕ). (record_of h).list) done.ensures.hand.1) done.ensures.later in
-    (scans_used g.N.Naming-1.name g.N.Naming-4.base c.args.region [] [] ScanMemory pass.handler pass.calls pass.regions.items p done.new.at pass.seat u (ap (λ (n : Naming). n.bases) c.self.invariant.0.named) refl scans).own
+    (scans_used g.N.Naming-1.name g.N.Naming-4.base c.args.region k [] [] ScanMemory pass.handler pass.calls pass.regions.items p done.new.at pass.seat u c.place_of-place.ensures.bases refl scans).own
 
 pub returns-clause-of : goal.returns-clause-of
 returns-clause-of g c =
     let pass = c.args.pass.now in
     let p = c.index_mut.result.now in
     let done = c.point_in in
-    let u = used pass.handler pass.calls c.args.self.now.regions c.args.region pass.regions.items p c.requires.of.count c.requires.region.0 c.requires.region.1 c.requires.of.hands c.index_mut.ensures.value in
+    let k = c.place_of-place.result in
+    let u = used pass.handler pass.calls c.args.self.now.regions c.args.region k pass.regions.items p c.requires.of.count c.place_of-place.ensures.place c.requires.region.0 c.place_of-place.ensures.few c.requires.of.hands c.index_mut.ensures.value in
     record {
       seat = c.requires.of.seat;
-      count = length_set pass.regions.items (c.args.region - 1) done.new.at ∙ c.requires.of.count;
-      hands = hands_set pass.handler pass.calls pass.calls pass.regions.items (c.args.region - 1) done.new.at c.requires.of.hands (omega arith)
-          (view_hand pass.handler pass.calls (c.args.region - 1 + 1) p done.new.at u.hand done.ensures.region done.ensures.hand.0);
+      count = length_set pass.regions.items k done.new.at ∙ c.requires.of.count;
+      hands = hands_set pass.handler pass.calls pass.calls pass.regions.items k done.new.at c.requires.of.hands (omega arith)
+          (view_hand pass.handler pass.calls (k + 1) p done.new.at u.hand done.ensures.region done.ensures.hand.0);
     }

@@ -11,19 +11,21 @@ returns-clause-scans g c =
     let pass = c.args.pass.now in
     let p = c.index_mut.result.now in
     let done = c.scan_in in
-    let u = used pass.handler pass.calls c.args.self.now.regions c.args.region pass.regions.items p c.requires.of.count c.requires.region.0 c.requires.region.1 c.requires.of.hands c.index_mut.ensures.value in
-    scans_used g.N.Naming-1.name g.N.Naming-4.base c.args.region c.args.from.now c.args.to.now (scan_answer done.result) pass.handler pass.calls pass.regions.items p done.new.at pass.seat u
-    (ap (λ (n : Naming). n.bases) c.self.invariant.0.named) (scan_is done.result) (done.ensures.scans (length pass.regions.items) pass.seat)
+    let k = c.place_of-place.result in
+    let u = used pass.handler pass.calls c.args.self.now.regions c.args.region k pass.regions.items p c.requires.of.count c.place_of-place.ensures.place c.requires.region.0 c.place_of-place.ensures.few c.requires.of.hands c.index_mut.ensures.value in
+    scans_used g.N.Naming-1.name g.N.Naming-4.base c.args.region k c.args.from.now c.args.to.now (scan_answer done.result) pass.handler pass.calls pass.regions.items p done.new.at pass.seat u
+    c.place_of-place.ensures.bases (scan_is done.result) (done.ensures.scans (length pass.regions.items) pass.seat)
 
 pub returns-clause-of : goal.returns-clause-of
 returns-clause-of g c =
     let pass = c.args.pass.now in
     let p = c.index_mut.result.now in
     let done = c.scan_in in
-    let u = used pass.handler pass.calls c.args.self.now.regions c.args.region pass.regions.items p c.requires.of.count c.requires.region.0 c.requires.region.1 c.requires.of.hands c.index_mut.ensures.value in
+    let k = c.place_of-place.result in
+    let u = used pass.handler pass.calls c.args.self.now.regions c.args.region k pass.regions.items p c.requires.of.count c.place_of-place.ensures.place c.requires.region.0 c.place_of-place.ensures.few c.requires.of.hands c.index_mut.ensures.value in
     record {
       seat = c.requires.of.seat;
-      count = length_set pass.regions.items (c.args.region - 1) done.new.at ∙ c.requires.of.count;
-      hands = hands_set pass.handler pass.calls pass.calls pass.regions.items (c.args.region - 1) done.new.at c.requires.of.hands (omega arith)
-          (view_hand pass.handler pass.calls (c.args.region - 1 + 1) p done.new.at u.hand done.ensures.region done.ensures.hand.0);
+      count = length_set pass.regions.items k done.new.at ∙ c.requires.of.count;
+      hands = hands_set pass.handler pass.calls pass.calls pass.regions.items k done.new.at c.requires.of.hands (omega arith)
+          (view_hand pass.handler pass.calls (k + 1) p done.new.at u.hand done.ensures.region done.ensures.hand.0);
     }
