@@ -1,25 +1,22 @@
 -- One call of a pass on one region, from what it does to its hand there and to its seat.
-use Rattle.std.proofs.Common.{◌≡◌, ◌≢◌, ℕ, zero, suc, ◌+◌, ◌-◌, ◌<◌, ◌≤◌, Bool, true, IsTrue, List, [], ◌∷◌, ◌++◌, length, set, Option, Some, None, slice_get, Contains, refl, sym, ap, ◌∙◌, subst, arith}
+use Rattle.std.proofs.Common.{◌≡◌, ℕ, zero, suc, ◌+◌, ◌<◌, ◌≤◌, Bool, IsTrue, List, ◌++◌, length, set, Option, Some, None, slice_get, Contains, refl, sym, ap, ◌∙◌, subst, arith}
 use Rattle.cell_model.specs.Cell.{Cell}
 use Rattle.hand_register.specs.Desks.{record_of}
-use Rattle.log_berth.specs.Words.{NoMore}
 use Rattle.log_service.specs.declared.seats.LogSeat.{LogSeat}
-use Rattle.log_service.specs.Places.{Place, IsSeatOf, IsLaterSeat}
-use Rattle.region_model.specs.Calls.{Answer, is_put, is_scan, is_flush, is_roll}
+use Rattle.log_service.specs.Places.{IsLaterSeat}
+use Rattle.region_model.specs.Calls.{Answer, is_put, is_scan, is_flush}
 use Rattle.region_model.specs.Journal.{Base, Edit, Caller}
 use Rattle.region_model.specs.Lawful.{number_of}
-use Rattle.region_model.specs.Lines.{Line, edits_in}
+use Rattle.region_model.specs.Lines.{edits_in}
 use Rattle.server_model.specs.Pass.{Known, Naming}
 use Rattle.server_model.specs.Steps.{Puts, Scans, Flushes, drawn}
 use Rattle.region_lock.specs.declared.pass.RegionPass.{RegionPass}
 use Rattle.region_lock.specs.declared.naming.Naming.{Ghosts}
 use Rattle.region_lock.specs.Calls.{PutsAt, ScansAt, FlushesAt}
-use Rattle.region_lock.specs.Parts.{AreCalledBelow}
 use Rattle.region_lock.specs.Passes.{known_of, SamePass}
-use Rattle.region_lock.proofs.Lists.{length_set}
 use Rattle.region_lock.proofs.Lifts.{puts_from, scans_from, flushes_from}
-use Rattle.region_calls.specs.Passes.{known_at, known_in, pass_of, IsHandOf, AreHandsOf}
-use Rattle.region_calls.proofs.Knowing.{others_later, known_here, hands_set, below_more, called_more}
+use Rattle.region_calls.specs.Passes.{known_at, known_in, pass_of, IsHandOf}
+use Rattle.region_calls.proofs.Knowing.{others_later, known_here, below_more, called_more}
 
 drawn_low : (r time : ℕ) (cells : List Cell) (caller : Caller) (answer : Answer) (o : Option ℕ) (e : Edit) → Contains (drawn r time cells caller answer o) e → e.caller.call < caller.call + 1
 drawn_low r time cells caller answer None e (k, low, at) = absurd (omega (arith, low))

@@ -1,10 +1,10 @@
 -- What a pass knows of all regions, where one of its hands was used.
-use Rattle.std.proofs.Common.{◌≡◌, ◌≢◌, ◌⊎◌, inl, inr, ℕ, zero, suc, ◌+◌, ◌-◌, ◌<◌, ◌≤◌, List, [], ◌∷◌, ◌++◌, length, set, map, Option, Some, None, slice_get, get_or, Contains, refl, sym, ap, ◌∙◌, subst, arith}
+use Rattle.std.proofs.Common.{◌≡◌, ◌≢◌, inl, inr, ℕ, zero, suc, ◌+◌, ◌-◌, ◌<◌, ◌≤◌, List, [], ◌∷◌, ◌++◌, length, set, Option, Some, None, slice_get, Contains, refl, sym, ap, subst, arith}
 use Rattle.region_lock.proofs.Lists.{get_set, length_set}
 use Rattle.hand_register.specs.Desks.{record_of}
 use Rattle.log_berth.specs.Words.{NoMore}
 use Rattle.log_service.specs.declared.seats.LogSeat.{LogSeat}
-use Rattle.region_model.specs.Journal.{Edit, Caller}
+use Rattle.region_model.specs.Journal.{Edit}
 use Rattle.region_model.specs.Lines.{Line, edit_in, edits_in}
 use Rattle.server_model.specs.Pass.{Known, IsLaterOf, IsQuiet}
 use Rattle.server_model.proofs.JournalLaws.{prefix_here}
@@ -12,7 +12,7 @@ use Rattle.region_lock.specs.declared.pass.RegionPass.{RegionPass}
 use Rattle.region_lock.specs.declared.naming.Naming.{Ghosts}
 use Rattle.region_lock.specs.Parts.{AreCalledBelow}
 use Rattle.region_lock.specs.Passes.{known_of}
-use Rattle.region_calls.specs.Passes.{nothing_known, known_at, known_in, IsHandOf, AreHandsOf}
+use Rattle.region_calls.specs.Passes.{known_at, known_in, IsHandOf, AreHandsOf}
 
 get_other : {A : Type 0} → (xs : List A) (k j : ℕ) (y : A) → j ≢ k → slice_get (set xs k y) j ≡ slice_get xs j
 get_other [] k j y ne = refl

@@ -62,7 +62,8 @@ impl<
         requires region { (1 ≤ region) × (region ≤ N.name.regions) }
         requires call { (knows pass.old).calls < call }
         requires time { time < 2 ^ 63 }
-        ensures puts { Puts N.name time region (is_sync durability) batch (record { handler = (knows pass.old).handler; call = call }) (put_answer result) (knows pass.old) (knows pass.new) }
+        ensures puts { Puts N.name time region (is_sync durability) batch (record { handler = (knows pass.old).handler; call = call })
+            (put_answer result) (knows pass.old) (knows pass.new) }
         ensures exact { IsFaultExact (is_sync durability) result ((knows pass.new).known region).synced (knows pass.new).broken }
         ensures of { IsPassOf self.now pass.new }
     {
@@ -120,7 +121,8 @@ impl<
     ) -> Result<Scanner, NoMemory>
         requires of { IsPassOf self.now pass.old }
         requires region { (1 ≤ region) × (region ≤ N.name.regions) }
-        ensures scans { Scans N.name region from.now to.now (begun_answer (point_seen N.name region (knows pass.new)) result) (knows pass.old) (knows pass.new) }
+        ensures scans { Scans N.name region from.now to.now (begun_answer (point_seen N.name region (knows pass.new)) result)
+            (knows pass.old) (knows pass.new) }
         ensures of { IsPassOf self.now pass.new }
     {
         let place = self.place_of(region);
@@ -155,7 +157,8 @@ impl<
         requires region { (1 ≤ region) × (region ≤ N.name.regions) }
         requires call { (knows pass.old).calls < call }
         requires listed { Contains (N.name.flushes region) (record { handler = (knows pass.old).handler; call = call }) }
-        ensures flushes { Flushes N.name region (record { handler = (knows pass.old).handler; call = call }) (flush_answer result) (knows pass.old) (knows pass.new) }
+        ensures flushes { Flushes N.name region (record { handler = (knows pass.old).handler; call = call }) (flush_answer result)
+            (knows pass.old) (knows pass.new) }
         ensures of { IsPassOf self.now pass.new }
     {
         let by = Caller {

@@ -42,7 +42,8 @@ pub(crate) fn put_at<
     requires time { time < 2 ^ 63 }
     requires caller { (caller.handler ≡ at.old.hand.number) × AreCalledBelow caller.call (record_of at.old.hand).list }
     ensures puts { PutsAt (N.Naming-3.base at.old.viewer.region) time at.old.viewer.region (is_sync durability) batch caller (put_answer result)
-        (known_of service.now.regions at.old seat.old) (known_of service.now.regions at.new seat.new) seat.old.device.knows.broken seat.new.device.knows.broken }
+        (known_of service.now.regions at.old seat.old) (known_of service.now.regions at.new seat.new)
+        seat.old.device.knows.broken seat.new.device.knows.broken }
     ensures same { SamePass at.old at.new }
     ensures seat { IsSeatOf service.now seat.new }
     ensures later { IsLaterSeat seat.old seat.new }

@@ -1,7 +1,6 @@
-use Rattle.std.proofs.Common.{◌≡◌, ℕ, ◌+◌, ◌-◌, ◌≤◌, List, length, set, ap, ◌∙◌, subst, arith}
+use Rattle.std.proofs.Common.{ℕ, ◌+◌, length, set, ◌∙◌, subst, arith}
 use Rattle.region_model.specs.Lines.{last_in}
 use Rattle.region_lock.proofs.Lists.{length_set}
-use Rattle.server_model.specs.Pass.{Naming}
 use Rattle.server_model.specs.Steps.{Scans}
 use Rattle.region_calls.specs.Answers.{begun_answer}
 use Rattle.region_calls.specs.Passes.{pass_of}

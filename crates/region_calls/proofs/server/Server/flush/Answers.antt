@@ -1,10 +1,7 @@
-use Rattle.std.proofs.Common.{◌≡◌, ℕ, ◌+◌, ◌-◌, ◌≤◌, List, length, sym, ap, ◌∙◌, subst, arith, Contains}
-use Rattle.hand_register.specs.Desks.{record_of}
+use Rattle.std.proofs.Common.{◌+◌, sym, ap, ◌∙◌, subst, arith}
 use Rattle.log_service.specs.Places.{Place, IsSeatOf}
-use Rattle.region_model.specs.Journal.{Caller}
 use Rattle.region_lock.specs.Answers.{flush_answer}
 use Rattle.region_lock.proofs.Lists.{length_set}
-use Rattle.server_model.specs.Pass.{Naming}
 use Rattle.region_calls.proofs.Knowing.{hands_set}
 use Rattle.region_calls.proofs.Using.{flush_is, used, flushes_used, flush_hand}
 use Rattle.region_calls.proofs.server.Server.flush.Goals as goal

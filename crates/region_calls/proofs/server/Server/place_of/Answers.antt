@@ -1,4 +1,4 @@
-use Rattle.std.proofs.Common.{◌≡◌, ℕ, ◌≤◌, ap, arith}
+use Rattle.std.proofs.Common.{ap, arith}
 use Rattle.log_service.specs.Places.{Place}
 use Rattle.server_model.specs.Pass.{Naming}
 use Rattle.region_calls.proofs.server.Server.place_of.Goals as goal

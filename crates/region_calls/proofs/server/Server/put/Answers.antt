@@ -1,11 +1,9 @@
-use Rattle.std.proofs.Common.{◌≡◌, ℕ, ◌+◌, ◌-◌, ◌≤◌, List, length, sym, ap, ◌∙◌, subst, arith}
+use Rattle.std.proofs.Common.{ℕ, ◌+◌, sym, ap, ◌∙◌, subst, arith}
 use Rattle.hand_register.specs.Desks.{record_of}
 use Rattle.log_service.specs.Places.{Place, IsSeatOf}
-use Rattle.region_model.specs.Journal.{Caller}
 use Rattle.region_lock.specs.Answers.{is_sync, put_answer}
 use Rattle.region_lock.specs.Puts.{IsFaultExact}
 use Rattle.region_lock.proofs.Lists.{length_set}
-use Rattle.server_model.specs.Pass.{Naming}
 use Rattle.region_calls.proofs.Knowing.{below_more, hands_set}
 use Rattle.region_calls.proofs.Calling.{put_hand}
 use Rattle.region_calls.proofs.Using.{put_is, used, puts_used, synced_used}

@@ -1,11 +1,10 @@
-use Rattle.std.proofs.Common.{◌≡◌, ℕ, ◌+◌, ◌-◌, ◌≤◌, List, [], length, set, refl, ap, ◌∙◌, arith}
+use Rattle.std.proofs.Common.{ℕ, ◌+◌, [], length, refl, ap, ◌∙◌, arith}
 use Rattle.hand_register.specs.declared.hand.Hand.{Hand}
 use Rattle.hand_register.specs.Desks.{record_of}
 use Rattle.region_model.specs.Calls.{ScanMemory}
 use Rattle.region_model.specs.Lines.{Line, last_in}
 use Rattle.region_lock.proofs.Lists.{length_set}
 use Rattle.region_lock.proofs.ScanLaws.{scan_none}
-use Rattle.server_model.specs.Pass.{Naming}
 use Rattle.region_calls.proofs.Knowing.{hands_set}
 use Rattle.region_calls.proofs.Using.{used, scans_used, point_used, view_hand}
 use Rattle.region_calls.proofs.server.Server.read_point.Goals as goal

@@ -1,4 +1,4 @@
-use Rattle.std.proofs.Common.{◌≡◌, ℕ, ◌≤◌, List, length, sym, ap, ◌∙◌}
+use Rattle.std.proofs.Common.{sym, ap, ◌∙◌}
 use Rattle.log_service.specs.Places.{Place}
 use Rattle.region_lock.specs.Answers.{roll_answer}
 use Rattle.region_calls.proofs.Using.{roll_is, rolls_used}

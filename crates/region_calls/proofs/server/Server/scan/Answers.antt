@@ -1,7 +1,6 @@
-use Rattle.std.proofs.Common.{◌≡◌, ℕ, ◌+◌, ◌-◌, ◌≤◌, List, length, ap, ◌∙◌, arith}
+use Rattle.std.proofs.Common.{◌+◌, length, ◌∙◌, arith}
 use Rattle.region_lock.specs.Answers.{scan_answer}
 use Rattle.region_lock.proofs.Lists.{length_set}
-use Rattle.server_model.specs.Pass.{Naming}
 use Rattle.region_calls.proofs.Knowing.{hands_set}
 use Rattle.region_calls.proofs.Using.{scan_is, used, scans_used, view_hand}
 use Rattle.region_calls.proofs.server.Server.scan.Goals as goal
