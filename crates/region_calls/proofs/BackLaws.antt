@@ -1,24 +1,23 @@
 -- Passes that are back, what they know, and their seats.
-use Rattle.std.proofs.Common.{◌≡◌, ◌≢◌, ◌⊎◌, inl, inr, ℕ, zero, suc, ◌+◌, ◌-◌, ◌<◌, ◌≤◌, Bool, true, false, List, [], ◌∷◌, ◌++◌, length, map, set, Option, Some, None, slice_get, Contains, refl, sym, ap, ◌∙◌, subst, arith}
+use Rattle.std.proofs.Common.{◌≡◌, inl, inr, ℕ, zero, suc, ◌+◌, ◌<◌, ◌≤◌, Bool, true, false, List, [], ◌∷◌, ◌++◌, length, map, set, Option, Some, slice_get, Contains, refl, sym, ap, ◌∙◌, subst, arith}
 use Rattle.hand_register.specs.Desks.{record_of}
 use Rattle.log_berth.specs.Standing.{Standing, AreBack, Saw, AllSaw}
 use Rattle.log_service.specs.declared.seats.LogSeat.{LogSeat}
 use Rattle.log_service.specs.Numbers.{seen_synced, seen_stored, seen_closed}
 use Rattle.log_service.specs.Closed.{synced_in, stored_in, closed_in}
-use Rattle.log_service.specs.Places.{Place, IsSeatOf}
+use Rattle.log_service.specs.Places.{Place}
 use Rattle.region_model.specs.Lines.{Line, edits_in}
 use Rattle.region_lock.specs.declared.pass.RegionPass.{RegionPass}
 use Rattle.region_lock.specs.declared.naming.Naming.{Ghosts}
-use Rattle.region_lock.specs.Hands.{SameHand}
 use Rattle.region_lock.specs.Parts.{AreCalledBelow}
 use Rattle.region_lock.specs.Passes.{known_of}
 use Rattle.region_lock.proofs.Lists.{get_set, length_set}
 use Rattle.region_versions.specs.Histories.{Beginning}
 use Rattle.hand_register.specs.declared.known.Record.{Record}
-use Rattle.server_model.specs.Pass.{Known, Pass as ThePass}
+use Rattle.server_model.specs.Pass.{Pass as ThePass}
 use Rattle.region_calls.specs.declared.pass.Pass.{Pass}
 use Rattle.region_calls.specs.Passes.{knows, known_at, known_in, pass_of, IsHandOf, AreHandsOf, IsPassOf}
-use Rattle.region_calls.specs.Deals.{AllOf, AreSeatsOf}
+use Rattle.region_calls.specs.Deals.{AllOf}
 use Rattle.region_calls.specs.Backs.{device_seats, seats_of}
 use Rattle.region_calls.proofs.ClosedLaws.{seen_in_words}
 

@@ -1,18 +1,18 @@
 -- What is closed is what the law of a server's calls speaks of.
-use Rattle.std.proofs.Common.{◌≡◌, inl, inr, ℕ, zero, suc, ◌+◌, ◌-◌, ◌<◌, ◌≤◌, ◌^◌, Bool, List, [], ◌∷◌, length, map, take, Contains, get_or, slice_index, refl, sym, ap, ◌∙◌, subst, arith}
+use Rattle.std.proofs.Common.{◌≡◌, ℕ, zero, suc, ◌+◌, ◌-◌, ◌<◌, ◌≤◌, ◌^◌, Bool, List, [], ◌∷◌, length, map, take, Contains, refl, sym, ap, ◌∙◌, subst, arith}
 use Rattle.std.proofs.lemmas.List.{length-map}
 use Rattle.std.proofs.Math.Logic.{∥∥₁_map}
 use Rattle.cell_model.specs.Order.{Content, put_cells}
 use Rattle.log_model.specs.Entry.{Entry}
-use Rattle.log_model.specs.Files.{Files, IsFit}
+use Rattle.log_model.specs.Files.{Files}
 use Rattle.log_model.specs.Recovered.{IsRecovered, IsContent, IsLast, put_entries}
 use Rattle.disk_images.specs.Crash.{DiskView, Since}
 use Rattle.log_berth.specs.Standing.{Saw}
 use Rattle.log_service.specs.declared.seats.LogSeat.{LogSeat}
 use Rattle.log_service.specs.Numbers.{seen_synced, seen_stored, seen_closed}
 use Rattle.log_service.specs.Closed.{Image, Commits as ServiceCommits, synced_in, stored_in, closed_in}
-use Rattle.region_model.specs.Journal.{Base, Edit, IsJournal, last_of, cut_at, put_edits}
-use Rattle.region_model.specs.Lines.{Line, edit_in, edits_in, last_in}
+use Rattle.region_model.specs.Journal.{Base, Edit, IsJournal, cut_at, put_edits}
+use Rattle.region_model.specs.Lines.{Line, edit_in, edits_in}
 use Rattle.region_model.specs.Crash.{Fits}
 use Rattle.server_model.specs.Pass.{Pass, Naming}
 use Rattle.server_model.specs.Closing.{Region, IsClosedRegion, Survives}

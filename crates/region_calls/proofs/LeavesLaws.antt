@@ -1,9 +1,7 @@
 -- What a server that is closed leaves besides, of the files as its store was found.
-use Rattle.std.proofs.Common.{◌≡◌, ◌≢◌, ◌⊎◌, inl, inr, ℕ, ◌+◌, ◌<◌, ◌≤◌, ◌^◌, Bool, refl, sym, ap, ◌∙◌, subst, arith}
+use Rattle.std.proofs.Common.{inl, inr, ℕ, ◌≤◌, ◌^◌, Bool, arith}
 use Rattle.log_model.specs.declared.name.Name.{Name}
-use Rattle.log_model.specs.declared.name.NameKind.TheVariants as kinds
 use Rattle.log_model.specs.Files.{Files, IsSound, IsFit, IsPresent}
-use Rattle.log_model.specs.Recovered.{RecoversAlike}
 use Rattle.recovery.specs.Alike.{AllAlike}
 use Rattle.disk_images.specs.Crash.{DiskView}
 use Rattle.log_service.specs.Closed.{LeavesFiles}

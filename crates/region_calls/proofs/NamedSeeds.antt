@@ -11,7 +11,7 @@ use Rattle.region_calls.specs.declared.seeds.RegionSeeds.{RegionSeeds}
 use Rattle.region_calls.specs.declared.store.Opened.{Opened}
 use Rattle.region_calls.specs.Bases.{IsBaseOf, AreBasesOf}
 use Rattle.region_calls.specs.Seeds.{AreSeeds, base_of, desk_of, spent_of, book_of, lasts_of, base_at}
-use Rattle.region_calls.specs.Named.{IsNamedSeed, AreNamedSeeds}
+use Rattle.region_calls.specs.Named.{AreNamedSeeds}
 use Rattle.region_calls.specs.Names.{AreTablesOf}
 use Rattle.region_calls.specs.Store.{bases_of}
 

@@ -1,6 +1,6 @@
 -- Passes and seats that are all back.
-use Rattle.std.specs.Prelude.{◌≡◌, ℕ, ◌+◌, ◌-◌, ◌≤◌, Bool, true, List, [], ◌∷◌, ◌++◌, length, map, Contains}
-use Rattle.log_berth.specs.Standing.{Standing, AreBack, Saw}
+use Rattle.std.specs.Prelude.{◌≡◌, ℕ, ◌+◌, ◌≤◌, List, length, map, Contains}
+use Rattle.log_berth.specs.Standing.{Standing, AreBack}
 use Rattle.log_service.specs.declared.seats.LogSeat.{LogSeat}
 use Rattle.log_service.specs.declared.seats.LogSeats.{LogSeats}
 use Rattle.log_service.specs.Places.{Place}
@@ -8,7 +8,6 @@ use Rattle.region_lock.specs.declared.naming.Naming.{Ghosts}
 use Rattle.server_model.specs.Pass.{Pass as ThePass}
 use Rattle.region_calls.specs.declared.pass.Pass.{Pass}
 use Rattle.region_calls.specs.declared.passes.Passes.{Passes}
-use Rattle.region_calls.specs.Passes.{knows}
 use Rattle.region_calls.specs.Deals.{AreSeatsOf, ArePassesOf, passes_out, passes_back}
 
 -- seats of the service at this place, all of which may be back, and room for so many more

@@ -1,5 +1,5 @@
 -- The files on which the log of an opened store is begun.
-use Rattle.std.specs.Prelude.{◌≡◌, ◌≤◌, ℕ}
+use Rattle.std.specs.Prelude.{◌≡◌, ◌≤◌}
 use Rattle.log_model.specs.declared.name.Name.{Name}
 use Rattle.log_model.specs.declared.name.NameKind.TheVariants as kinds
 use Rattle.log_model.specs.Files.{Files, IsPresent}

@@ -1,9 +1,7 @@
 -- What the close of a server hands on.
-use Rattle.std.specs.Prelude.{◌≡◌, ℕ, ◌+◌, ◌<◌, ◌≤◌, ◌^◌, Bool, true, List, Contains, Option, Some, slice_get}
+use Rattle.std.specs.Prelude.{◌≡◌, ℕ, ◌+◌, ◌<◌, ◌≤◌, ◌^◌, true, List, Contains, Option, Some, slice_get}
 use Rattle.atomic_table.specs.Seated.{TableId}
 use Rattle.append_ring.specs.declared.pass.RingPass.{RingPass}
-use Rattle.log_model.specs.Files.{Files, IsFit}
-use Rattle.log_model.specs.Recovered.{IsRecovered, IsContent, IsLast}
 use Rattle.disk_images.specs.Crash.{DiskView, Since}
 use Rattle.region_model.specs.Journal.{Base, IsJournal}
 use Rattle.region_model.specs.Lines.{Line, edits_in, last_in}

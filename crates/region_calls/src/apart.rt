@@ -91,7 +91,8 @@ pub(crate) fn take_all<
     requires room { (room.items ≡ []) × (length regions.items ≤ vec_capacity room) }
     ensures knows { map knows passes.new.items ≡ map knows passes.old.items }
     ensures of { (the : Place) → AllOf the passes.old.items → AllOf the passes.new.items }
-    ensures taken { (k : ℕ) (t : Taken) → slice_get result.items k ≡ Some t → IsTaken N.Naming-3.base N.handlers N.ring (map knows passes.old.items) places.new k t.base t.lines.items }
+    ensures taken { (k : ℕ) (t : Taken) → slice_get result.items k ≡ Some t
+        → IsTaken N.Naming-3.base N.handlers N.ring (map knows passes.old.items) places.new k t.base t.lines.items }
     ensures count { (length result.items ≡ length regions.items) × (length places.new ≡ length regions.items) }
 {
     let mut taken = room;
@@ -130,7 +131,8 @@ pub(crate) fn let_all_go<
     ensures knows { map knows passes.new.items ≡ map knows passes.old.items }
     ensures of { (the : Place) → AllOf the passes.old.items → AllOf the passes.new.items }
     ensures taken { (k : ℕ) → k < length regions.items
-        → (base : TheBase) × (lines : List TheLine) × IsTaken N.Naming-3.base N.handlers N.ring (map knows passes.old.items) places.new k base lines × (slice_index lasts.new k ≡ base.last) }
+        → (base : TheBase) × (lines : List TheLine)
+        × IsTaken N.Naming-3.base N.handlers N.ring (map knows passes.old.items) places.new k base lines × (slice_index lasts.new k ≡ base.last) }
     ensures count { (length places.new ≡ length regions.items) × (length lasts.new ≡ length lasts.old) }
 {
     let mut place: u32 = 0;

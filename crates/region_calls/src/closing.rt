@@ -43,7 +43,8 @@ struct Room {
 
 /// Takes the memory.
 fn make_room(alloc: Global, regions: usize) -> Result<Room, NoMemory>
-    ensures { IfOk result (λ r. (r.taken.items ≡ []) × (regions ≤ vec_capacity r.taken) × (r.regions.items ≡ []) × (regions ≤ vec_capacity r.regions)) }
+    ensures { IfOk result (λ r. (r.taken.items ≡ []) × (regions ≤ vec_capacity r.taken)
+        × (r.regions.items ≡ []) × (regions ≤ vec_capacity r.regions)) }
 {
     let taken = Vec::with_capacity(alloc, regions)?;
     let regions = Vec::with_capacity(alloc, regions)?;
@@ -94,11 +95,14 @@ fn finish<
     room: Room,
 ) -> ClosedServer<D>
     requires back { AllBack server N.handlers passes helpers × AreAll N.handlers (passes_back passes) }
-    requires room { (room.taken.items ≡ []) × (server.regions ≤ vec_capacity room.taken) × (room.regions.items ≡ []) × (server.regions ≤ vec_capacity room.regions) }
+    requires room { (room.taken.items ≡ []) × (server.regions ≤ vec_capacity room.taken)
+        × (room.regions.items ≡ []) × (server.regions ≤ vec_capacity room.regions) }
     ensures numbers { map (λ (x : ClosedRegion). x.region) result.regions.items ≡ range_with_len 1 N.name.regions }
     ensures regions { (x : ClosedRegion) → Contains result.regions.items x → IsClosedRegion N.name x.region (passes_back passes) (region_of x) }
-    ensures survives { IsTrue D.told → (x : ClosedRegion) → Contains result.regions.items x → ∥ Survives (D.view result.disk) result.broken x.region (region_of x) ∥₁ }
-    ensures survived { IsTrue D.told → (x : ClosedRegion) → Contains result.regions.items x → ∥ HasSurvived N.start (D.view result.disk) x.region (region_of x) ∥₁ }
+    ensures survives { IsTrue D.told → (x : ClosedRegion) → Contains result.regions.items x
+        → ∥ Survives (D.view result.disk) result.broken x.region (region_of x) ∥₁ }
+    ensures survived { IsTrue D.told → (x : ClosedRegion) → Contains result.regions.items x
+        → ∥ HasSurvived N.start (D.view result.disk) x.region (region_of x) ∥₁ }
     ensures leaves { IsTrue D.told → ∥ Leaves N.found (D.view result.disk) result.broken N.name.regions ∥₁ }
     ensures seen_broken { (p : ThePass) → Contains (passes_back passes) p → p.broken ≡ true → result.broken ≡ true }
     ensures cause { result.broken ≡ true → Rose N.faults (D.faults result.disk) }
@@ -151,7 +155,8 @@ impl<
 
         ensures numbers { IfOk result (λ c. map (λ (x : ClosedRegion). x.region) c.regions.items ≡ range_with_len 1 N.name.regions) }
         // All that passes know of a region meets in its journal.
-        ensures regions { IfOk result (λ c. (x : ClosedRegion) → Contains c.regions.items x → IsClosedRegion N.name x.region (passes_back passes) (region_of x)) }
+        ensures regions { IfOk result (λ c. (x : ClosedRegion) → Contains c.regions.items x
+            → IsClosedRegion N.name x.region (passes_back passes) (region_of x)) }
         // What a crash from now on may leave of it, and what one since the start could have.
         ensures survives { IsTrue D.told → IfOk result (λ c. (x : ClosedRegion) → Contains c.regions.items x
             → ∥ Survives (D.view c.disk) c.broken x.region (region_of x) ∥₁) }

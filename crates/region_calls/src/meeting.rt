@@ -24,7 +24,8 @@ fn meet_one<N: region_lock::Naming + log_service::Naming + region_versions::Nami
     ensures same { locked.new ≡ locked.old }
     ensures knows { knows pass.new ≡ knows pass.old }
     ensures of { (the : Place) → IsPassOf the pass.old → IsPassOf the pass.new }
-    ensures met { IsTrue result → IsMet locked.old.state.base (edits_in locked.old.state.region locked.old.state.lines) (knows pass.old).handler ((knows pass.old).known (place + 1)) }
+    ensures met { IsTrue result
+        → IsMet locked.old.state.base (edits_in locked.old.state.region locked.old.state.lines) (knows pass.old).handler ((knows pass.old).known (place + 1)) }
 {
     locked.meet(&mut pass.regions[place])
 }

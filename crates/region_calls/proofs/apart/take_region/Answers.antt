@@ -1,10 +1,9 @@
-use Rattle.std.proofs.Common.{◌≡◌, ◌≢◌, ◌⊎◌, inl, inr, ℕ, ◌+◌, ◌-◌, ◌<◌, ◌^◌, List, map, length, Option, Some, None, slice_get, Contains, refl, sym, ap, ◌∙◌, subst, arith, eqb-true}
+use Rattle.std.proofs.Common.{◌≡◌, ℕ, ◌+◌, ◌-◌, ◌<◌, ◌^◌, List, Option, Some, None, slice_get, sym, ap, ◌∙◌, subst, arith, eqb-true}
 use Rattle.append_ring.specs.declared.pass.RingPass.{RingPass}
 use Rattle.region_model.specs.Journal.{Base, IsJournal}
 use Rattle.region_model.specs.Lines.{Line, edits_in, last_in}
 use Rattle.log_service.specs.declared.item.Item.{Item}
 use Rattle.log_service.specs.Closed.{HasPushedEntries}
-use Rattle.server_model.specs.Pass.{Pass as ThePass}
 use Rattle.region_lock.specs.Met.{IsMet}
 use Rattle.region_lock.specs.Parts.{Part, AreOwned, entries_in}
 use Rattle.region_calls.proofs.BackLaws.{get_set_same, get_set_other}

@@ -1,6 +1,5 @@
-use Rattle.std.proofs.Common.{◌≡◌, ℕ, ◌+◌, ◌<◌, ◌≤◌, Bool, true, List, length, map, Option, Some, slice_get, Contains, refl, sym, ap, ◌∙◌, subst, arith}
+use Rattle.std.proofs.Common.{◌≡◌, ℕ, List, length, map, Contains, sym, ap, ◌∙◌, subst, arith}
 use Rattle.std.specs.List.{range_with_len}
-use Rattle.std.proofs.lemmas.List.{length-map}
 use Rattle.std.proofs.Math.Logic.{∥∥₁_map}
 use Rattle.append_ring.specs.declared.pass.RingPass.{RingPass}
 use Rattle.log_service.specs.declared.item.Item.{Item}
@@ -10,7 +9,7 @@ use Rattle.server_model.specs.Closing.{Leaves}
 use Rattle.region_calls.specs.declared.apart.Taken.{Taken}
 use Rattle.region_calls.specs.declared.pass.Pass.{Pass}
 use Rattle.region_calls.specs.Passes.{knows}
-use Rattle.region_calls.specs.Deals.{ArePassesOf, AllOf}
+use Rattle.region_calls.specs.Deals.{ArePassesOf}
 use Rattle.region_calls.proofs.BackLaws.{get_some, all_seen, all_broken}
 use Rattle.region_calls.proofs.TakenLaws.{all_there, numbers_are, made_at, closed_made, survives_made, survived_made}
 use Rattle.region_calls.proofs.LeavesLaws.{leaves_of}

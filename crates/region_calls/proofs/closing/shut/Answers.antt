@@ -1,4 +1,4 @@
-use Rattle.std.proofs.Common.{◌≡◌, ℕ, List, ◌++◌, length, sym, ap, ◌∙◌, subst, arith}
+use Rattle.std.proofs.Common.{◌≡◌, ℕ, List, length, sym, ap, subst, arith}
 use Rattle.log_berth.specs.Standing.{Standing, AllSaw}
 use Rattle.log_service.specs.declared.seats.LogSeat.{LogSeat}
 use Rattle.region_calls.specs.Deals.{AreSeatsOf}

@@ -1,4 +1,4 @@
-use Rattle.std.proofs.Common.{◌≡◌, ℕ, ◌+◌, ◌<◌, ◌≤◌, map, Contains}
+use Rattle.std.proofs.Common.{◌≡◌, ℕ, ◌≤◌, map, Contains}
 use Rattle.server_model.specs.Pass.{Pass as ThePass}
 use Rattle.region_calls.specs.Passes.{knows}
 use Rattle.region_calls.proofs.meeting.are_all.Given as goal

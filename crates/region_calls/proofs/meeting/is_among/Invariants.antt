@@ -1,4 +1,3 @@
-use Rattle.std.proofs.Common.{◌≡◌}
 use Rattle.region_calls.proofs.meeting.is_among.Given as goal
 
 abbrev pub invariant-seeking : goal.invariant-seeking

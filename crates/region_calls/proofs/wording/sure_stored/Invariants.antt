@@ -1,4 +1,4 @@
-use Rattle.std.proofs.Common.{◌≡◌, ℕ, ◌+◌, ◌<◌, ◌≤◌, slice_index}
+use Rattle.std.proofs.Common.{ℕ, ◌+◌, ◌<◌, ◌≤◌, slice_index}
 use Rattle.log_service.specs.Closed.{stored_in}
 use Rattle.region_calls.proofs.wording.sure_stored.Given as goal
 

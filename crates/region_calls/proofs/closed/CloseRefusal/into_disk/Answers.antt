@@ -1,4 +1,4 @@
-use Rattle.std.proofs.Common.{◌≡◌, ℕ, ◌+◌, ◌-◌, ◌<◌, ◌≤◌, Bool, true, List, length, map, Option, Some, slice_get, slice_index, Contains, refl, sym, ap, ◌∙◌, subst, arith}
+use Rattle.std.proofs.Common.{◌≡◌, ℕ, ◌+◌, ◌-◌, ◌<◌, ◌≤◌, true, List, map, slice_index, Contains, sym, ap, ◌∙◌, subst, arith}
 use Rattle.std.proofs.Math.Logic.{∥∥₁_map}
 use Rattle.append_ring.specs.declared.pass.RingPass.{RingPass}
 use Rattle.log_service.specs.declared.item.Item.{Item}
@@ -9,7 +9,7 @@ use Rattle.server_model.specs.Closing.{Region, IsClosedRegion, Survives, Leaves}
 use Rattle.region_calls.specs.declared.pass.Pass.{Pass}
 use Rattle.region_calls.specs.Backs.{AreAll}
 use Rattle.region_calls.specs.Passes.{knows}
-use Rattle.region_calls.specs.Deals.{ArePassesOf, AllOf}
+use Rattle.region_calls.specs.Deals.{ArePassesOf}
 use Rattle.region_calls.proofs.BackLaws.{all_seen}
 use Rattle.region_calls.proofs.TakenLaws.{all_there, left_made, leaves_broken}
 use Rattle.region_calls.proofs.LeavesLaws.{leaves_of}

@@ -1,5 +1,4 @@
-use Rattle.std.proofs.Common.{◌≡◌, ℕ, List, map, Contains, sym, subst, arith}
-use Rattle.server_model.specs.Pass.{Pass as ThePass}
+use Rattle.std.proofs.Common.{List, map, Contains, subst, arith}
 use Rattle.region_calls.specs.declared.pass.Pass.{Pass}
 use Rattle.region_calls.specs.Passes.{knows}
 use Rattle.region_calls.proofs.server.Server.close.Goals as goal

@@ -1,4 +1,4 @@
-use Rattle.std.proofs.Common.{◌≡◌, ℕ, ◌+◌, ◌≤◌, List, length, map, IsTrue, sym, ap, ◌∙◌, subst, arith}
+use Rattle.std.proofs.Common.{ℕ, ◌≤◌, List, length, sym, ap, ◌∙◌, subst, arith}
 use Rattle.log_model.specs.Files.{Files}
 use Rattle.recovery.specs.Alike.{AllAlike}
 use Rattle.log_ledger.specs.History.{History}
@@ -8,7 +8,7 @@ use Rattle.region_replay.specs.Opened.{AtMostOneHigher}
 use Rattle.append_ring.specs.Rules.{base_of as last_before}
 use Rattle.region_calls.specs.Bases.{IsBaseOf}
 use Rattle.region_calls.specs.Cleared.{AreCleared}
-use Rattle.region_calls.specs.Seeds.{base_of, lasts_of}
+use Rattle.region_calls.specs.Seeds.{base_of}
 use Rattle.region_calls.specs.Store.{bases_of, disk_now, disk_found, disk_begun}
 use Rattle.region_calls.proofs.Begun.{len_map}
 use Rattle.region_calls.proofs.NamedSeeds.{named_seeds, base_of_region, last_at_base}
