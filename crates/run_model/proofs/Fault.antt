@@ -287,5 +287,5 @@ its_status = record {
 }
 
 -- so the headline stands
-pub fault_has_its_headline : ∥ IsHeadline script disk disk 5 (report_text (report_of (map history_of (record { region = 1; it = region } ∷ [])) replies 5)) ∥₁
-fault_has_its_headline = headline closed disk 5 refl its_status (λ no_5. absurd (no_5 refl))
+pub fault_has_its_headline : ∥ IsHeadline script none_found disk 5 (report_text (report_of (map history_of (record { region = 1; it = region } ∷ [])) replies 5)) ∥₁
+fault_has_its_headline = headline closed 5 its_status (λ no_5. absurd (no_5 refl))

@@ -56,34 +56,34 @@ module _ {script : Script} {found : Files} {left : DiskView} {name : Naming} {hs
       )
 
   -- the report of these histories and replies is one for which the headline holds
-  headline_kept : (before : DiskView) (status : ℕ) → before.files ≡ found → FitsStatus status (replies_of hs) → (status ≢ 5 → broken ≡ false)
-      → IsHeadline script before left status (report_text (report_of (map history_of xs) (replies_of hs) status))
-  headline_kept before status same fits whole = record {
+  headline_kept : (status : ℕ) → FitsStatus status (replies_of hs) → (status ≢ 5 → broken ≡ false)
+      → IsHeadline script found left status (report_text (report_of (map history_of xs) (replies_of hs) status))
+  headline_kept status fits whole = record {
     histories = map history_of xs;
     replies = replies_of hs;
     is = refl;
     statuses = fits;
-    sound = subst IsSound (sym same) c.sound;
+    sound = c.sound;
     report = record {
       regions = same_regions xs ∙ c.numbers;
       calls = c.calls;
-      last = at_each c (λ h. IsLast before.files h.region h.base.last) (λ x is. subst (λ f. IsLast f x.region x.it.base.last) (sym same) (base_at c x is).last);
-      content = at_each c (λ h. IsContent (IsRecovered before.files h.region) h.base.content) (λ x is. subst (λ f. IsContent (IsRecovered f x.region) x.it.base.content) (sym same) (base_at c x is).content);
+      last = at_each c (λ h. IsLast found h.region h.base.last) (λ x is. (base_at c x is).last);
+      content = at_each c (λ h. IsContent (IsRecovered found h.region) h.base.content) (λ x is. (base_at c x is).content);
     };
     journals = at_each c (IsOneJournal script) (one_journal c);
     lawful = at_each c (λ h. IsLawful h.region h.base h.edits (replies_of hs)) (lawful_at c);
     endures = at_each c (Endures left status (replies_of hs)) (endures status whole);
-    others = λ J r image above. subst (λ f. RecoversAlike f J r) (sym same) (left_so.others J r image above);
-    images_sound = λ low J image. left_so.sound J image (subst (λ f. (name : Name) → IsPresent f name → name.number ≤ 2 ^ 61) same low);
+    others = λ J r image above. left_so.others J r image above;
+    images_sound = λ low J image. left_so.sound J image low;
     done = are_done status whole;
   }
 
 -- A closed server and its handlers' replies give the headline for the report of a status that fits them.
 pub headline : {script : Script} {found : Files} {left : DiskView} {name : Naming} {hs : List Handled} {xs : List ClosedAt} {broken : Bool} → Closed script found left name hs xs broken
-    → (before : DiskView) (status : ℕ) → before.files ≡ found → FitsStatus status (replies_of hs) → (status ≢ 5 → broken ≡ false)
-    → ∥ IsHeadline script before left status (report_text (report_of (map history_of xs) (replies_of hs) status)) ∥₁
-headline {script} {found} {left} {name} {hs} {xs} {broken} c before status same fits whole =
-    ∥∥₁_map₂ (each_in (λ (x : ClosedAt). Survives left broken x.region x.it) xs c.survives) c.leaves (λ kept left_so. headline_kept c kept left_so before status same fits whole)
+    → (status : ℕ) → FitsStatus status (replies_of hs) → (status ≢ 5 → broken ≡ false)
+    → ∥ IsHeadline script found left status (report_text (report_of (map history_of xs) (replies_of hs) status)) ∥₁
+headline {script} {found} {left} {name} {hs} {xs} {broken} c status fits whole =
+    ∥∥₁_map₂ (each_in (λ (x : ClosedAt). Survives left broken x.region x.it) xs c.survives) c.leaves (λ kept left_so. headline_kept c kept left_so status fits whole)
 
 only_puts : {script : Script} {found : Files} {left : DiskView} {name : Naming} {hs : List Handled} {xs : List ClosedAt} {broken : Bool} → Closed script found left name hs xs broken → OnlyPuts (replies_of hs)
 only_puts {script} {found} {left} {name} {hs} {xs} {broken} c x is spent = of_put x.call x.answer (kept_of name script.time hs c.runs x is).2.answers spent
@@ -99,9 +99,9 @@ only_puts {script} {found} {left} {name} {hs} {xs} {broken} c x is spent = of_pu
 
 -- Where a put was answered spent and the log isn't broken, the first one is named.
 pub spent_headline : {script : Script} {found : Files} {left : DiskView} {name : Naming} {hs : List Handled} {xs : List ClosedAt} {broken : Bool} → Closed script found left name hs xs broken
-    → (before : DiskView) → before.files ≡ found → FitsStatus 8 (replies_of hs) → broken ≡ false → (s : Spent) → first_spent (replies_of hs) ≡ Some s
-    → ∥ IsSpentHeadline script before left s (report_text (report_of (map history_of xs) (replies_of hs) 8)) ∥₁
+    → FitsStatus 8 (replies_of hs) → broken ≡ false → (s : Spent) → first_spent (replies_of hs) ≡ Some s
+    → ∥ IsSpentHeadline script found left s (report_text (report_of (map history_of xs) (replies_of hs) 8)) ∥₁
 unfolding headline_kept
-spent_headline {script} {found} {left} {name} {hs} {xs} {broken} c before same fits whole s first =
+spent_headline {script} {found} {left} {name} {hs} {xs} {broken} c fits whole s first =
     ∥∥₁_map₂ (each_in (λ (x : ClosedAt). Survives left broken x.region x.it) xs c.survives) c.leaves
-    (λ kept left_so. (headline_kept c kept left_so before 8 same fits (λ no_5. whole), found_first (replies_of hs) (only_puts c) s first))
+    (λ kept left_so. (headline_kept c kept left_so 8 fits (λ no_5. whole), found_first (replies_of hs) (only_puts c) s first))

@@ -111,22 +111,22 @@ pub record FitsStatus (status : ℕ) (replies : List Reply) : Type 0 where
 
 -- ---- the whole
 
-pub record IsHeadline (script : Script) (found left : DiskView) (status : ℕ) (text : List ℕ) : Type 0 where
+pub record IsHeadline (script : Script) (found : Files) (left : DiskView) (status : ℕ) (text : List ℕ) : Type 0 where
   pub histories : List History
   pub replies : List Reply
   pub is : text ≡ report_text (report_of histories replies status)
   pub statuses : FitsStatus status replies
-  pub sound : IsSound found.files
-  pub report : IsOneReport script found.files histories replies
+  pub sound : IsSound found
+  pub report : IsOneReport script found histories replies
   pub journals : (h : History) → Contains histories h → IsOneJournal script h
   pub lawful : (h : History) → Contains histories h → IsLawful h.region h.base h.edits replies
   pub endures : (h : History) → Contains histories h → Endures left status replies h
-  pub others : (J : Files) (r : ℕ) → IsImageNow left J → script.regions < r → RecoversAlike found.files J r
-  pub images_sound : ((name : Name) → IsPresent found.files name → name.number ≤ 2 ^ 61) → (J : Files) → IsImageNow left J → IsSound J
+  pub others : (J : Files) (r : ℕ) → IsImageNow left J → script.regions < r → RecoversAlike found J r
+  pub images_sound : ((name : Name) → IsPresent found name → name.number ≤ 2 ^ 61) → (J : Files) → IsImageNow left J → IsSound J
   pub done : AreDone left status replies
 
 -- a headline whose status names the first put that was answered spent
-abbrev pub IsSpentHeadline : Script → DiskView → DiskView → Spent → List ℕ → Type 0
+abbrev pub IsSpentHeadline : Script → Files → DiskView → Spent → List ℕ → Type 0
 IsSpentHeadline script found left spent text = (h : IsHeadline script found left 8 text) × IsFirstSpent spent h.replies
 
 -- ---- a run that no memory was found to report
@@ -136,6 +136,10 @@ pub record KeepsIn (found J : Files) : Type 0 where
   pub fit : IsFit J
   pub cells : (r last : ℕ) → 1 ≤ r → IsLast found r last → (v : VersionKey) (p : Payload) → v.number ≤ last
       → (IsRecovered J r v p → IsRecovered found r v p) × (IsRecovered found r v p → IsRecovered J r v p)
+
+-- Each image has the cells that were there before, and no other ones of their numbers.
+abbrev pub AllKeep : Files → DiskView → Type 0
+AllKeep found left = (J : Files) → IsImageNow left J → ∥ KeepsIn found J ∥₁
 
 -- Each image was one before, or has the cells that were there before, and no other ones of their numbers.
 abbrev pub KeepsFound : DiskView → DiskView → Type 0
