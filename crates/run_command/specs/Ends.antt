@@ -57,9 +57,12 @@ abbrev pub report_in : List ClosedRegion → List ReplyLine → ℕ → Report
 report_in regions lines status = record { regions = map region_line regions; replies = lines; status = status }
 
 -- the report was printed, or no memory was found for it
-pub data IsPrinted (rose : Type 0) (status : RunStatus) (old new : List ℕ) (regions : List ClosedRegion) (lines : List ReplyLine) (spent : Option Spent) (broken : Bool) : Type 0 where
-  Printed : status ≡ decided broken spent lines → Prints old new (report_text (report_in regions lines (exit_status status))) (status ≡ ends.SinkFault) → IsPrinted rose status old new regions lines spent broken
-  Cut : status ≡ ends.SinkFault → Prints old new (report_text (report_in regions lines (exit_status (decided broken spent lines)))) (status ≡ ends.SinkFault) → IsPrinted rose status old new regions lines spent broken
+pub data IsPrinted (rose : Type 0) (status : RunStatus) (old new : List ℕ) (regions : List ClosedRegion)
+    (lines : List ReplyLine) (spent : Option Spent) (broken : Bool) : Type 0 where
+  Printed : status ≡ decided broken spent lines
+      → Prints old new (report_text (report_in regions lines (exit_status status))) (status ≡ ends.SinkFault) → IsPrinted rose status old new regions lines spent broken
+  Cut : status ≡ ends.SinkFault
+      → Prints old new (report_text (report_in regions lines (exit_status (decided broken spent lines)))) (status ≡ ends.SinkFault) → IsPrinted rose status old new regions lines spent broken
   Refused : status ≡ ends.Memory → Prints old new refused_memory rose → IsPrinted rose status old new regions lines spent broken
 
 -- the status of an opening that is refused

@@ -34,7 +34,8 @@ pub fn run_parsed<R: Threads + Wait + Sync, D: Disk + Send, K: Sink, G: Gate + S
     gate: &G,
 ) -> Outcome<D>
     requires { IsScript script }
-    ensures ends { IsTrue D.told → IsTrue K.told → EndsRun result.status script (D.view disk) (D.view result.disk) (taken_of (K.taken out.old) (K.taken out.new)) }
+    ensures ends { IsTrue D.told → IsTrue K.told → EndsRun result.status script (D.view disk) (D.view result.disk)
+        (taken_of (K.taken out.old) (K.taken out.new)) }
     ensures moments { IsTrue D.told → GoesOn (D.view disk) (D.view result.disk) }
     ensures disk_cause { result.status ≡ RunStatus.DiskFault → Rose (D.faults disk) (D.faults result.disk) }
     ensures sink_cause { result.status ≡ RunStatus.SinkFault → Rose (K.faults out.old) (K.faults out.new) }

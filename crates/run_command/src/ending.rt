@@ -27,7 +27,8 @@ pub fn print_report<K: Sink>(
     broken: bool,
     out: &mut K,
 ) -> RunStatus
-    ensures printed { IsTrue K.told → IsPrinted (Rose (K.faults out.old) (K.faults out.new)) result (K.taken out.old) (K.taken out.new) regions.items (joined replies.items) spent broken }
+    ensures printed { IsTrue K.told
+        → IsPrinted (Rose (K.faults out.old) (K.faults out.new)) result (K.taken out.old) (K.taken out.new) regions.items (joined replies.items) spent broken }
     ensures broken { result ≡ RunStatus.DiskFault → IsTrue broken }
     ensures cause { result ≡ RunStatus.SinkFault → Rose (K.faults out.old) (K.faults out.new) }
     ensures later { K.faults out.old ≤ K.faults out.new }

@@ -41,7 +41,8 @@ pub fn emit<K: Sink>(sink: &mut K, text: &[u8], status: RunStatus) -> RunStatus
 /// Writes the one line of a command that is refused. Whether it could be written doesn't change the status.
 pub fn refuse<K: Sink>(sink: &mut K, status: RunStatus) -> RunStatus
     ensures status { result ≡ status }
-    ensures prints { IsTrue K.told → (text : List ℕ) → refusal_line status ≡ Some text → Prints (K.taken sink.old) (K.taken sink.new) text (Rose (K.faults sink.old) (K.faults sink.new)) }
+    ensures prints { IsTrue K.told → (text : List ℕ) → refusal_line status ≡ Some text
+        → Prints (K.taken sink.old) (K.taken sink.new) text (Rose (K.faults sink.old) (K.faults sink.new)) }
     ensures later { K.faults sink.old ≤ K.faults sink.new }
 {
     if let Some(refusal) = refusal_of(status) {

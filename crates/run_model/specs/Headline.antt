@@ -76,7 +76,8 @@ pub record AreDone (left : DiskView) (status : ℕ) (replies : List Reply) : Typ
   pub flushes : (reply : Reply) (r n : ℕ) → Contains replies reply → reply.call ≡ Flush r → flushed_of reply.answer ≡ Some n
       → (J : Files) (v : VersionKey) (p : Payload) → IsImageNow left J → IsRecovered J r v p → v.number ≤ n → IsStored J r v p
   pub rolls : AllPairs (λ put roll. (r n : ℕ) → IsRolledBehind r n put roll
-      → (J : Files) (log : Name) (es : List Entry) (e : Entry) → IsImageNow left J → IsLastLog J log → IsLogFile J log es → Contains es e → e.region ≡ r → n < e.number) replies
+      → (J : Files) (log : Name) (es : List Entry) (e : Entry) → IsImageNow left J → IsLastLog J log → IsLogFile J log es
+      → Contains es e → e.region ≡ r → n < e.number) replies
   pub archived : status ≢ 5 → (log : Name) (es : List Entry) → log.kind ≡ kinds.Log → IsLogFile left.files log es → (IsLastLog left.files log → ⊥)
       → (e : Entry) × Contains es e × ((n : ℕ) → IsFlushed left.files e.region n → n < e.number)
 

@@ -22,7 +22,8 @@ abbrev pub lines_of : Handled → List ReplyLine
 lines_of h = map reply_line h.replies
 
 -- the handlers ran and the server was closed, with these replies
-pub record HasClosed (script : Script) (entry : DiskView) (left : DiskView) (name : Naming) (regions : List ClosedRegion) (replies : List (List ReplyLine)) (spent : Option Spent) (broken : Bool) : Type 0 where
+pub record HasClosed (script : Script) (entry : DiskView) (left : DiskView) (name : Naming) (regions : List ClosedRegion)
+    (replies : List (List ReplyLine)) (spent : Option Spent) (broken : Bool) : Type 0 where
   pub handlers : List Handled
   pub closed : Closed script entry.files left name handlers (map closed_at regions) broken
   pub lines : replies ≡ map lines_of handlers
@@ -30,7 +31,8 @@ pub record HasClosed (script : Script) (entry : DiskView) (left : DiskView) (nam
 
 -- how it ends, on a disk that tells what it holds
 abbrev pub IsServed : {D : Type 0} → (D → DiskView) → Script → DiskView → Naming → Served D → Type 0
-IsServed view script entry name (served.Closed disk regions replies spent broken) = HasClosed script entry (view disk) name regions.items replies.items spent broken × GoesOn entry (view disk)
+IsServed view script entry name (served.Closed disk regions replies spent broken) =
+    HasClosed script entry (view disk) name regions.items replies.items spent broken × GoesOn entry (view disk)
 IsServed view script entry name (served.Left disk) = KeepsFound entry (view disk) × GoesOn entry (view disk)
 
 -- the disk is handed back, and a broken log has its cause

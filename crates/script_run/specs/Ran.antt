@@ -19,7 +19,8 @@ pub record IsReady {N : Type 0} {of : Ghosts N} (name : Naming) (h : Handler N o
 
 -- what it is once it has made its calls
 abbrev pub HasRun : {N : Type 0} {of : Ghosts N} → Naming → ℕ → Handler N of → Handler N of → Type 0
-HasRun name time old new = Handles name time (knows old.pass).handler (map call_of old.calls.items) (knows old.pass) (knows new.pass) new.replies.items new.spent
+HasRun name time old new =
+    Handles name time (knows old.pass).handler (map call_of old.calls.items) (knows old.pass) (knows new.pass) new.replies.items new.spent
 
 abbrev pub AreReady : {N : Type 0} {of : Ghosts N} → Naming → List (Handler N of) → Type 0
 AreReady {N} {of} name hs = (i : ℕ) (d : Handler N of) → i < length hs → IsReady name (slice_index_or hs i d)

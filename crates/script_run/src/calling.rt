@@ -28,7 +28,8 @@ pub fn make_call<R: Wait, D: Disk + Send, G: Gate, N: Naming>(
     requires call { MayCall N.name (knows pass.old).handler number (call_of call) }
     requires number { (knows pass.old).calls < number }
     requires time { time < 2 ^ 63 }
-    ensures does { Does N.name time (record { handler = (knows pass.old).handler; call = number }) (call_of call) (answer_of result) (knows pass.old) (knows pass.new) }
+    ensures does { Does N.name time (record { handler = (knows pass.old).handler; call = number }) (call_of call) (answer_of result)
+        (knows pass.old) (knows pass.new) }
 {
     gate.before(rt, pass.handler(), number);
     match call {
