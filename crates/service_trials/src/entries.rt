@@ -1,0 +1,57 @@
+//! Entries that are pushed.
+
+ghost use Rattle.std.specs.Prelude.{◌≡◌, ◌≤◌, ◌<◌, ◌^◌, [], IfSome};
+ghost use Rattle.log_trucks.specs.Held.{held_of};
+ghost use Rattle.log_service.specs.Trucks.{IsSpelled};
+
+use entry_frame::encode_entry;
+use kv_cell::{Batch, Cell};
+use log_trucks::Truck;
+use std::alloc::Global;
+
+/// How many cells an edit has, and how many bytes the value of each.
+#[derive(Clone, Copy)]
+pub(crate) struct Size {
+    pub(crate) cells: usize,
+    pub(crate) value: usize,
+}
+
+pub(crate) const SMALL: Size = Size { cells: 1, value: 1 };
+
+/// Four such edits fit a stage of 4,194,304 bytes, and five don't.
+pub(crate) const LARGE: Size = Size {
+    cells: 15,
+    value: 65_000,
+};
+
+/// Puts of row `r`, column `f:q`, with the edit's number as timestamp.
+fn puts(alloc: Global, number: u64, size: Size) -> Option<Batch> {
+    let value: Vec<u8> = vec![in alloc; b'v'; size.value].ok()?;
+    let mut cells = Vec::new(alloc);
+    for _ in 0..size.cells {
+        let cell = Cell::new(alloc, b"r", b"f", b"q", number, 4, value.as_slice()).ok()?;
+        cells.push(cell).ok()?;
+    }
+    Batch::new(cells).ok()
+}
+
+/// A lone truck with an edit of this region, written at 1000.
+pub(crate) fn truck(alloc: Global, region: u32, number: u64, size: Size) -> Option<Box<Truck>>
+    requires region { (1 ≤ region) × (region ≤ 64) }
+    requires given { 1 ≤ number }
+    requires number { number < 2 ^ 48 }
+    ensures region { IfSome result (λ t. t.value.region ≡ region) }
+    ensures number { IfSome result (λ t. t.value.number ≡ number) }
+    ensures alone { IfSome result (λ t. t.value.behind ≡ []) }
+    ensures spelled { IfSome result (λ t. IsSpelled (held_of t.value)) }
+{
+    let batch = puts(alloc, number, size)?;
+    let bytes = encode_entry(alloc, region, number, 1000, &batch).ok()?;
+    let truck = Truck {
+        region,
+        number,
+        bytes,
+        next: None,
+    };
+    Box::new(alloc, truck).ok()
+}

@@ -1,0 +1,118 @@
+//! A fault of each disk call of a small script, and what a crash leaves then.
+
+ghost use Rattle.std.specs.Prelude.{◌≡◌};
+ghost use Rattle.append_ring.specs.Parts.{last_pushed};
+ghost use Rattle.log_service.specs.Items.{number_of};
+ghost use Rattle.log_service.specs.Places.{IsSeatOf};
+
+use crate::bench::{Ended, TestDisk, run_on_empty};
+use crate::entries::SMALL;
+use crate::image::left_by_crashes;
+use crate::puts::{ask, put};
+use crate::trial::Trial;
+use append_ring::RingPass;
+use disk_fakes::{CallKind, Fail};
+use log_service::{Item, LogSeat, LogService, Naming, Waited};
+use std::alloc::Global;
+use std::sync::Wait;
+use std::test::{Fail as TestFail, *};
+use std::thread::Threads;
+
+/// Three puts of which two are waited for, with a roll and a flush behind them. The last number that a wait called durable.
+pub(crate) fn small_script<N: Naming, R: Wait>(
+    rt: &R,
+    alloc: Global,
+    service: &LogService<TestDisk, N>,
+    pass: &mut RingPass<Item>,
+    seat: &mut LogSeat,
+) -> Option<u64>
+    requires ring { (pass.old.pass.table_id ≡ service.now.ring) × (pass.old.region ≡ 1) }
+    requires regions { service.now.regions ≡ 1 }
+    requires last { last_pushed number_of pass.old ≡ 0 }
+    requires seat { IsSeatOf service.now seat.old }
+    ensures pass { (pass.new.pass.table_id ≡ pass.old.pass.table_id) × (pass.new.region ≡ pass.old.region) }
+    ensures seat { IsSeatOf service.now seat.new }
+{
+    put(rt, alloc, service, pass, 1, SMALL)?;
+    ask(rt, service, pass, 1)?;
+    let first = service.wait_synced(rt, seat, 1, 1);
+    let _rolled = service.roll(rt, alloc, seat);
+    put(rt, alloc, service, pass, 2, SMALL)?;
+    ask(rt, service, pass, 2)?;
+    let second = service.wait_synced(rt, seat, 1, 2);
+    put(rt, alloc, service, pass, 3, SMALL)?;
+    let _flushed = service.flush(rt, alloc, seat, 1, 3);
+    match (first, second) {
+        (Waited::Synced, Waited::Synced) => Some(2),
+        (Waited::Synced, Waited::Broken) => Some(1),
+        (Waited::Broken, _) => Some(0),
+    }
+}
+
+#[test]
+fn whole_script(rt: HostRuntime) -> Result<(), TestFail> {
+    let alloc = rt.alloc();
+    let whole = run_on_empty(&rt, alloc, &[], Trial::Script)?;
+    assert_eq!(rt;
+        (whole.answer, whole.broken, whole.synced),
+        (Some(2), false, 3)
+    );
+    assert_eq!(rt; left_by_crashes(alloc, whole.disk.disk())?, (3, 3));
+    Ok(())
+}
+
+/// Whether what is left is as it has to be: broken exactly where the fault came, no less synced than was waited for, each image with the
+/// first of the three edits, at least those synced, and all where the log isn't broken.
+fn is_right(alloc: Global, left: &Ended, reached: bool) -> Result<bool, TestFail> {
+    let (fewest, most) = left_by_crashes(alloc, left.disk.disk())?;
+    if !left.started {
+        return Ok(reached && most == 0);
+    }
+    let durable = left.answer.unwrap_or(u64::MAX);
+    let whole = left.broken || fewest == 3;
+    Ok(
+        left.broken == reached
+            && durable <= left.synced
+            && left.synced <= fewest
+            && most <= 3
+            && whole,
+    )
+}
+
+/// The script with a fault of this call: whether it makes so many calls of the kind, and whether its end is right.
+fn fails_at<R: Wait + Threads + Sync>(
+    rt: &R,
+    alloc: Global,
+    call: CallKind,
+    nth: u64,
+) -> Result<(bool, bool), TestFail> {
+    let left = run_on_empty(rt, alloc, &[Fail { call, nth }], Trial::Script)?;
+    let reached = left.disk.disk().calls(call) >= nth;
+    Ok((reached, is_right(alloc, &left, reached)?))
+}
+
+const KINDS: [CallKind; 9] = [
+    CallKind::Names,
+    CallKind::Size,
+    CallKind::Read,
+    CallKind::Create,
+    CallKind::WriteAt,
+    CallKind::Sync,
+    CallKind::Rename,
+    CallKind::Remove,
+    CallKind::Settle,
+];
+
+#[test]
+fn fault_of_each_disk_call(rt: HostRuntime) -> Result<(), TestFail> {
+    for call in KINDS {
+        for nth in 1..100u64 {
+            let (reached, right) = fails_at(&rt, rt.alloc(), call, nth)?;
+            assert!(rt; right, "{call:?} {nth}");
+            if !reached {
+                break;
+            }
+        }
+    }
+    Ok(())
+}

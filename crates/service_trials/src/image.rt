@@ -1,0 +1,125 @@
+//! What a crash leaves of region 1, read back.
+
+use disk_fakes::MemDisk;
+use disk_images::{Disk, Name, NameKind};
+use log_file::{LogText, read_log};
+use std::alloc::Global;
+use std::test::Fail as TestFail;
+use store_file::{StoreText, read_store};
+
+/// How many edits a script has at most.
+const MOST: usize = 8;
+
+/// Which of the edits from 1 on the files of an image recover to, and up to which one they are flushed.
+#[derive(Drop)]
+struct Content {
+    edits: [bool; MOST],
+    flushed: u64,
+}
+
+impl Content {
+    /// Takes note of an edit.
+    fn add(&mut self, number: u64) -> Result<(), TestFail> {
+        let place = number.wrapping_sub(1) as usize;
+        match self.edits.get_mut(place) {
+            Some(edit) => *edit = true,
+            None => Err("an edit that was not pushed")?,
+        }
+        Ok(())
+    }
+
+    /// Takes note of what a store file holds, where it is there.
+    fn add_store(&mut self, alloc: Global, disk: &mut MemDisk, name: Name) -> Result<(), TestFail> {
+        let Some(text) = store_text(alloc, disk, name)? else {
+            return Ok(());
+        };
+        self.flushed = self.flushed.max(text.to);
+        for (number, _) in text.cells.as_slice() {
+            self.add(*number)?;
+        }
+        Ok(())
+    }
+
+    /// Takes note of the entries of a log that no store covers.
+    fn add_log(&mut self, alloc: Global, disk: &mut MemDisk, name: Name) -> Result<(), TestFail> {
+        let text = log_text(alloc, disk, name)?;
+        for entry in text.entries.as_slice() {
+            if entry.number > self.flushed {
+                self.add(entry.number)?;
+            }
+        }
+        Ok(())
+    }
+
+    /// How many edits there are, which have to be the first ones.
+    fn count(&self) -> Result<u64, TestFail> {
+        let mut count: u64 = 0;
+        let mut ended = false;
+        for is_there in self.edits.iter() {
+            if *is_there {
+                if ended {
+                    Err("an edit is there without one before it")?
+                }
+                count = count.saturating_add(1);
+            } else {
+                ended = true;
+            }
+        }
+        Ok(count)
+    }
+}
+
+/// What a log that is there holds.
+fn log_text(alloc: Global, disk: &mut MemDisk, name: Name) -> Result<LogText, TestFail> {
+    match disk.bytes(name) {
+        Some(_) => {}
+        None => Err("no such file")?,
+    }
+    Ok(read_log(alloc, disk, name)?)
+}
+
+/// What a store file that is there holds.
+fn store_text(
+    alloc: Global,
+    disk: &mut MemDisk,
+    name: Name,
+) -> Result<Option<StoreText>, TestFail> {
+    match disk.bytes(name) {
+        Some(_) => {}
+        None => Err("no such file")?,
+    }
+    Ok(read_store(alloc, disk, name)?)
+}
+
+/// How many edits the files of an image recover to.
+fn recovered(alloc: Global, disk: &mut MemDisk) -> Result<u64, TestFail> {
+    let names = disk.names(alloc)?;
+    let mut content = Content {
+        edits: [false; MOST],
+        flushed: 0,
+    };
+    for name in names.as_slice() {
+        if name.kind == NameKind::Store {
+            content.add_store(alloc, disk, *name)?;
+        }
+    }
+    for name in names.as_slice() {
+        if name.kind == NameKind::Log {
+            content.add_log(alloc, disk, *name)?;
+        }
+    }
+    content.count()
+}
+
+/// The fewest and the most edits that a crash now leaves.
+pub(crate) fn left_by_crashes(alloc: Global, disk: &MemDisk) -> Result<(u64, u64), TestFail> {
+    let mut fewest = u64::MAX;
+    let mut most = 0;
+    for choice in 0..4 {
+        let mut image = disk.crash(alloc, disk.clock(), choice)?;
+        let count = recovered(alloc, &mut image)?;
+        fewest = fewest.min(count);
+        most = most.max(count);
+    }
+    Ok((fewest, most))
+}
