@@ -1,7 +1,7 @@
 -- What the files hold besides, once a service is closed.
 use Rattle.std.proofs.Common.{◌≡◌, inl, inr, ℕ, ◌+◌, ◌^◌, ◌<◌, ◌≤◌, Bool, true, false, true≢false, List, [], ◌∷◌, ◌++◌, length, take, drop, Contains, Some, refl, sym, ap, ◌∙◌, subst, arith, take-append-drop}
 use Rattle.std.specs.Prelude.{◌↔◌}
-use Rattle.std.proofs.Math.Logic.{∥∥₁_map}
+use Rattle.std.proofs.Math.Logic.{∥∥₁_map, ∥∥₁_map₂}
 use Rattle.std.proofs.lemmas.Bool.{cases_lt}
 use Rattle.std.proofs.lemmas.List.{append-nil}
 use Rattle.std.proofs.lemmas.List.Elements.{Contains-append_left, Contains-append_right, Contains-append_cases}
@@ -18,7 +18,8 @@ use Rattle.recovery.proofs.Rising.{last_is, last_of-append}
 use Rattle.recovery.proofs.Numbers.{one_last}
 use Rattle.recovery.proofs.Likes.{like_recovers, with_both}
 use Rattle.recovery.proofs.Lasts.{like_lasts}
-use Rattle.disk_images.specs.Crash.{DiskView, IsImageNow}
+use Rattle.disk_images.specs.Crash.{DiskView, IsImageNow, Since}
+use Rattle.disk_images.proofs.Moments.{since_weaker}
 use Rattle.disk_images.specs.Calls.{IsTrueDisk}
 use Rattle.log_file.proofs.Committed.{ended_has}
 use Rattle.append_ring.specs.Rules.{base_of}
@@ -30,8 +31,9 @@ use Rattle.log_device.specs.Whole.{IsBroken}
 use Rattle.log_device.proofs.Bearing.{sound_by}
 use Rattle.log_service.specs.Trucks.{FollowFrom}
 use Rattle.log_service.specs.Order.{follow_front}
-use Rattle.log_service.specs.Halves.{BeganWith, AreNumbersUpTo, BearsFew, Stands, Fell}
+use Rattle.log_service.specs.Halves.{BeganWith, AreNumbersUpTo, BearsFew, Stands, Fell, RecoversHeld}
 use Rattle.log_service.specs.Closed.{LeavesFiles}
+use Rattle.log_service.specs.Moments.{OthersSince}
 use Rattle.log_service.proofs.Bounds.{last_low, held_entry, held_few, left_most}
 use Rattle.log_service.proofs.Tied.{bears_now}
 
@@ -86,6 +88,19 @@ module _ {D : Type 0} (found : Files) (first : List ℕ) (few : length first ≤
       alike_with found J more r (h.kept.first r) fit (subst (λ (b : Files). RecoversWith b more J) began.base recovers) (subst (λ (b : Files). LastsWith b more J) began.base lasts_too)
       (subst (λ (b : Files). IsLast b r (h.kept.first r)) began.base (orderly.begun r))
       (λ e has is. let low = held_entry (length first) (base_of first) front es e f held (among e has) in omega (arith, low.0, is, over))
+
+  -- so it was at each moment since a start
+  since_others : BeganWith found first h → IsOrderly h.kept → (start : ℕ) → Since start (RecoversHeld found popped) disk → OthersSince start found (length first) disk
+  since_others began orderly start since =
+      since_weaker start (RecoversHeld found popped) (λ J. (r : ℕ) → length first < r → RecoversAlike found J r) disk
+      (λ J held r over.
+      let m : ℕ = held.recovers.count in
+      alike_with found J (take m held.entries) r (h.kept.first r) held.recovers.fit held.recovers.recovered held.recovers.last (subst (λ (b : Files). IsLast b r (h.kept.first r)) began.base (orderly.begun r))
+      (λ e has is.
+      let in_all = subst (λ (l : List Entry). Contains l e) (take-append-drop m held.entries) (Contains-append_left (take m held.entries) (drop m held.entries) e has) in
+      let low = held_entry (length first) (base_of first) popped held.entries e follow held.held in_all in
+      omega (arith, low.0, is, over)))
+      since
 
   pub whole_leaves : IsTrueDisk disk → Stands found first d disk popped h → LeavesFiles found disk false (length first)
   whole_leaves true_disk s =
@@ -151,9 +166,18 @@ module _ {D : Type 0} (found : Files) (first : List ℕ) (few : length first ≤
             (subst (λ (l : List Entry). Contains l e) (take-append-drop m h.kept.staged) (Contains-append_left (take m h.kept.staged) (drop m h.kept.staged) e new))
       ]
 
--- whether the device is broken or not
+-- ---- whether the device is broken or not
+
 pub either_leaves : {D : Type 0} (found : Files) (first : List ℕ) → length first ≤ 64 → (d : Device D) (disk : DiskView) (popped : List Held) → FollowFrom first popped → IsTrueDisk disk → (broken : Bool) → (broken ≡ true) ↔ IsBroken d
     → ((IsBroken d → ⊥) → ∥ ((h : History) × Stands found first d disk popped h) ∥₁) → (IsBroken d → ∥ ((h : History) × Fell found first d disk popped h) ∥₁) → ∥ LeavesFiles found disk broken (length first) ∥₁
 either_leaves found first few d disk popped follow true_disk true is whole fell = ∥∥₁_map (fell (is.0 refl)) (λ x. fell_leaves found first few d disk popped x.0 follow x.1)
 either_leaves found first few d disk popped follow true_disk false is whole fell =
     ∥∥₁_map (whole (λ broken. true≢false (sym (is.1 broken)))) (λ x. whole_leaves found first few d disk popped x.0 follow true_disk x.1)
+
+pub either_others : {D : Type 0} (found : Files) (first : List ℕ) → length first ≤ 64 → (d : Device D) (disk : DiskView) (popped : List Held) → FollowFrom first popped → (broken : Bool) → (broken ≡ true) ↔ IsBroken d
+    → ((IsBroken d → ⊥) → ∥ ((h : History) × Stands found first d disk popped h) ∥₁) → (IsBroken d → ∥ ((h : History) × Fell found first d disk popped h) ∥₁) → (start : ℕ) → ∥ Since start (RecoversHeld found popped) disk ∥₁
+    → ∥ OthersSince start found (length first) disk ∥₁
+either_others found first few d disk popped follow true is whole fell start since =
+    ∥∥₁_map₂ (fell (is.0 refl)) since (λ x so_far. since_others found first few d disk popped x.0 follow x.1.began x.1.orderly start so_far)
+either_others found first few d disk popped follow false is whole fell start since =
+    ∥∥₁_map₂ (whole (λ broken. true≢false (sym (is.1 broken)))) since (λ x so_far. since_others found first few d disk popped x.0 follow x.1.began x.1.whole.keeps.orderly start so_far)

@@ -9,6 +9,7 @@ pub mod Beginning
 pub mod PushedLaws
 pub mod CloseLaws
 pub mod Tied
+pub mod Elapsed
 pub mod IdlePasses
 pub mod Popped
 pub mod Bounds

@@ -10,7 +10,7 @@ use Rattle.recovery.proofs.Lasts.{like_lasts}
 use Rattle.recovery.proofs.Longer.{from_base}
 use Rattle.disk_images.specs.Crash.{DiskView, Throughout, Since}
 use Rattle.disk_images.specs.Calls.{IsTrueDisk}
-use Rattle.disk_images.proofs.Moments.{since_on, weaker, at_end}
+use Rattle.disk_images.proofs.Moments.{elapses_on, since_on, weaker, at_end}
 use Rattle.log_file.specs.Open.{OpenLog}
 use Rattle.log_trucks.specs.Held.{Held, AreHeld}
 use Rattle.log_ledger.specs.History.{ClosedLog, History, committed_in}
@@ -168,6 +168,7 @@ ties_committed d e v w sound each names few refused breaks = record {
   );
   since = λ base first popped h start s since.
       (let m = each h s.whole in tied_since base first popped d e v w h (tied_of base first d v popped h s) sound m.0 m.1 start since);
+  time = λ base first popped h s. (let m = each h s.whole in (m.0, m.1.time));
 }
 
 -- the numbers that are told stand
@@ -201,6 +202,11 @@ ties_archived d m e v u w sound sound_then each on served_on few moments names a
       let first_part = each h s.whole in
       tied_since base first popped m e u w n.0 n.1 sound_then (length n.0.logs) (then n.0 n.1.whole n.1.idle) start
       (tied_since base first popped d m v u h (tied_of base first d v popped h s) sound first_part.0 first_part.1 start since));
+  time = λ base first popped h s.
+      (let n = next base first popped h s in
+      let first_part = each h s.whole in
+      let second_part = then n.0 n.1.whole n.1.idle in
+      (first_part.0 + length n.0.logs, elapses_on first_part.0 (length n.0.logs) v u w first_part.1.time second_part.time));
 }
   where
     next : (base : Files) (first : List ℕ) (popped : List Held) (h : History) → Stands base first d v popped h → (g : History) × Tied base first m u popped g

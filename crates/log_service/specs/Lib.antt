@@ -5,6 +5,7 @@ pub mod Loads
 pub mod Order
 pub mod Props
 pub mod Numbers
+pub mod Moments
 pub mod Halves
 pub mod Moves
 pub mod Places

@@ -7,6 +7,7 @@ ghost use Rattle.append_ring.specs.Rules.{base_of};
 ghost use Rattle.append_ring.specs.Parts.{EachThere};
 ghost use Rattle.log_berth.specs.Standing.{AreBack, AllSaw};
 ghost use Rattle.log_service.specs.Closed.{CommitsRegion, CommitsSince, LeavesFiles, Pushed};
+ghost use Rattle.log_service.specs.Moments.{GoesOnFrom, OthersSince};
 
 use crate::item::Item;
 use crate::name::Naming;
@@ -49,6 +50,9 @@ impl<D: Disk, N: Naming> LogService<D, N> {
         // So it was at each moment since the start.
         ensures since { IsTrue D.told → (r : ℕ) (c : Content) (pushed : List Entry) → Pushed N.base passes r c pushed
             → ∥ CommitsSince N.start (D.view result.disk) r (base_of N.lasts r) c pushed ∥₁ }
+        // The images of the moments up to the start stay, and at each moment since then each other region recovered as it did.
+        ensures goes_on { IsTrue D.told → ∥ GoesOnFrom N.start N.past (D.view result.disk) ∥₁ }
+        ensures others_since { IsTrue D.told → ∥ OthersSince N.start N.base self.regions (D.view result.disk) ∥₁ }
         ensures leaves { IsTrue D.told → ∥ LeavesFiles N.base (D.view result.disk) result.broken self.regions ∥₁ }
         ensures faults { N.faults ≤ D.faults result.disk }
         ensures cause { result.broken ≡ true → Rose N.faults (D.faults result.disk) }

@@ -10,6 +10,7 @@ ghost use Rattle.log_service.specs.Loads.{all_trucks};
 ghost use Rattle.append_ring.specs.Rules.{base_of};
 ghost use Rattle.log_service.specs.Trucks.{come_to};
 ghost use Rattle.log_service.specs.Halves.{Stands, Fell, RecoversHeld};
+ghost use Rattle.log_service.specs.Moments.{GoesOnFrom};
 
 use crate::load::Load;
 use crate::name::Naming;
@@ -40,6 +41,8 @@ pub struct DeviceHalf<D: Disk, N: Naming> {
         × Fell N.base N.lasts device (D.view (disk_of device)) (all_trucks (view consumer.pass).popped) h) ∥₁ },
     // At each moment since the start each image recovers to the base with a beginning of what was popped.
     ghost since: { IsTrue D.told → ∥ Since N.start (RecoversHeld N.base (all_trucks (view consumer.pass).popped)) (D.view (disk_of device)) ∥₁ },
+    // The images of the moments up to the start are those that were.
+    ghost goes_on: { IsTrue D.told → ∥ GoesOnFrom N.start N.past (D.view (disk_of device)) ∥₁ },
     ghost cause: { ∥ HasCause N.faults (D.faults (disk_of device)) (IsBroken device) ∥₁ },
 }
 

@@ -4,6 +4,7 @@ ghost use Rattle.crossbeam_queue.specs.Passes.{view};
 ghost use Rattle.append_ring.specs.Parts.{IsNew, AreNewAfter};
 ghost use Rattle.log_berth.specs.Words.{starts};
 ghost use Rattle.log_berth.specs.Standing.{fresh};
+ghost use Rattle.log_model.specs.Files.{Files};
 ghost use Rattle.log_ledger.specs.History.{History};
 ghost use Rattle.log_device.specs.Whole.{disk_of, books_of};
 ghost use Rattle.log_service.specs.Begun.{IsFresh, BeginsAs, AreNewParts, AreParts};
@@ -96,6 +97,8 @@ fn second_half<D: Disk, N: Naming>(
     requires device { IsFresh N.lasts device }
     requires whole { IsTrue D.told → ∥ ((h : History) × BeginsAs N.base N.lasts device (D.view (disk_of device)) h) ∥₁ }
     requires start { IsTrue D.told → N.start ≡ (D.view (disk_of device)).clock }
+    requires past { IsTrue D.told → (t : ℕ) (J : Files) → t ≤ N.start
+        → ((D.view (disk_of device)).image t J → N.past t J) × (N.past t J → (D.view (disk_of device)).image t J) }
     requires faults { N.faults ≡ D.faults (disk_of device) }
     ensures { (result.device ≡ device) × (result.regions ≡ regions) }
 {
@@ -126,6 +129,8 @@ impl<D: Disk, N: Naming> LogService<D, N> {
         requires device { IsFresh N.lasts device }
         requires whole { IsTrue D.told → ∥ ((h : History) × BeginsAs N.base N.lasts device (D.view (disk_of device)) h) ∥₁ }
         requires start { IsTrue D.told → N.start ≡ (D.view (disk_of device)).clock }
+        requires past { IsTrue D.told → (t : ℕ) (J : Files) → t ≤ N.start
+            → ((D.view (disk_of device)).image t J → N.past t J) × (N.past t J → (D.view (disk_of device)).image t J) }
         requires faults { N.faults ≡ D.faults (disk_of device) }
 
         ensures service { IfOk result (λ p. (p.service.ring ≡ N.ring) × (p.service.regions ≡ regions) × (p.service.seats ≡ seats)) }

@@ -1,7 +1,7 @@
 -- Regions that were taken apart, with the words of the log that was closed.
 use Rattle.std.proofs.Common.{◌≡◌, ℕ, zero, suc, ◌+◌, ◌-◌, ◌<◌, ◌≤◌, Bool, true, List, [], ◌∷◌, length, map, Option, Some, None, slice_get, slice_index, set, Contains, refl, sym, ap, ◌∙◌, subst, arith}
 use Rattle.std.specs.List.{range_with_len}
-use Rattle.std.proofs.Math.Logic.{∥∥₁_map}
+use Rattle.std.proofs.Math.Logic.{∥∥₁_map, ∥∥₁_map₂}
 use Rattle.log_model.specs.Entry.{Entry}
 use Rattle.atomic_table.specs.Seated.{TableId}
 use Rattle.append_ring.specs.declared.pass.RingPass.{RingPass}
@@ -166,18 +166,20 @@ module _ (bases : ℕ → Base) (handlers : ℕ) (ring : TableId) (passes : List
         let same = first r (omega arith) (omega (arith, m.low)) ∙ ap (λ (b : Base). b.last) (sym m.taken.met.base_is) in
         ∥∥₁_map (since r m.base.content (entries_in r m.xs) pushed) (λ c. as_closed (λ q y. HasSurvived start disk q y) n words m.k m.base m.xs x m.worded (survived_of start disk n r (last_before lasts r) words m.base m.xs m.taken.met.journal same c))
 
-    -- what is left of a region whose stored word is at or above its base's last number, once the log was closed as a broken one is
-    pub left_made : (name : Naming) (disk : DiskView) (broken : Bool) (k : ℕ) (base : Base) (xs : List Line) → name.bases ≡ bases → k < n → IsTaken bases handlers ring passes places k base xs → base.last ≤ stored_in n words (k + 1) → AreAll handlers passes
+    -- what is left of a region whose stored word is at or above its base's last number, once the log was closed as a broken one is, and what was at each moment
+    pub left_made : (name : Naming) (disk : DiskView) (broken : Bool) (start k : ℕ) (base : Base) (xs : List Line) → name.bases ≡ bases → k < n → IsTaken bases handlers ring passes places k base xs → base.last ≤ stored_in n words (k + 1) → AreAll handlers passes
         → ((r : ℕ) → 1 ≤ r → r ≤ n → (p : Pass) → Contains passes p → ((p.known r).synced ≤ synced_in words r) × ((p.known r).stored ≤ stored_in n words r) × ((p.known r).closed ≤ closed_in n words r))
         → ((r : ℕ) (content : Content) (pushed : List Entry) → Pushed begun places r content pushed → ∥ CommitsRegion disk broken n words lasts r content pushed ∥₁)
-        → ∥ ((x : Region) × IsClosedRegion name (k + 1) passes x × Survives disk true (k + 1) x) ∥₁
-    left_made name disk broken k base xs named low t least all seen commits =
+        → ((r : ℕ) (content : Content) (pushed : List Entry) → Pushed begun places r content pushed → ∥ CommitsSince start disk r (last_before lasts r) content pushed ∥₁)
+        → ∥ ((x : Region) × IsClosedRegion name (k + 1) passes x × Survives disk true (k + 1) x × HasSurvived start disk (k + 1) x) ∥₁
+    left_made name disk broken start k base xs named low t least all seen commits since =
         let r = k + 1 in
         let pushed = pushed_at bases handlers ring passes found begun places k base xs t (alike r) (of r (omega arith) (omega (arith, low))) in
         let same = first r (omega arith) (omega (arith, low)) ∙ ap (λ (b : Base). b.last) (sym t.met.base_is) in
         let many : length (entries_in r xs) ≡ length xs = length-map xs (λ (x : Line). (edit_in r x).entry) in
-        ∥∥₁_map (commits r base.content (entries_in r xs) pushed) (λ c. (
+        ∥∥₁_map₂ (commits r base.content (entries_in r xs) pushed) (since r base.content (entries_in r xs) pushed) (λ c past. (
           worded n words r base xs,
           closed_region name handlers n r passes words base xs (subst (λ (b : ℕ → Base). HasMet b handlers passes r base xs) (sym named) t.met) (record { least = least; most = omega (arith, c.bound, same, many) }) all (seen r (omega arith) (omega (arith, low))),
           survives_broken disk broken r (worded n words r base xs) (survives_of disk broken n r (last_before lasts r) words base xs t.met.journal same c),
+          survived_of start disk n r (last_before lasts r) words base xs t.met.journal same past,
         ))

@@ -2,12 +2,15 @@
 use Rattle.std.specs.Prelude.{◌≡◌, ℕ, ◌+◌, ◌<◌, ◌≤◌, ◌^◌, true, List, Contains, Option, Some, slice_get}
 use Rattle.atomic_table.specs.Seated.{TableId}
 use Rattle.append_ring.specs.declared.pass.RingPass.{RingPass}
+use Rattle.log_model.specs.Files.{Files}
+use Rattle.log_model.specs.Recovered.{RecoversAlike}
 use Rattle.disk_images.specs.Crash.{DiskView, Since}
 use Rattle.region_model.specs.Journal.{Base, IsJournal}
 use Rattle.region_model.specs.Lines.{Line, edits_in, last_in}
 use Rattle.region_model.specs.Crash.{Fits}
 use Rattle.log_service.specs.declared.item.Item.{Item}
 use Rattle.log_service.specs.Closed.{HasPushedEntries, synced_in, stored_in, closed_in}
+use Rattle.log_service.specs.Moments.{GoesOnFrom}
 use Rattle.server_model.specs.Pass.{Pass, Naming}
 use Rattle.server_model.specs.Closing.{Region, IsClosedRegion, Survives}
 use Rattle.region_lock.specs.Met.{IsMet}
@@ -43,6 +46,13 @@ pub record IsStoredIn (stored : ℕ) (base : Base) (xs : List Line) : Type 0 whe
 abbrev pub HasSurvived : ℕ → DiskView → ℕ → Region → Type 0
 HasSurvived start disk r x = Since start (λ J. ∥ ((m : ℕ) × Fits J r x.base x.edits m) ∥₁) disk
 
--- of a server that could not be closed: a region has a journal that its passes know and the disk keeps
-abbrev pub IsLeft : Naming → List Pass → DiskView → Type 0
-IsLeft name passes disk = (r : ℕ) → 1 ≤ r → r ≤ name.regions → ∥ ((x : Region) × IsClosedRegion name r passes x × Survives disk true r x) ∥₁
+-- From the start on time went on, and the images of former moments stay; at each moment since then the regions above these recover as they did
+-- when the store was found.
+pub record HasElapsed (start : ℕ) (past : ℕ → Files → Type 0) (found : Files) (regions : ℕ) (disk : DiskView) : Type 0 where
+  pub goes_on : GoesOnFrom start past disk
+  pub others : (t : ℕ) (J : Files) (r : ℕ) → start ≤ t → t ≤ disk.clock → disk.image t J → regions < r → RecoversAlike found J r
+
+-- of a server that could not be closed: a region has a journal that its passes know and the disk keeps, now and at each moment since the start
+abbrev pub IsLeft : Naming → List Pass → ℕ → DiskView → Type 0
+IsLeft name passes start disk = (r : ℕ) → 1 ≤ r → r ≤ name.regions
+    → ∥ ((x : Region) × IsClosedRegion name r passes x × Survives disk true r x × HasSurvived start disk r x) ∥₁

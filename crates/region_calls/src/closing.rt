@@ -9,10 +9,11 @@ ghost use Rattle.log_model.specs.Entry.{Entry};
 ghost use Rattle.disk_images.specs.Calls.{Rose};
 ghost use Rattle.log_berth.specs.Standing.{AllSaw};
 ghost use Rattle.log_service.specs.Closed.{CommitsRegion, CommitsSince, LeavesFiles, Pushed};
+ghost use Rattle.log_service.specs.Moments.{GoesOnFrom, OthersSince};
 ghost use Rattle.server_model.specs.Pass.{Pass as ThePass};
 ghost use Rattle.server_model.specs.Closing.{IsClosedRegion, Survives, Leaves};
 ghost use Rattle.region_calls.specs.Backs.{AllBack, AreAll, AreSeats, device_seats, seats_of};
-ghost use Rattle.region_calls.specs.Closes.{HasSurvived, IsLeft};
+ghost use Rattle.region_calls.specs.Closes.{HasElapsed, HasSurvived, IsLeft};
 ghost use Rattle.region_calls.specs.Deals.{AllOf, AreSeatsOf, passes_back};
 ghost use Rattle.region_calls.specs.Passes.{knows};
 ghost use Rattle.region_calls.specs.Wordings.{region_of};
@@ -70,6 +71,8 @@ fn shut<D: Disk, N: region_lock::Naming + log_service::Naming + region_versions:
         → ∥ CommitsRegion (D.view result.disk) result.broken service.regions result.synced N.lasts r c pushed ∥₁ }
     ensures since { IsTrue D.told → (r : ℕ) (c : Content) (pushed : List Entry) → Pushed N.Naming-2.base places r c pushed
         → ∥ CommitsSince N.start (D.view result.disk) r (base_of N.lasts r) c pushed ∥₁ }
+    ensures goes_on { IsTrue D.told → ∥ GoesOnFrom N.start N.past (D.view result.disk) ∥₁ }
+    ensures others_since { IsTrue D.told → ∥ OthersSince N.start N.Naming-2.base service.regions (D.view result.disk) ∥₁ }
     ensures leaves { IsTrue D.told → ∥ LeavesFiles N.Naming-2.base (D.view result.disk) result.broken service.regions ∥₁ }
     ensures faults { N.faults ≤ D.faults result.disk }
     ensures cause { result.broken ≡ true → Rose N.faults (D.faults result.disk) }
@@ -103,6 +106,7 @@ fn finish<
         → ∥ Survives (D.view result.disk) result.broken x.region (region_of x) ∥₁ }
     ensures survived { IsTrue D.told → (x : ClosedRegion) → Contains result.regions.items x
         → ∥ HasSurvived N.start (D.view result.disk) x.region (region_of x) ∥₁ }
+    ensures elapsed { IsTrue D.told → ∥ HasElapsed N.start N.past N.found N.name.regions (D.view result.disk) ∥₁ }
     ensures leaves { IsTrue D.told → ∥ Leaves N.found (D.view result.disk) result.broken N.name.regions ∥₁ }
     ensures seen_broken { (p : ThePass) → Contains (passes_back passes) p → p.broken ≡ true → result.broken ≡ true }
     ensures cause { result.broken ≡ true → Rose N.faults (D.faults result.disk) }
@@ -162,6 +166,8 @@ impl<
             → ∥ Survives (D.view c.disk) c.broken x.region (region_of x) ∥₁) }
         ensures survived { IsTrue D.told → IfOk result (λ c. (x : ClosedRegion) → Contains c.regions.items x
             → ∥ HasSurvived N.start (D.view c.disk) x.region (region_of x) ∥₁) }
+        // The images of moments up to the start stay, and regions above these recovered alike at each moment since.
+        ensures elapsed { IsTrue D.told → IfOk result (λ c. ∥ HasElapsed N.start N.past N.found N.name.regions (D.view c.disk) ∥₁) }
         ensures leaves { IsTrue D.told → IfOk result (λ c. ∥ Leaves N.found (D.view c.disk) c.broken N.name.regions ∥₁) }
         ensures seen_broken { IfOk result (λ c. (p : ThePass) → Contains (passes_back passes) p → p.broken ≡ true → c.broken ≡ true) }
         ensures cause { IfOk result (λ c. c.broken ≡ true → Rose N.faults (D.faults c.disk)) }
@@ -197,8 +203,10 @@ impl<
     pub fn into_disk<S: Wait>(self, rt: &S) -> D
         requires back { AllBack self.server N.handlers self.passes self.helpers }
 
-        // Each region has a journal in which all that passes know of it meets, and of which a crash leaves a beginning.
-        ensures left { IsTrue D.told → IsLeft N.name (passes_back self.entry.passes) (D.view result) }
+        // Each region has a journal in which all that passes know of it meets, and of which a crash leaves a beginning, and one at any moment
+        // since the start would have.
+        ensures left { IsTrue D.told → IsLeft N.name (passes_back self.entry.passes) N.start (D.view result) }
+        ensures elapsed { IsTrue D.told → ∥ HasElapsed N.start N.past N.found N.name.regions (D.view result) ∥₁ }
         ensures leaves { IsTrue D.told → ∥ Leaves N.found (D.view result) true N.name.regions ∥₁ }
         ensures faults { N.faults ≤ D.faults result }
     {

@@ -1,6 +1,7 @@
 //! How an opened store becomes a server.
 
 ghost use Rattle.std.specs.Prelude.{◌≡◌, ◌≤◌, ◌<◌, ◌+◌, ◌∷◌, [], ℕ, length, replicate, IsTrue, IfOk, IfErr, vec_capacity};
+ghost use Rattle.log_model.specs.Files.{Files};
 ghost use Rattle.append_ring.specs.Parts.{AreNew, AreOut};
 ghost use Rattle.log_service.specs.Places.{Place};
 ghost use Rattle.region_calls.specs.Hands.{AreDeals};
@@ -190,6 +191,8 @@ impl<D: Disk> Opened<D> {
         requires rings { (N.ring ≡ ring_of self) × (N.hand ≡ hand_of self) }
         requires regions { (r : ℕ) → 1 ≤ r → r ≤ regions_of self → AreTablesOf N.desk N.spent N.book N.Naming-4.base self r }
         requires begun { (N.Naming-3.base ≡ (D.view (disk_begun self)).files) × (N.start ≡ (D.view (disk_now self)).clock) × (N.faults ≡ D.faults (disk_now self)) }
+        requires past { (t : ℕ) (J : Files) → t ≤ N.start
+            → ((D.view (disk_now self)).image t J → N.past t J) × (N.past t J → (D.view (disk_now self)).image t J) }
         requires found { (N.found ≡ (D.view (disk_found self)).files) × (N.found_faults ≡ D.faults (disk_found self)) }
 
         ensures server { IfOk result (λ s. (s.server.regions ≡ regions_of self) × (s.server.seats ≡ handlers_of self + 2)) }

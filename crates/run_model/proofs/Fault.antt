@@ -288,4 +288,7 @@ its_status = record {
 
 -- so the headline stands
 pub fault_has_its_headline : ∥ IsHeadline script disk disk 5 (report_text (report_of (map history_of (record { region = 1; it = region } ∷ [])) replies 5)) ∥₁
-fault_has_its_headline = headline closed disk 5 refl its_status (λ no_5. absurd (no_5 refl))
+fault_has_its_headline = headline closed disk 5 refl (λ t J low high image. ∣ inl (subst (λ k. disk.image k J) (same t low high) image) ∣₁) its_status (λ no_5. absurd (no_5 refl))
+  where
+    same : (t : ℕ) → disk.clock ≤ t → t ≤ disk.clock → t ≡ disk.clock
+    same t low high = omega (arith, low, high)

@@ -1,5 +1,5 @@
 -- Close's facts give the headline, though not which beginning of a journal a crash leaves.
-use Rattle.std.proofs.Common.{◌≡◌, ◌≢◌, ℕ, ◌^◌, ◌<◌, ◌≤◌, Bool, true, false, List, [], ◌∷◌, map, Contains, refl, sym, ◌∙◌, subst, arith, inl, inr}
+use Rattle.std.proofs.Common.{◌≡◌, ◌≢◌, ℕ, ◌^◌, ◌<◌, ◌≤◌, ◌⊎◌, Bool, true, false, List, [], ◌∷◌, map, Contains, refl, sym, ◌∙◌, subst, arith, inl, inr}
 use Rattle.cell_model.specs.Cell.{Cell}
 use Rattle.log_model.specs.declared.name.Name.{Name}
 use Rattle.log_model.specs.Entry.{Entry}
@@ -14,11 +14,12 @@ use Rattle.server_model.specs.Pass.{Naming}
 use Rattle.server_model.specs.Closing.{IsClosedRegion, Survives, Leaves, Handled, Pairs, passes_of, replies_of}
 use Rattle.server_model.proofs.JournalLaws.{pairs_all, contains_cons}
 use Rattle.server_model.proofs.RepliesLaw.{survives, flush_was_done, RollCovers, rolls_cover, has_pass, kept_of}
-use Rattle.run_model.specs.Headline.{report_of, IsOneJournal, Endures, AreDone, IsRolledBehind, FitsStatus, IsHeadline}
-use Rattle.run_model.specs.Closed.{ClosedAt, Closed}
+use Rattle.region_model.specs.Crash.{Fits}
+use Rattle.run_model.specs.Headline.{History, report_of, IsOneJournal, Endures, AreDone, IsRolledBehind, FitsStatus, IsHeadline}
+use Rattle.run_model.specs.Closed.{ClosedAt, Closed, FitsThroughout}
 use Rattle.run_model.proofs.FromClose.{history_of, same_regions, at_each, lawful_at, one_journal, on_region, base_at}
 use Rattle.run_model.proofs.Choices.{each_in}
-use Rattle.std.proofs.Math.Logic.{∥∥₁_map₂}
+use Rattle.std.proofs.Math.Logic.{∥∥₁_map, ∥∥₁_map₂}
 use Rattle.region_model.specs.Calls.{Scan, Roll, PutSpent, IsAnswerTo}
 use Rattle.run_model.specs.declared.spent.Spent.{Spent}
 use Rattle.run_model.specs.Spent.{IsSpent, OnlyPuts, first_spent}
@@ -56,9 +57,9 @@ module _ {script : Script} {found : Files} {left : DiskView} {name : Naming} {hs
       )
 
   -- the report of these histories and replies is one for which the headline holds
-  headline_kept : (before : DiskView) (status : ℕ) → before.files ≡ found → FitsStatus status (replies_of hs) → (status ≢ 5 → broken ≡ false)
+  headline_kept : (before : DiskView) (status : ℕ) → before.files ≡ found → FitsThroughout before left xs → FitsStatus status (replies_of hs) → (status ≢ 5 → broken ≡ false)
       → IsHeadline script before left status (report_text (report_of (map history_of xs) (replies_of hs) status))
-  headline_kept before status same fits whole = record {
+  headline_kept before status same moments fits whole = record {
     histories = map history_of xs;
     replies = replies_of hs;
     is = refl;
@@ -76,14 +77,18 @@ module _ {script : Script} {found : Files} {left : DiskView} {name : Naming} {hs
     others = λ J r image above. subst (λ f. RecoversAlike f J r) (sym same) (left_so.others J r image above);
     images_sound = λ low J image. left_so.sound J image (subst (λ f. (name : Name) → IsPresent f name → name.number ≤ 2 ^ 61) same low);
     done = are_done status whole;
+    throughout = λ t J low high image. ∥∥₁_map (moments t J low high image) (λ either. elim either as (λ _. IsImageNow before J ⊎ ((h : History) → Contains (map history_of xs) h → (m : ℕ) × Fits J h.region h.base h.edits m)) [
+      | inl was ↦ inl was
+      | inr each ↦ inr (at_each c (λ h. (m : ℕ) × Fits J h.region h.base h.edits m) each)
+    ]);
   }
 
 -- A closed server and its handlers' replies give the headline for the report of a status that fits them.
 pub headline : {script : Script} {found : Files} {left : DiskView} {name : Naming} {hs : List Handled} {xs : List ClosedAt} {broken : Bool} → Closed script found left name hs xs broken
-    → (before : DiskView) (status : ℕ) → before.files ≡ found → FitsStatus status (replies_of hs) → (status ≢ 5 → broken ≡ false)
+    → (before : DiskView) (status : ℕ) → before.files ≡ found → FitsThroughout before left xs → FitsStatus status (replies_of hs) → (status ≢ 5 → broken ≡ false)
     → ∥ IsHeadline script before left status (report_text (report_of (map history_of xs) (replies_of hs) status)) ∥₁
-headline {script} {found} {left} {name} {hs} {xs} {broken} c before status same fits whole =
-    ∥∥₁_map₂ (each_in (λ (x : ClosedAt). Survives left broken x.region x.it) xs c.survives) c.leaves (λ kept left_so. headline_kept c kept left_so before status same fits whole)
+headline {script} {found} {left} {name} {hs} {xs} {broken} c before status same moments fits whole =
+    ∥∥₁_map₂ (each_in (λ (x : ClosedAt). Survives left broken x.region x.it) xs c.survives) c.leaves (λ kept left_so. headline_kept c kept left_so before status same moments fits whole)
 
 only_puts : {script : Script} {found : Files} {left : DiskView} {name : Naming} {hs : List Handled} {xs : List ClosedAt} {broken : Bool} → Closed script found left name hs xs broken → OnlyPuts (replies_of hs)
 only_puts {script} {found} {left} {name} {hs} {xs} {broken} c x is spent = of_put x.call x.answer (kept_of name script.time hs c.runs x is).2.answers spent
@@ -99,9 +104,9 @@ only_puts {script} {found} {left} {name} {hs} {xs} {broken} c x is spent = of_pu
 
 -- Where a put was answered spent and the log isn't broken, the first one is named.
 pub spent_headline : {script : Script} {found : Files} {left : DiskView} {name : Naming} {hs : List Handled} {xs : List ClosedAt} {broken : Bool} → Closed script found left name hs xs broken
-    → (before : DiskView) → before.files ≡ found → FitsStatus 8 (replies_of hs) → broken ≡ false → (s : Spent) → first_spent (replies_of hs) ≡ Some s
+    → (before : DiskView) → before.files ≡ found → FitsThroughout before left xs → FitsStatus 8 (replies_of hs) → broken ≡ false → (s : Spent) → first_spent (replies_of hs) ≡ Some s
     → ∥ IsSpentHeadline script before left s (report_text (report_of (map history_of xs) (replies_of hs) 8)) ∥₁
 unfolding headline_kept
-spent_headline {script} {found} {left} {name} {hs} {xs} {broken} c before same fits whole s first =
+spent_headline {script} {found} {left} {name} {hs} {xs} {broken} c before same moments fits whole s first =
     ∥∥₁_map₂ (each_in (λ (x : ClosedAt). Survives left broken x.region x.it) xs c.survives) c.leaves
-    (λ kept left_so. (headline_kept c kept left_so before 8 same fits (λ no_5. whole), found_first (replies_of hs) (only_puts c) s first))
+    (λ kept left_so. (headline_kept c kept left_so before 8 same moments fits (λ no_5. whole), found_first (replies_of hs) (only_puts c) s first))

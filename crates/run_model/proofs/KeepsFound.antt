@@ -16,7 +16,7 @@ use Rattle.disk_images.specs.Crash.{DiskView, IsImageNow}
 use Rattle.script_model.specs.Calls.{Script}
 use Rattle.server_model.specs.Pass.{Naming, Pass}
 use Rattle.server_model.specs.Closing.{Region, Handled, passes_of, IsClosedRegion, Survives, Leaves}
-use Rattle.run_model.specs.Headline.{KeepsFound, KeepsIn, IsHalfOpened}
+use Rattle.run_model.specs.Headline.{AllKeep, KeepsFound, KeepsIn, IsHalfOpened}
 use Rattle.run_model.specs.Closed.{IsFound, ClosedAt, Closed}
 use Rattle.std.proofs.Math.Logic.{∥∥₁_map, ∥∥₁_map₂}
 use Rattle.run_model.proofs.FromClose.{region_there}
@@ -96,16 +96,16 @@ standing found left name passes regions broken some each leaves bases J image = 
         (x.0.base, x.0.edits, i.0, x.1.journal.numbers, i.1, subst (IsFound found r) (sym x.1.base) (bases r low high))
 
 -- where no memory was found to close it
-pub left_keeps : (found : DiskView) (left : DiskView) (name : Naming) (passes : List Pass) (regions : ℕ) (broken : Bool) → 1 ≤ regions
-    → ((r : ℕ) → 1 ≤ r → r ≤ regions → ∥ ((x : Region) × IsClosedRegion name r passes x × Survives left broken r x) ∥₁) → ∥ Leaves found.files left broken regions ∥₁
-    → ((r : ℕ) → 1 ≤ r → r ≤ regions → IsFound found.files r (name.bases r)) → KeepsFound found left
+pub left_keeps : (found : Files) (left : DiskView) (name : Naming) (passes : List Pass) (regions : ℕ) (broken : Bool) → 1 ≤ regions
+    → ((r : ℕ) → 1 ≤ r → r ≤ regions → ∥ ((x : Region) × IsClosedRegion name r passes x × Survives left broken r x) ∥₁) → ∥ Leaves found left broken regions ∥₁
+    → ((r : ℕ) → 1 ≤ r → r ≤ regions → IsFound found r (name.bases r)) → AllKeep found left
 left_keeps found left name passes regions broken some each leaves bases J image =
     ∥∥₁_map₂ (each_up_to (λ r. (x : Region) × IsClosedRegion name r passes x × Survives left broken r x) regions each) leaves
-    (λ regions_so left_so. inr (standing found.files left name passes regions broken some regions_so left_so bases J image))
+    (λ regions_so left_so. standing found left name passes regions broken some regions_so left_so bases J image)
 
 -- where it was closed
-pub closed_keeps : {script : Script} (found left : DiskView) {name : Naming} {hs : List Handled} {xs : List ClosedAt} {broken : Bool} → Closed script found.files left name hs xs broken
-    → KeepsFound found left
+pub closed_keeps : {script : Script} (found : Files) (left : DiskView) {name : Naming} {hs : List Handled} {xs : List ClosedAt} {broken : Bool} → Closed script found left name hs xs broken
+    → AllKeep found left
 closed_keeps {script} found left {name} {hs} {xs} {broken} c = left_keeps found left name (passes_of hs) script.regions broken c.script_right.some_region at c.leaves c.bases
   where
     at : (r : ℕ) → 1 ≤ r → r ≤ script.regions → ∥ ((x : Region) × IsClosedRegion name r (passes_of hs) x × Survives left broken r x) ∥₁
@@ -113,7 +113,7 @@ closed_keeps {script} found left {name} {hs} {xs} {broken} c = left_keeps found 
         let x = region_there c r low high in
         ∥∥₁_map (c.survives x.0 x.1) (λ kept. (x.0.it, subst (λ k. IsClosedRegion name k (passes_of hs) x.0.it) x.2 (c.regions x.0 x.1), subst (λ k. Survives left broken k x.0.it) x.2 kept))
 
-alike_keeps : (found J : Files) → ((r : ℕ) → RecoversAlike found J r) → KeepsIn found J
+pub alike_keeps : (found J : Files) → ((r : ℕ) → RecoversAlike found J r) → KeepsIn found J
 alike_keeps found J alike = record {
   fit = (alike 1).fit;
   cells = λ r last pos is v p low. (((alike r).content v p).1, ((alike r).content v p).0);
@@ -122,3 +122,7 @@ alike_keeps found J alike = record {
 -- where an opening was left
 pub half_keeps : (found left : DiskView) → IsHalfOpened found left → KeepsFound found left
 half_keeps found left half J image = ∥∥₁_map (half J image) (λ either. elim either as (λ _. IsImageNow found J ⊎ KeepsIn found.files J) [ inl was ↦ inl was | inr alike ↦ inr (alike_keeps found.files J alike) ])
+
+-- what is kept in each image is kept
+pub all_keep : (found left : DiskView) → AllKeep found.files left → KeepsFound found left
+all_keep found left all J image = ∥∥₁_map (all J image) (λ kept. inr kept)

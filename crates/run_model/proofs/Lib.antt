@@ -4,6 +4,7 @@ pub mod AskedLaws
 pub mod FromClose
 pub mod Headlines
 pub mod KeepsFound
+pub mod Moments
 pub mod SpentLaws
 pub mod Rows
 pub mod Fault

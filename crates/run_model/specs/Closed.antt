@@ -1,11 +1,12 @@
 -- What a run has once its server is closed.
-use Rattle.std.specs.Prelude.{◌≡◌, ℕ, ◌≤◌, ◌==◌, Bool, true, false, List, filter, map, Contains}
+use Rattle.std.specs.Prelude.{◌≡◌, ℕ, ◌≤◌, ◌⊎◌, ◌==◌, Bool, true, false, List, filter, map, Contains}
 use Rattle.std.specs.List.{range_with_len}
 use Rattle.log_model.specs.Files.{Files, IsSound}
 use Rattle.log_model.specs.Recovered.{IsRecovered, IsContent, IsLast}
 use Rattle.region_model.specs.Journal.{Base, Caller}
 use Rattle.region_model.specs.Calls.{Call, Put, Scan, Flush, Roll}
-use Rattle.disk_images.specs.Crash.{DiskView}
+use Rattle.region_model.specs.Crash.{Fits}
+use Rattle.disk_images.specs.Crash.{DiskView, IsImageNow}
 use Rattle.script_model.specs.Calls.{Script, Asked, asked, asked_by, IsScript}
 use Rattle.server_model.specs.Pass.{Pass, Naming}
 use Rattle.server_model.specs.Closing.{Region, IsClosedRegion, Survives, Leaves, Handled, AllRun, passes_of, replies_of}
@@ -57,3 +58,9 @@ pub record Closed (script : Script) (found : Files) (left : DiskView) (name : Na
   pub seen_broken : (p : Pass) → Contains (passes_of hs) p → p.broken ≡ true → broken ≡ true
   pub sound : IsSound found
   pub bases : (r : ℕ) → 1 ≤ r → r ≤ script.regions → IsFound found r (name.bases r)
+
+-- At each moment from the one at which the disk was found so, a crash leaves an image of that moment, or of each of these regions the base
+-- with a beginning of its edits.
+abbrev pub FitsThroughout : DiskView → DiskView → List ClosedAt → Type 0
+FitsThroughout found left xs = (t : ℕ) (J : Files) → found.clock ≤ t → t ≤ left.clock → left.image t J
+    → ∥ IsImageNow found J ⊎ ((x : ClosedAt) → Contains xs x → (m : ℕ) × Fits J x.region x.it.base x.it.edits m) ∥₁

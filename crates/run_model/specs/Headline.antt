@@ -14,7 +14,7 @@ use Rattle.region_model.specs.Calls.{Put, Flush, Roll, Answer, PutOk, Scanned, F
 use Rattle.region_model.specs.Lawful.{IsLawful, flushed_of}
 use Rattle.region_model.specs.Crash.{Fits, Receipted}
 use Rattle.script_model.specs.Report.{EditLine, RegionLine, ReplyLine, Report, report_text}
-use Rattle.disk_images.specs.Crash.{DiskView, IsImageNow}
+use Rattle.disk_images.specs.Crash.{DiskView, IsImageNow, Throughout}
 use Rattle.server_model.specs.Steps.{IsRolled, IsFault}
 use Rattle.script_model.specs.Calls.{Script, asked, asked_by}
 use Rattle.run_model.specs.declared.spent.Spent.{Spent}
@@ -124,6 +124,9 @@ pub record IsHeadline (script : Script) (found left : DiskView) (status : ℕ) (
   pub others : (J : Files) (r : ℕ) → IsImageNow left J → script.regions < r → RecoversAlike found.files J r
   pub images_sound : ((name : Name) → IsPresent found.files name → name.number ≤ 2 ^ 61) → (J : Files) → IsImageNow left J → IsSound J
   pub done : AreDone left status replies
+  -- at each moment of the run a crash leaves an image of the disk as found, or of each region the base with a beginning of the edits
+  pub throughout : (t : ℕ) (J : Files) → found.clock ≤ t → t ≤ left.clock → left.image t J
+      → ∥ IsImageNow found J ⊎ ((h : History) → Contains histories h → (m : ℕ) × Fits J h.region h.base h.edits m) ∥₁
 
 -- a headline whose status names the first put that was answered spent
 abbrev pub IsSpentHeadline : Script → DiskView → DiskView → Spent → List ℕ → Type 0
@@ -137,9 +140,21 @@ pub record KeepsIn (found J : Files) : Type 0 where
   pub cells : (r last : ℕ) → 1 ≤ r → IsLast found r last → (v : VersionKey) (p : Payload) → v.number ≤ last
       → (IsRecovered J r v p → IsRecovered found r v p) × (IsRecovered found r v p → IsRecovered J r v p)
 
--- Each image was one before, or has the cells that were there before, and no other ones of their numbers.
+-- Each image has the cells that were there before, and no other ones of their numbers.
+abbrev pub AllKeep : Files → DiskView → Type 0
+AllKeep found left = (J : Files) → IsImageNow left J → ∥ KeepsIn found J ∥₁
+
+-- what a crash may leave of a run: an image of the disk as found, or files with the cells that were found, and no other ones of their numbers
+abbrev pub MayKeep : DiskView → Files → Type 0
+MayKeep found J = ∥ IsImageNow found J ⊎ KeepsIn found.files J ∥₁
+
+-- each image is one of these
 abbrev pub KeepsFound : DiskView → DiskView → Type 0
-KeepsFound found left = (J : Files) → IsImageNow left J → ∥ IsImageNow found J ⊎ KeepsIn found.files J ∥₁
+KeepsFound found left = (J : Files) → IsImageNow left J → MayKeep found J
+
+-- so it is at each moment from the one at which the disk was found so; the images of former moments stay
+abbrev pub KeepsThroughout : DiskView → DiskView → Type 0
+KeepsThroughout found left = ∥ ((moments : ℕ) × Throughout (MayKeep found) moments found left) ∥₁
 
 -- ---- a run whose store could not be opened
 

@@ -2,6 +2,7 @@
 
 ghost use Rattle.std.specs.Prelude.{◌≡◌, ◌<◌, ◌≤◌, ℕ, [], ◌∷◌, length, IsTrue};
 ghost use Rattle.crossbeam_queue.specs.Passes.{view};
+ghost use Rattle.log_model.specs.Files.{Files};
 ghost use Rattle.log_ledger.specs.History.{History};
 ghost use Rattle.log_device.specs.Whole.{disk_of};
 ghost use Rattle.disk_fakes.specs.Views.{view_of, faults_of};
@@ -73,6 +74,8 @@ fn over<N: Naming, R: Wait>(
     requires device { IsFresh N.lasts device }
     requires whole { ∥ ((h : History) × BeginsAs N.base N.lasts device (view_of (disk_of device)) h) ∥₁ }
     requires start { N.start ≡ (view_of (disk_of device)).clock }
+    requires past { (t : ℕ) (J : Files) → t ≤ N.start
+        → ((view_of (disk_of device)).image t J → N.past t J) × (N.past t J → (view_of (disk_of device)).image t J) }
     requires faults { N.faults ≡ faults_of (disk_of device) }
 {
     let Ok(

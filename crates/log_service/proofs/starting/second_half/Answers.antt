@@ -10,6 +10,7 @@ use Rattle.log_service.specs.Trucks.{come_to}
 use Rattle.log_service.specs.Loads.{all_trucks}
 use Rattle.log_service.specs.Halves.{Stands, RecoversHeld}
 use Rattle.log_service.proofs.Beginning.{stands_first, since_first}
+use Rattle.log_service.proofs.Elapsed.{goes_on_first}
 use Rattle.log_service.proofs.starting.second_half.Goals as goal
 
 pub invariant_of-result : goal.invariant_of-result
@@ -31,5 +32,6 @@ invariant_of-result g c =
       fell = λ told broken. absurd (fresh.unbroken broken);
       since = λ told. subst (λ (ts : List Held). ∥ Since g.N.Naming.start (RecoversHeld base ts) v ∥₁) none
           (subst (λ (t : ℕ). ∥ Since t (RecoversHeld base []) v ∥₁) (sym (c.requires.start told)) (∥∥₁_map (c.requires.whole told) (λ b. since_first base lasts d v b.0 b.1)));
+      goes_on = λ told. ∣ goes_on_first g.N.Naming.start g.N.Naming.past v (c.requires.start told) (c.requires.past told) ∣₁;
       cause = ∣ record { later = (let same = c.requires.faults in omega (arith, same)); risen = λ broken. absurd (fresh.unbroken broken) } ∣₁;
     }

@@ -1,6 +1,6 @@
 use Rattle.std.proofs.Common.{◌≡◌, ℕ, List, length, map, Contains, sym, ap, ◌∙◌, subst, arith}
 use Rattle.std.specs.List.{range_with_len}
-use Rattle.std.proofs.Math.Logic.{∥∥₁_map}
+use Rattle.std.proofs.Math.Logic.{∥∥₁_map, ∥∥₁_map₂}
 use Rattle.append_ring.specs.declared.pass.RingPass.{RingPass}
 use Rattle.log_service.specs.declared.item.Item.{Item}
 use Rattle.log_service.specs.Places.{Place}
@@ -8,11 +8,12 @@ use Rattle.server_model.specs.Pass.{Pass as ThePass, Naming}
 use Rattle.server_model.specs.Closing.{Leaves}
 use Rattle.region_calls.specs.declared.apart.Taken.{Taken}
 use Rattle.region_calls.specs.declared.pass.Pass.{Pass}
+use Rattle.region_calls.specs.Closes.{HasElapsed}
 use Rattle.region_calls.specs.Passes.{knows}
 use Rattle.region_calls.specs.Deals.{ArePassesOf}
 use Rattle.region_calls.proofs.BackLaws.{get_some, all_seen, all_broken}
 use Rattle.region_calls.proofs.TakenLaws.{all_there, numbers_are, made_at, closed_made, survives_made, survived_made}
-use Rattle.region_calls.proofs.LeavesLaws.{leaves_of}
+use Rattle.region_calls.proofs.LeavesLaws.{leaves_of, elapsed_of}
 use Rattle.region_calls.proofs.closing.finish.Goals as goal
 
 pub take_all-taken-requires-clause-passes : goal.take_all-taken-requires-clause-passes
@@ -97,6 +98,16 @@ returns-clause-survived g c told x has =
     let made = made_at bases handlers ring passes c.take_all-taken.new.places the.regions words c.take_all-taken.result.items c.word_all-regions.result.items c.as_slice.result.now count c.as_slice.ensures done.taken c.word_all-regions.ensures.each x has in
     survived_made bases handlers ring passes c.take_all-taken.new.places the.regions words g.N.Naming-1.found g.N.Naming-3.base g.N.Naming-3.lasts begun.lasts_are (begun.alike told) (begun.recovered told) g.N.Naming-3.start (g.D.Disk.view c.shut-disk.result.disk) x made
     (c.shut-disk.ensures.since told)
+
+pub returns-clause-elapsed : goal.returns-clause-elapsed
+returns-clause-elapsed g c told =
+    let begun = c.server.invariant.0 in
+    let v = g.D.Disk.view c.shut-disk.result.disk in
+    let start = g.N.Naming-3.start in
+    let count : c.server.inside.service.regions ≡ g.N.Naming-1.name.regions = omega (arith, begun.all, ap (λ (n : Naming). n.regions) begun.named) in
+    ∥∥₁_map₂ (c.shut-disk.ensures.goes_on told) (c.shut-disk.ensures.others_since told) (λ on since.
+    subst (λ (n : ℕ). HasElapsed start g.N.Naming-3.past g.N.Naming-1.found n v) count
+    (elapsed_of start g.N.Naming-3.past g.N.Naming-1.found g.N.Naming-3.base v c.server.inside.service.regions (begun.alike told) on since))
 
 pub returns-clause-leaves : goal.returns-clause-leaves
 returns-clause-leaves g c told =

@@ -11,4 +11,5 @@ ghosts-over g a = record {
   base = (view_of a._found.value).files;
   start = (view_of (disk_of a.device)).clock;
   faults = faults_of (disk_of a.device);
+  past = (view_of (disk_of a.device)).image;
 }

@@ -15,6 +15,7 @@ use Rattle.log_service.proofs.Chains.{come_append}
 use Rattle.log_service.proofs.ItemLaws.{all_with}
 use Rattle.log_service.proofs.Committed.{spelled_entries, follow_within, follow_served, popped_follows, come_at, come_later, told_later, stands_more, falls, since_more, rose_before, on_ok, on_err}
 use Rattle.log_service.proofs.Tied.{few_same}
+use Rattle.log_service.proofs.Elapsed.{goes_on_by}
 use Rattle.log_service.proofs.committer.DeviceHalf.commit_one.Goals as goal
 
 -- nothing was popped
@@ -36,6 +37,7 @@ invariant_of-self g c =
       stands = λ told whole. subst (λ (ts : List Held). ∥ ((h : History) × Stands base lasts s.device v ts h) ∥₁) still (s.stands told whole);
       fell = λ told broken. subst (λ (ts : List Held). ∥ ((h : History) × Fell base lasts s.device v ts h) ∥₁) still (s.fell told broken);
       since = λ told. subst (λ (ts : List Held). ∥ Since g.N.Naming.start (RecoversHeld base ts) v ∥₁) still (s.since told);
+      goes_on = s.goes_on;
       cause = s.cause;
     }
 
@@ -101,6 +103,9 @@ invariant_of-self-2 g c =
           (∥∥₁_elim entries ∥∥₁_prop (λ e.
           ∥∥₁_map₂ (s.stands told c.requires.unbroken) (s.since told) (λ x past.
           since_more base lasts ts load x.0 e.0 e.1 s.device v w start (g.met.D.Disk.is_true (disk_of s.device) told) x.1 (said.any_moment told x.0 e.0 x.1.whole x.1.idle e.1) past)));
+      goes_on = λ told.
+          ∥∥₁_elim entries ∥∥₁_prop (λ e.
+          ∥∥₁_map₂ (s.stands told c.requires.unbroken) (s.goes_on told) (λ x so_far. goes_on_by start g.N.Naming.past 4 v w (said.any_moment told x.0 e.0 x.1.whole x.1.idle e.1).time so_far));
       cause = ∥∥₁_map s.cause (λ k. record {
         later = (let l = k.later in let m = said.cause.later in omega (arith, l, m));
         risen = λ broken. rose_before g.N.Naming.faults (g.D.Disk.faults (disk_of s.device)) (g.D.Disk.faults (disk_of d)) k.later (said.cause.risen (said.broken.1 broken));

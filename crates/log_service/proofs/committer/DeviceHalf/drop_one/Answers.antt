@@ -39,5 +39,6 @@ invariant_of-self g c =
           (∥∥₁_elim (spelled_entries p.more p.spelled) ∥∥₁_prop (λ e.
           ∥∥₁_map₂ (s.fell told c.requires.broken) (s.since told) (λ x past.
           since_weaker start (RecoversHeld base ts) (RecoversHeld base (ts ++ p.more)) v (recovers_more base lasts ts p.more x.0 e.0 e.1) past)));
+      goes_on = s.goes_on;
       cause = s.cause;
     }

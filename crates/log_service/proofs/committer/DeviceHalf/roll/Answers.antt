@@ -5,6 +5,7 @@ use Rattle.log_trucks.specs.Held.{Held}
 use Rattle.log_device.specs.Whole.{disk_of, books_of}
 use Rattle.log_service.specs.Loads.{all_trucks}
 use Rattle.log_service.proofs.Committed.{rose_before, told_none_fell}
+use Rattle.log_service.proofs.Elapsed.{goes_on_by}
 use Rattle.log_service.proofs.committer.DeviceHalf.roll.Goals as goal
 
 pub roll_archived-requires-clause-whole : goal.roll_archived-requires-clause-whole
@@ -29,6 +30,10 @@ invariant_of-self g c =
       stands = λ told whole. ∥∥₁_map (s.stands told c.requires.unbroken) (λ x. (said.ties told).stands base lasts ts x.0 x.1 whole);
       fell = λ told broken. ∥∥₁_map (s.stands told c.requires.unbroken) (λ x. (said.ties told).fell base lasts ts x.0 x.1 s.served broken);
       since = λ told. ∥∥₁_map₂ (s.stands told c.requires.unbroken) (s.since told) (λ x past. (said.ties told).since base lasts ts x.0 g.N.Naming.start x.1 past);
+      goes_on = λ told.
+          ∥∥₁_map₂ (s.stands told c.requires.unbroken) (s.goes_on told) (λ x so_far.
+          let time = (said.ties told).time base lasts ts x.0 x.1 in
+          goes_on_by g.N.Naming.start g.N.Naming.past time.0 (g.D.Disk.view (disk_of s.device)) (g.D.Disk.view (disk_of d)) time.1 so_far);
       cause = ∥∥₁_map s.cause (λ k. record {
         later = (let l = k.later in let m = said.cause.later in omega (arith, l, m));
         risen = λ broken. rose_before g.N.Naming.faults (g.D.Disk.faults (disk_of s.device)) (g.D.Disk.faults (disk_of d)) k.later (said.cause.risen (said.broken.1 broken));

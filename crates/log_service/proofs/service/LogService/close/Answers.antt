@@ -20,9 +20,10 @@ use Rattle.log_service.specs.Loads.{all_trucks}
 use Rattle.log_service.specs.Numbers.{told_numbers}
 use Rattle.log_service.specs.Places.{Place}
 use Rattle.log_service.specs.Closed.{CommitsRegion, CommitsSince, LeavesFiles}
+use Rattle.log_service.specs.Moments.{GoesOnFrom, OthersSince}
 use Rattle.log_berth.proofs.Joined.{no_more-trans}
 use Rattle.log_service.proofs.CloseLaws.{region_commits, region_since}
-use Rattle.log_service.proofs.FilesLeft.{either_leaves}
+use Rattle.log_service.proofs.FilesLeft.{either_leaves, either_others}
 use Rattle.log_service.proofs.Popped.{all_popped, loads_pushed, idle_empty, idle_back, idle_first}
 use Rattle.log_service.proofs.service.LogService.close.Goals as goal
 
@@ -148,6 +149,39 @@ returns-clause-since g c told r content pushed p =
     let disk_is = c.into_disk.ensures ∙ ap disk_of c.into_parts-device.ensures.0 in
     let here = region_since base lasts half.device disk (all_trucks loads) follow half.regions half.all.0 c.broken-broken.result is (half.stands told) (half.fell told) items every c.args.passes there equal r content pushed p g.N.Naming.start (half.since told) in
     subst (λ d. ∥ CommitsSince g.N.Naming.start (g.D.Disk.view d) r (base_of lasts r) content pushed ∥₁) (sym disk_is) here
+
+pub returns-clause-goes_on : goal.returns-clause-goes_on
+returns-clause-goes_on g c told =
+    let half = c.settle_loads.new.committer in
+    subst (λ d. ∥ GoesOnFrom g.N.Naming.start g.N.Naming.past (g.D.Disk.view d) ∥₁) (sym (c.into_disk.ensures ∙ ap disk_of c.into_parts-device.ensures.0)) (half.goes_on told)
+
+pub returns-clause-others_since : goal.returns-clause-others_since
+returns-clause-others_since g c told =
+    let half = c.settle_loads.new.committer in
+    let mover = c.settle_items.new.mover in
+    let lasts : List ℕ = g.N.Naming.lasts in
+    let base = g.N.Naming.base in
+    let disk = g.D.Disk.view (disk_of half.device) in
+    let pass = c.into_passes-items.result.1 in
+    let pass_is = c.into_passes-items.ensures.1 in
+    let region : pass.region ≡ 1 = ap (λ (p : RingPass (List Held)). p.region) pass_is ∙ mover.to.1 in
+    let items : List Item = (view mover.consumer.pass).popped in
+    let loads : List (List Held) = (view half.consumer.pass).popped in
+    let popped : List (List Held) = (view c.into_parts-device.result.1.pass).popped in
+    let popped_is : popped ≡ loads = ap (λ k. (view {T = List Held} {V = Knows (List Held)} k.pass).popped) c.into_parts-device.ensures.1 in
+    let back = subst (EachThere (IsEqual (λ (_ : List Held). 1) popped)) c.put_back.ensures c.close-2.ensures.equal in
+    let equal_loads = idle_first g.N.Naming.hand lasts (IsEqual (λ (_ : List Held). 1) popped) c.into_passes-items.result.2 pass (subst (λ (l : List (Option (RingPass (List Held)))). ∥ AreNewAfter g.N.Naming.hand g.N.Naming.lasts 0 1 l ∥₁) (sym c.into_passes-items.ensures.2) c.settle_items.new.mover.rest.0) region back in
+    let through : loads ≡ (view mover.hand.pass).pushed = loads_pushed pass mover.hand loads popped pass_is region popped_is equal_loads in
+    let moved = c.settle_items.ensures.moved in
+    let every : all_trucks loads ≡ appended items = all_popped (view mover.hand.pass).pushed loads mover.load mover.held items mover.tie moved.load moved.held through in
+    let follow : FollowFrom lasts (all_trucks loads) = subst (FollowFrom lasts) (sym every) mover.follow in
+    let is = subst (λ d. (c.broken-broken.result ≡ true) ↔ IsBroken d) c.into_parts-device.ensures.0 c.broken-broken.ensures in
+    let n_is : half.regions ≡ c.args.self.regions = half.all.0 ∙ (sym c.self.invariant.6 ∙ ap (λ (p : Place). p.regions) c.self.view_is) in
+    let disk_is = c.into_disk.ensures ∙ ap disk_of c.into_parts-device.ensures.0 in
+    let few : length lasts ≤ 64 = (let n = half.all.0 in omega (arith, n, half.all.1)) in
+    let here = either_others base lasts few half.device disk (all_trucks loads) follow c.broken-broken.result is (half.stands told) (half.fell told) g.N.Naming.start (half.since told) in
+    subst (λ (n : ℕ). ∥ OthersSince g.N.Naming.start base n (g.D.Disk.view c.into_disk.result) ∥₁) (sym half.all.0 ∙ n_is)
+    (subst (λ d. ∥ OthersSince g.N.Naming.start base (length lasts) (g.D.Disk.view d) ∥₁) (sym disk_is) here)
 
 pub returns-clause-leaves : goal.returns-clause-leaves
 returns-clause-leaves g c told =

@@ -1,5 +1,5 @@
 use Rattle.std.proofs.Common.{◌≡◌, ℕ, ◌+◌, ◌-◌, ◌<◌, ◌≤◌, true, List, map, slice_index, Contains, sym, ap, ◌∙◌, subst, arith}
-use Rattle.std.proofs.Math.Logic.{∥∥₁_map}
+use Rattle.std.proofs.Math.Logic.{∥∥₁_map, ∥∥₁_map₂}
 use Rattle.append_ring.specs.declared.pass.RingPass.{RingPass}
 use Rattle.log_service.specs.declared.item.Item.{Item}
 use Rattle.log_service.specs.Places.{Place}
@@ -8,11 +8,12 @@ use Rattle.server_model.specs.Pass.{Pass as ThePass, Naming}
 use Rattle.server_model.specs.Closing.{Region, IsClosedRegion, Survives, Leaves}
 use Rattle.region_calls.specs.declared.pass.Pass.{Pass}
 use Rattle.region_calls.specs.Backs.{AreAll}
+use Rattle.region_calls.specs.Closes.{HasSurvived, HasElapsed}
 use Rattle.region_calls.specs.Passes.{knows}
 use Rattle.region_calls.specs.Deals.{ArePassesOf}
 use Rattle.region_calls.proofs.BackLaws.{all_seen}
 use Rattle.region_calls.proofs.TakenLaws.{all_there, left_made, leaves_broken}
-use Rattle.region_calls.proofs.LeavesLaws.{leaves_of}
+use Rattle.region_calls.proofs.LeavesLaws.{leaves_of, elapsed_of}
 use Rattle.region_calls.proofs.closed.CloseRefusal.into_disk.Goals as goal
 
 pub let_all_go-requires-clause-passes : goal.let_all_go-requires-clause-passes
@@ -64,10 +65,20 @@ returns-clause-left g c told r low high =
     λ h few most.
     let x = c.are_all-all.ensures c.sure.ensures h few (omega (arith, most, c.requires.back.of.all)) in
     (x.0, subst (λ (l : List (Pass g.row.N.Denot g.N.Naming-2)). Contains (map knows l) x.0) c.as_slice.ensures.value x.1, x.2) in
-    subst (λ (q : ℕ). ∥ ((x : Region) × IsClosedRegion name q passes x × Survives disk true q x) ∥₁) same
-    (left_made bases handlers ring passes c.let_all_go.new.places the.regions words g.N.Naming-1.found g.N.Naming-3.base g.N.Naming-3.lasts begun.lasts_are (begun.alike told) (begun.recovered told) name disk broken k t.0 t.1
+    subst (λ (q : ℕ). ∥ ((x : Region) × IsClosedRegion name q passes x × Survives disk true q x × HasSurvived g.N.Naming-3.start disk q x) ∥₁) same
+    (left_made bases handlers ring passes c.let_all_go.new.places the.regions words g.N.Naming-1.found g.N.Naming-3.base g.N.Naming-3.lasts begun.lasts_are (begun.alike told) (begun.recovered told) name disk broken g.N.Naming-3.start k t.0 t.1
     (ap (λ (n : Naming). n.bases) begun.named) within t.2 (omega (arith, t.3, sure)) all
-    (λ s few most p is. all_seen the now words broken (done.of the of.back) c.shut-disk.ensures.saw s few most p (subst (λ (l : List ThePass). Contains l p) (sym done.knows) is)) (c.shut-disk.ensures.commits told))
+    (λ s few most p is. all_seen the now words broken (done.of the of.back) c.shut-disk.ensures.saw s few most p (subst (λ (l : List ThePass). Contains l p) (sym done.knows) is)) (c.shut-disk.ensures.commits told) (c.shut-disk.ensures.since told))
+
+pub returns-clause-elapsed : goal.returns-clause-elapsed
+returns-clause-elapsed g c told =
+    let begun = c.server.invariant.0 in
+    let v = g.D.Disk.view c.shut-disk.result.disk in
+    let start = g.N.Naming-3.start in
+    let count : c.server.inside.service.regions ≡ g.N.Naming-1.name.regions = omega (arith, begun.all, ap (λ (n : Naming). n.regions) begun.named) in
+    ∥∥₁_map₂ (c.shut-disk.ensures.goes_on told) (c.shut-disk.ensures.others_since told) (λ on since.
+    subst (λ (n : ℕ). HasElapsed start g.N.Naming-3.past g.N.Naming-1.found n v) count
+    (elapsed_of start g.N.Naming-3.past g.N.Naming-1.found g.N.Naming-3.base v c.server.inside.service.regions (begun.alike told) on since))
 
 pub returns-clause-leaves : goal.returns-clause-leaves
 returns-clause-leaves g c told =
