@@ -1,1 +1,3 @@
+pub mod CrewLaws
 pub mod Empty
+pub mod Sent
