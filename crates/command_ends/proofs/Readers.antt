@@ -45,6 +45,7 @@ ends_refused P ends.Usage script before after had has rose cut may same printed 
 ends_refused P (ends.Script line why) script before after had has rose cut may same printed = absurd may
 ends_refused P ends.SourceFault script before after had has rose cut may same printed = absurd may
 ends_refused P ends.SinkFault script before after had has rose cut may same printed = absurd may
+ends_refused P (ends.NumbersSpent region last) script before after had has rose cut may same printed = absurd may
 ends_refused P (ends.NotEmpty name) script before after had has rose cut may same printed = absurd may
 
 pub ends_printed : (P : List ℕ → Type 0) (status : Status) (text script : List ℕ) (before after : DiskView) (had has : List ℕ) (rose cut : Type 0) → IsPrintEnd status → P text → IsUnchanged before after
@@ -60,6 +61,7 @@ ends_printed P (ends.Damaged damage) text script before after had has rose cut m
 ends_printed P ends.Usage text script before after had has rose cut may is same printed refused = absurd may
 ends_printed P (ends.Script line why) text script before after had has rose cut may is same printed refused = absurd may
 ends_printed P ends.SourceFault text script before after had has rose cut may is same printed refused = absurd may
+ends_printed P (ends.NumbersSpent region last) text script before after had has rose cut may is same printed refused = absurd may
 ends_printed P (ends.NotEmpty name) text script before after had has rose cut may is same printed refused = absurd may
 
 -- a line was printed where there is one, and none where the command was done or its output failed
@@ -75,4 +77,5 @@ lined (ends.Damaged damage) had has cut may printed text is = absurd may
 lined ends.Usage had has cut may printed text is = absurd may
 lined (ends.Script line why) had has cut may printed text is = absurd may
 lined ends.SourceFault had has cut may printed text is = absurd may
+lined (ends.NumbersSpent region last) had has cut may printed text is = absurd may
 lined (ends.NotEmpty name) had has cut may printed text is = absurd may

@@ -30,6 +30,7 @@ EndsAs effects ends.Done rose sank taken = effects.done taken
 EndsAs effects ends.Memory rose sank taken = IsRefused refused_memory sank taken × effects.no_memory
 EndsAs effects ends.DiskFault rose sank taken = effects.failed taken ⊎ (IsRefused refused_disk sank taken × effects.no_disk)
 EndsAs effects ends.SinkFault rose sank taken = IsCutShort effects rose taken
+EndsAs effects (ends.NumbersSpent region last) rose sank taken = ⊥
 EndsAs effects _ rose sank taken = Unit {0}
 
 -- of a command that leaves the disk as it reads, and prints such a text where it is done

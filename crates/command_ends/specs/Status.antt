@@ -21,6 +21,7 @@ exit_status ends.SourceFault = 4
 exit_status ends.DiskFault = 5
 exit_status ends.SinkFault = 6
 exit_status (ends.Damaged damage) = 7
+exit_status (ends.NumbersSpent region last) = 8
 exit_status (ends.NotEmpty name) = 9
 
 -- ---- refusal lines
@@ -37,6 +38,7 @@ refusal_line (ends.Damaged (damages.Two first second region number)) = Some (ref
 refusal_line (ends.NotEmpty name) = Some (refused_store name)
 refusal_line ends.Done = None
 refusal_line ends.SinkFault = None
+refusal_line (ends.NumbersSpent region last) = None
 
 -- Statuses that come with that line alone. Where the disk failed a command may have printed something else.
 abbrev pub IsRefusal : Status → Type 0
@@ -49,6 +51,7 @@ IsRefusal (ends.NotEmpty name) = Unit {0}
 IsRefusal ends.Done = ⊥
 IsRefusal ends.DiskFault = ⊥
 IsRefusal ends.SinkFault = ⊥
+IsRefusal (ends.NumbersSpent region last) = ⊥
 
 -- ---- what comes only where
 

@@ -77,6 +77,6 @@ fn refusal_of(status: Status) -> Option<Refusal>
             number,
         },
         Status::NotEmpty { name } => Refusal::Store { name },
-        Status::Done | Status::SinkFault => return None,
+        Status::Done | Status::SinkFault | Status::NumbersSpent { .. } => return None,
     })
 }

@@ -17,7 +17,10 @@ pub enum Status {
     /// The words are no command's.
     Usage,
     /// This line of the script is the first wrong one; line 0 where the script is too long.
-    Script { line: u64, why: ScriptWhy },
+    Script {
+        line: u64,
+        why: ScriptWhy,
+    },
     /// A read of the script failed.
     SourceFault,
     /// A call of the disk failed.
@@ -26,8 +29,17 @@ pub enum Status {
     SinkFault,
     /// The store as found is damaged: a file is in none of its grammars, or two files disagree.
     Damaged(Damage),
+    /// A put found no sequence id left in its region, and the log is not broken. It is the first one by handler and then call.
+    NumbersSpent {
+        /// Counted from 1.
+        region: u32,
+        /// The region's last sequence id.
+        last: u64,
+    },
     /// The store isn't empty, and the command wants an empty one. The name is the first one there.
-    NotEmpty { name: Name },
+    NotEmpty {
+        name: Name,
+    },
 }
 
 impl Status {
@@ -44,6 +56,7 @@ impl Status {
             Status::DiskFault => 5,
             Status::SinkFault => 6,
             Status::Damaged(_) => 7,
+            Status::NumbersSpent { .. } => 8,
             Status::NotEmpty { .. } => 9,
         }
     }

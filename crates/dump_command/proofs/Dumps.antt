@@ -51,6 +51,7 @@ damage_of (ends.Script line why) P Q h p = tt
 damage_of ends.SourceFault P Q h p = tt
 damage_of ends.DiskFault P Q h p = tt
 damage_of ends.SinkFault P Q h p = tt
+damage_of (ends.NumbersSpent region last) P Q h p = tt
 damage_of (ends.NotEmpty name) P Q h p = tt
 
 pub log_damage : (status : Status) (u : Files) (n : ℕ) → IsDamageOf status (IsLogDamage u (log_name n)) → IsDamageOf status (IsDumpDamage n u)
@@ -90,6 +91,7 @@ log_reported u n name at ends.Usage may damage told (inr other) d = absurd may
 log_reported u n name at (ends.Script line why) may damage told (inr other) d = absurd may
 log_reported u n name at ends.SourceFault may damage told (inr other) d = absurd may
 log_reported u n name at ends.SinkFault may damage told (inr other) d = absurd may
+log_reported u n name at (ends.NumbersSpent region last) may damage told (inr other) d = absurd may
 log_reported u n name at (ends.NotEmpty m) may damage told (inr other) d = absurd may
 
 -- there is no such log, and the old log was looked for

@@ -3,19 +3,23 @@ use Rattle.std.proofs.Common.{◌≡◌, ℕ, List, [], ◌∷◌, Option, Some,
 use Rattle.log_model.specs.declared.name.Name.{Name}
 use Rattle.log_model.specs.declared.damage.Damage.{Damage}
 use Rattle.log_model.specs.declared.damage.Damage.TheVariants as damages
-use Rattle.log_model.specs.Files.{Files}
+use Rattle.log_model.specs.Files.{Files, IsSound}
 use Rattle.log_model.specs.Damage.{IsDamage}
 use Rattle.log_model.proofs.DamageLaws.{sound_undamaged}
-use Rattle.load_run.specs.Words.{Word, To_show, To_dump, To_recover, meaning_of}
+use Rattle.load_run.specs.Words.{Word, To_show, To_dump, To_recover, To_run, meaning_of}
 use Rattle.load_run.specs.declared.words.Word.{Word as CodeWord}
 use Rattle.disk_images.specs.Crash.{DiskView}
 use Rattle.command_ends.specs.Invocation.{AtEachMoment}
 use Rattle.command_ends.specs.LogFiles.{log_name, IsDamagedLog, IsLogDamage}
 use Rattle.dump_command.specs.Dumped.{IsDumped, IsDumpDamage}
-use Rattle.load_run.specs.Top.{MustTell, IsReady, MayLeave}
+use Rattle.load_run.specs.Top.{MustTell, HasRightScript, IsReady, MayLeave, earlier_than_damage, IsCompleteFor}
 use Rattle.command_ends.specs.Status.{IsDamageOf, IsOrEarlier, IsComplete, IsReadingEnd}
 use Rattle.command_ends.specs.declared.status.Status.{Status}
 use Rattle.command_ends.specs.declared.status.Status.TheVariants as ends
+use Rattle.script_model.specs.Script.{script_fault}
+use Rattle.script_model.specs.declared.command.Command.TheVariants.{Run}
+use Rattle.recover_command.specs.Recovered.{AreSized}
+use Rattle.run_command.specs.Ends.{IsRunComplete}
 
 abbrev some_or : {A : Type 0} → A → Option A → A
 some_or a None = a
@@ -32,14 +36,22 @@ words_are x y words first same = sym first ∙ ap (λ (w : CodeWord). Some (mean
 pub moments_of : (words command : Option Word) (script : List ℕ) (v w : DiskView) → words ≡ command → AtEachMoment (MayLeave command script v) v w → AtEachMoment (MayLeave words script v) v w
 moments_of words command script v w is over = subst (λ (o : Option Word). AtEachMoment (MayLeave o script v) v w) (sym is) over
 
+-- damage that was told, for the command that was read
+reported_for : (word x : Word) (status : Status) (damage : Damage) → word ≡ x → IsOrEarlier status (ends.Damaged damage) (earlier_than_damage x)
+    → IsOrEarlier status (ends.Damaged damage) (earlier_than_damage word)
+reported_for word x status damage is told = subst (λ (w : Word). IsOrEarlier status (ends.Damaged damage) (earlier_than_damage w)) (sym is) told
+
+complete_for : (word x : Word) (status : Status) → word ≡ x → IsCompleteFor x status → IsCompleteFor word status
+complete_for word x status is complete = subst (λ (w : Word). IsCompleteFor w status) (sym is) complete
+
 IsReported : Status → Damage → Type 0
 IsReported status damage = IsOrEarlier status (ends.Damaged damage) (ends.DiskFault ∷ [])
 
 pub show_reported : (word : Word) (status : Status) (files : Files) (damage : Damage) → word ≡ To_show → MustTell word files damage
     → ((at : ℕ) → IsDamagedLog files (log_name 1) at → IsOrEarlier status (ends.Damaged (damages.Bytes (log_name 1) at)) (ends.DiskFault ∷ []))
-    → IsOrEarlier status (ends.Damaged damage) (ends.DiskFault ∷ [])
+    → IsOrEarlier status (ends.Damaged damage) (earlier_than_damage word)
 unfolding IsReported
-show_reported word status files damage is damaged told = each damage (subst (λ (w : Word). MustTell w files damage) is damaged)
+show_reported word status files damage is damaged told = reported_for word To_show status damage is (each damage (subst (λ (w : Word). MustTell w files damage) is damaged))
   where
     each : (x : Damage) → IsLogDamage files (log_name 1) x → IsReported status x
     each (damages.Bytes name at) d = subst (λ (n : Name). IsReported status (damages.Bytes n at)) (sym d.0) (told at (subst (λ (n : Name). IsDamagedLog files n at) d.0 d.1))
@@ -47,9 +59,9 @@ show_reported word status files damage is damaged told = each damage (subst (λ 
 
 pub dump_reported : (word : Word) (n : ℕ) (status : Status) (files : Files) (damage : Damage) → word ≡ To_dump n → MustTell word files damage
     → ((name : Name) (at : ℕ) → IsDumped files n name → IsDamagedLog files name at → IsOrEarlier status (ends.Damaged (damages.Bytes name at)) (ends.DiskFault ∷ []))
-    → IsOrEarlier status (ends.Damaged damage) (ends.DiskFault ∷ [])
+    → IsOrEarlier status (ends.Damaged damage) (earlier_than_damage word)
 unfolding IsReported
-dump_reported word n status files damage is damaged told = each damage (subst (λ (w : Word). MustTell w files damage) is damaged)
+dump_reported word n status files damage is damaged told = reported_for word (To_dump n) status damage is (each damage (subst (λ (w : Word). MustTell w files damage) is damaged))
   where
     each : (x : Damage) → IsDumpDamage n files x → IsReported status x
     each (damages.Bytes name at) d = told name at d.0 d.1
@@ -66,6 +78,7 @@ reader_done ends.SourceFault P d k ended damage disk sink sound no_disk no_sink 
 reader_done ends.DiskFault P d k ended damage disk sink sound no_disk no_sink = absurd (no_disk (disk refl))
 reader_done ends.SinkFault P d k ended damage disk sink sound no_disk no_sink = absurd (no_sink (sink refl))
 reader_done (ends.Damaged x) P d k ended damage disk sink sound no_disk no_sink = absurd (sound x damage)
+reader_done (ends.NumbersSpent region last) P d k ended damage disk sink sound no_disk no_sink = absurd ended
 reader_done (ends.NotEmpty name) P d k ended damage disk sink sound no_disk no_sink = absurd ended
 
 sound_log : (files : Files) (name : Name) → ((at : ℕ) → IsDamagedLog files name at → ⊥) → (damage : Damage) → IsLogDamage files name damage → ⊥
@@ -77,17 +90,45 @@ sound_dump files n sound (damages.Two first second region number) damage = damag
 sound_dump files n sound (damages.Bytes name at) damage = sound name at damage.0 damage.1
 
 pub show_complete : (word : Word) (status : Status) (script : List ℕ) (files : Files) (d k : Type 0) → word ≡ To_show → IsReadingEnd status → IsDamageOf status (IsLogDamage files (log_name 1))
-    → (status ≡ ends.DiskFault → d) → (status ≡ ends.SinkFault → k) → IsReady word script files → (d → ⊥) → (k → ⊥) → IsComplete status
+    → (status ≡ ends.DiskFault → d) → (status ≡ ends.SinkFault → k) → IsReady word script files → (d → ⊥) → (k → ⊥) → IsCompleteFor word status
 show_complete word status script files d k is ended damage disk sink ready no_disk no_sink =
-    reader_done status (IsLogDamage files (log_name 1)) d k ended damage disk sink (sound_log files (log_name 1) (subst (λ (w : Word). IsReady w script files) is ready)) no_disk no_sink
+    complete_for word To_show status is
+    (reader_done status (IsLogDamage files (log_name 1)) d k ended damage disk sink (sound_log files (log_name 1) (subst (λ (w : Word). IsReady w script files) is ready)) no_disk no_sink)
 
 pub dump_complete : (word : Word) (n : ℕ) (status : Status) (script : List ℕ) (files : Files) (d k : Type 0) → word ≡ To_dump n → IsReadingEnd status → IsDamageOf status (IsDumpDamage n files)
-    → (status ≡ ends.DiskFault → d) → (status ≡ ends.SinkFault → k) → IsReady word script files → (d → ⊥) → (k → ⊥) → IsComplete status
+    → (status ≡ ends.DiskFault → d) → (status ≡ ends.SinkFault → k) → IsReady word script files → (d → ⊥) → (k → ⊥) → IsCompleteFor word status
 dump_complete word n status script files d k is ended damage disk sink ready no_disk no_sink =
-    reader_done status (IsDumpDamage n files) d k ended damage disk sink (sound_dump files n (subst (λ (w : Word). IsReady w script files) is ready)) no_disk no_sink
+    complete_for word (To_dump n) status is
+    (reader_done status (IsDumpDamage n files) d k ended damage disk sink (sound_dump files n (subst (λ (w : Word). IsReady w script files) is ready)) no_disk no_sink)
 
 pub recover_complete : (word : Word) (status : Status) (script : List ℕ) (files : Files) (d k : Type 0) → word ≡ To_recover → IsReadingEnd status → IsDamageOf status (IsDamage files)
-    → (status ≡ ends.DiskFault → d) → (status ≡ ends.SinkFault → k) → IsReady word script files → (d → ⊥) → (k → ⊥) → IsComplete status
+    → (status ≡ ends.DiskFault → d) → (status ≡ ends.SinkFault → k) → IsReady word script files → (d → ⊥) → (k → ⊥) → IsCompleteFor word status
 recover_complete word status script files d k is ended damage disk sink ready no_disk no_sink =
     let wanted : IsReady To_recover script files = subst (λ (w : Word). IsReady w script files) is ready in
-    reader_done status (IsDamage files) d k ended damage disk sink (λ x told. (sound_undamaged files wanted.1 wanted.0).2 x told) no_disk no_sink
+    complete_for word To_recover status is
+    (reader_done status (IsDamage files) d k ended damage disk sink (λ x told. (sound_undamaged files wanted.1 wanted.0).2 x told) no_disk no_sink)
+
+pub recover_reported : (word : Word) (status : Status) (files : Files) (damage : Damage) → word ≡ To_recover → MustTell word files damage
+    → ((¬ IsSound files) → IsDamage files damage → IsOrEarlier status (ends.Damaged damage) (ends.DiskFault ∷ []))
+    → IsOrEarlier status (ends.Damaged damage) (earlier_than_damage word)
+recover_reported word status files damage is damaged told =
+    let must : MustTell To_recover files damage = subst (λ (w : Word). MustTell w files damage) is damaged in
+    reported_for word To_recover status damage is (told must.0 must.1)
+
+-- ---- run
+
+pub run_reported : (word : Word) (status : Status) (told : Type 0) (script : List ℕ) (files : Files) (damage : Damage) → word ≡ To_run
+    → HasRightScript word told script → MustTell word files damage
+    → (told → script_fault Run script ≡ None → (¬ IsSound files) → IsDamage files damage → IsOrEarlier status (ends.Damaged damage) (ends.SourceFault ∷ ends.DiskFault ∷ []))
+    → IsOrEarlier status (ends.Damaged damage) (earlier_than_damage word)
+run_reported word status told script files damage is right damaged tells =
+    let must : MustTell To_run files damage = subst (λ (w : Word). MustTell w files damage) is damaged in
+    let has : HasRightScript To_run told script = subst (λ (w : Word). HasRightScript w told script) is right in
+    let it : told × (script_fault Run script ≡ None) = has Run refl in
+    reported_for word To_run status damage is (tells it.0 it.1 must.0 must.1)
+
+pub run_complete : (word : Word) (status : Status) (script : List ℕ) (files : Files) → word ≡ To_run → IsReady word script files
+    → (script_fault Run script ≡ None → IsSound files → AreSized files → IsRunComplete status) → IsCompleteFor word status
+run_complete word status script files is ready done =
+    let wanted : IsReady To_run script files = subst (λ (w : Word). IsReady w script files) is ready in
+    complete_for word To_run status is (done wanted.0 wanted.1 wanted.2)

@@ -1,5 +1,5 @@
 -- How a call of the program ends, and what stands then.
-use Rattle.std.specs.Prelude.{◌≡◌, ℕ, List, [], Option, Some, None}
+use Rattle.std.specs.Prelude.{◌≡◌, ℕ, List, [], ◌∷◌, Option, Some, None}
 use Rattle.std.specs.FinMap.{keys}
 use Rattle.log_model.specs.declared.name.Name.{Name}
 use Rattle.log_model.specs.declared.damage.Damage.{Damage}
@@ -9,30 +9,32 @@ use Rattle.disk_images.specs.Crash.{DiskView, IsImageNow}
 use Rattle.script_model.specs.Fields.{Why}
 use Rattle.script_model.specs.Script.{script_fault}
 use Rattle.script_model.specs.declared.command.Command.{Command}
-use Rattle.script_model.specs.declared.command.Command.TheVariants.{Log}
+use Rattle.script_model.specs.declared.command.Command.TheVariants.{Log, Run}
 use Rattle.wal_split.specs.Moments.{WasOrAlike}
 use Rattle.command_ends.specs.Invocation.{Invocation}
-use Rattle.command_ends.specs.Ends.{Effects, EndsAs}
 use Rattle.command_ends.specs.LogFiles.{log_name, IsDamagedLog, IsLogDamage}
-use Rattle.command_ends.specs.Status.{IsRefusal}
+use Rattle.command_ends.specs.Status.{IsRefusal, IsComplete}
 use Rattle.command_ends.specs.declared.status.Status.{Status}
-use Rattle.log_command.specs.Logged.{logs, LogMayLeave}
-use Rattle.show_command.specs.Shown.{shows}
-use Rattle.dump_command.specs.Dumped.{dumps, IsDumped, IsDumpDamage}
-use Rattle.recover_command.specs.Recovered.{recovers, AreSized}
-use Rattle.load_run.specs.Words.{Word, To_log, To_show, To_dump, To_recover}
+use Rattle.command_ends.specs.declared.status.Status.TheVariants as ends
+use Rattle.log_command.specs.Logged.{EndsLog, LogMayLeave}
+use Rattle.show_command.specs.Shown.{EndsShow}
+use Rattle.dump_command.specs.Dumped.{EndsDump, IsDumped, IsDumpDamage}
+use Rattle.recover_command.specs.Recovered.{EndsRecover, AreSized}
+use Rattle.run_model.specs.Headline.{MayKeep}
+use Rattle.run_command.specs.Ends.{RunEnds, IsRunRefusal, LeavesStore, IsRunComplete}
+use Rattle.load_run.specs.Words.{Word, To_log, To_show, To_dump, To_recover, To_run}
 
 -- ---- what a command does
 
-abbrev pub effects_of : Word → Invocation → Effects
-effects_of To_log o = logs o
-effects_of To_show o = shows o
-effects_of (To_dump n) o = dumps n o
-effects_of To_recover o = recovers o
-
--- what stands with each status of a command
+-- What stands with each status of a command. `rose` says that the disk's count of faults did, `sank` that the sink's did.
 abbrev pub Ends : Word → Status → Invocation → Type 0 → Type 0 → Type 0
-Ends word status o rose sank = EndsAs (effects_of word o) status rose sank o.taken
+Ends To_log status o rose sank = EndsLog status o rose sank
+Ends To_show status o rose sank = EndsShow status o rose sank
+Ends (To_dump n) status o rose sank = EndsDump n status o rose sank
+Ends To_recover status o rose sank = EndsRecover status o rose sank
+Ends To_run status o rose sank = RunEnds status o sank
+
+-- ---- the moments of a call
 
 -- what a stop at any moment may leave: a crash image of the disk as found, or what the command says
 abbrev pub MayLeave : Option Word → List ℕ → DiskView → Files → Type 0
@@ -41,16 +43,19 @@ MayLeave (Some To_log) script before J = LogMayLeave script before J
 MayLeave (Some To_show) script before J = IsImageNow before J
 MayLeave (Some (To_dump n)) script before J = IsImageNow before J
 MayLeave (Some To_recover) script before J = WasOrAlike before J
+MayLeave (Some To_run) script before J = MayKeep before J
 
 -- ---- refusals
 
--- Where the status has a refusal line, that line alone is printed. After a fault of the disk `log` may print its replies.
+-- Where the status has a refusal line, that line alone is printed. After a fault of the disk `log` may print its replies,
+-- and `run` its report, which it may also do where memory was refused.
 abbrev pub ComesWithLine : Option Word → Status → Type 0
 ComesWithLine None status = Unit {0}
 ComesWithLine (Some To_log) status = IsRefusal status
 ComesWithLine (Some To_show) status = Unit {0}
 ComesWithLine (Some (To_dump n)) status = Unit {0}
 ComesWithLine (Some To_recover) status = Unit {0}
+ComesWithLine (Some To_run) status = IsRunRefusal status
 
 -- the disk stays as it was
 abbrev pub LeavesDisk : Option Word → Status → Type 0
@@ -59,6 +64,7 @@ LeavesDisk (Some To_log) status = IsRefusal status
 LeavesDisk (Some To_show) status = Unit {0}
 LeavesDisk (Some (To_dump n)) status = Unit {0}
 LeavesDisk (Some To_recover) status = ⊥
+LeavesDisk (Some To_run) status = LeavesStore status
 
 -- ---- which status comes only where
 
@@ -68,6 +74,7 @@ command_of To_log = Some Log
 command_of To_show = None
 command_of (To_dump n) = None
 command_of To_recover = None
+command_of To_run = Some Run
 
 -- these words take no script: those of no command, too
 abbrev pub TakesNoScript : Option Word → Type 0
@@ -78,9 +85,9 @@ TakesNoScript (Some word) = command_of word ≡ None
 abbrev pub IsWrongAt : Word → List ℕ → ℕ → Why → Type 0
 IsWrongAt word script line why = (command : Command) × (command_of word ≡ Some command) × (script_fault command script ≡ Some (line, why))
 
--- a script that is right for the command, where it takes one
-abbrev pub HasRightScript : Word → List ℕ → Type 0
-HasRightScript word script = (command : Command) → command_of word ≡ Some command → script_fault command script ≡ None
+-- A script that is right for the command, where it takes one. `told` says that the source tells its bytes.
+abbrev pub HasRightScript : Word → Type 0 → List ℕ → Type 0
+HasRightScript word told script = (command : Command) → command_of word ≡ Some command → told × (script_fault command script ≡ None)
 
 -- what is damaged for the command, in the files as found
 abbrev pub IsDamageFor : Word → Files → Damage → Type 0
@@ -88,19 +95,35 @@ IsDamageFor To_log files damage = ⊥
 IsDamageFor To_show files damage = IsLogDamage files (log_name 1) damage
 IsDamageFor (To_dump n) files damage = IsDumpDamage n files damage
 IsDamageFor To_recover files damage = IsDamage files damage
+IsDamageFor To_run files damage = IsDamage files damage
 
--- damage that the command must tell: `recover` where the files aren't sound, and then what shows it first
+-- damage that the command must tell: `recover` and `run` where the files aren't sound, and then what shows it first
 abbrev pub MustTell : Word → Files → Damage → Type 0
 MustTell To_log files damage = ⊥
 MustTell To_show files damage = IsLogDamage files (log_name 1) damage
 MustTell (To_dump n) files damage = IsDumpDamage n files damage
 MustTell To_recover files damage = (¬ IsSound files) × IsDamage files damage
+MustTell To_run files damage = (¬ IsSound files) × IsDamage files damage
+
+-- the statuses that are decided before damage
+abbrev pub earlier_than_damage : Word → List Status
+earlier_than_damage To_log = ends.DiskFault ∷ []
+earlier_than_damage To_show = ends.DiskFault ∷ []
+earlier_than_damage (To_dump n) = ends.DiskFault ∷ []
+earlier_than_damage To_recover = ends.DiskFault ∷ []
+earlier_than_damage To_run = ends.SourceFault ∷ ends.DiskFault ∷ []
+
+-- where a put found the numbers of its region spent
+abbrev pub IfSpent : Status → Type 0 → Type 0
+IfSpent (ends.NumbersSpent region last) P = P
+IfSpent _ P = Unit {0}
 
 abbrev pub WantsEmpty : Word → Type 0
 WantsEmpty To_log = Unit {0}
 WantsEmpty To_show = ⊥
 WantsEmpty (To_dump n) = ⊥
 WantsEmpty To_recover = ⊥
+WantsEmpty To_run = ⊥
 
 -- these words are of a command that wants an empty store
 abbrev pub NeedsEmpty : Option Word → Type 0
@@ -115,3 +138,12 @@ IsReady To_log script files = (script_fault Log script ≡ None) × (keys files 
 IsReady To_show script files = (at : ℕ) → IsDamagedLog files (log_name 1) at → ⊥
 IsReady (To_dump n) script files = (name : Name) (at : ℕ) → IsDumped files n name → IsDamagedLog files name at → ⊥
 IsReady To_recover script files = IsSound files × AreSized files
+IsReady To_run script files = (script_fault Run script ≡ None) × IsSound files × AreSized files
+
+-- done, or memory was refused; of `run` also that a put found the numbers spent
+abbrev pub IsCompleteFor : Word → Status → Type 0
+IsCompleteFor To_log status = IsComplete status
+IsCompleteFor To_show status = IsComplete status
+IsCompleteFor (To_dump n) status = IsComplete status
+IsCompleteFor To_recover status = IsComplete status
+IsCompleteFor To_run status = IsRunComplete status

@@ -7,34 +7,35 @@ ghost use Rattle.log_model.specs.declared.damage.Damage.{Damage as TheDamage};
 ghost use Rattle.log_model.specs.Files.{Same};
 ghost use Rattle.disk_images.specs.Calls.{Rose};
 ghost use Rattle.script_model.specs.Fields.{Why};
-ghost use Rattle.load_run.specs.Words.{Word as TheWord, word_of};
+ghost use Rattle.load_run.specs.Words.{Word as TheWord, To_run, word_of};
 ghost use Rattle.command_ends.specs.Invocation.{invocation, IsUnchanged, GoesOn, AtEachMoment};
 ghost use Rattle.command_ends.specs.Prints.{Prints};
-ghost use Rattle.command_ends.specs.Status.{refusal_line, IfDamaged, IfNotEmpty, IsScriptFault, IsScriptAt, IsDamageOf, IsNotEmpty, IsOrEarlier, IsComplete};
-ghost use Rattle.load_run.specs.Top.{Ends, MayLeave, ComesWithLine, LeavesDisk, TakesNoScript, IsWrongAt, IsDamageFor, MustTell, WantsEmpty, NeedsEmpty, HasRightScript, IsReady};
+ghost use Rattle.command_ends.specs.Status.{refusal_line, IfDamaged, IfNotEmpty, IsScriptFault, IsScriptAt, IsDamageOf, IsNotEmpty, IsOrEarlier};
+ghost use Rattle.load_run.specs.Top.{Ends, MayLeave, ComesWithLine, LeavesDisk, TakesNoScript, IsWrongAt, IsDamageFor, MustTell, earlier_than_damage, IfSpent, WantsEmpty, NeedsEmpty, HasRightScript, IsReady, IsCompleteFor};
 
-use crate::gate::Gate;
 use crate::words::{Word, read_words};
 use command_ends::{Outcome, Status, refuse};
 use disk_images::{Disk, Sink, Source};
 use dump_command::dump;
 use log_command::log;
 use recover_command::recover;
+use region_calls::Gate;
+use run_command::run_script;
 use show_command::show;
 use std::alloc::Global;
 use std::sync::Wait;
 use std::thread::Threads;
 
-/// Carries out the command that the words name: `log`, `show`, `dump NUMBER` or `recover`. The source has a script, the sink
-/// takes the output. The gate holds handlers, which these commands don't have.
+/// Carries out the command that the words name: `log`, `show`, `dump NUMBER`, `recover` or `run`. The source has a script, the
+/// sink takes the output. The gate can hold the handlers that `run` has; it changes nothing of what the command says.
 pub fn run<R: Threads + Wait + Sync, D: Disk + Send, S: Source, K: Sink, G: Gate + Sync>(
-    _rt: &R,
+    rt: &R,
     alloc: Global,
     words: &[&str],
     script: &mut S,
     disk: D,
     out: &mut K,
-    _gate: &G,
+    gate: &G,
 ) -> Outcome<D>
     // What stands with each status of a command.
     ensures ends { IsTrue S.told → IsTrue D.told → IsTrue K.told → (word : TheWord) → word_of (map (λ w. w.now) words.now) ≡ Some word
@@ -65,6 +66,7 @@ pub fn run<R: Threads + Wait + Sync, D: Disk + Send, S: Source, K: Sink, G: Gate
         → IsDamageOf result.status (IsDamageFor word (D.view disk).files) }
     ensures not_empty_only { IsTrue D.told → IsNotEmpty result.status (D.view disk).files }
     ensures not_empty_need { IfNotEmpty result.status (NeedsEmpty (word_of (map (λ w. w.now) words.now))) }
+    ensures spent_only { IfSpent result.status (word_of (map (λ w. w.now) words.now) ≡ Some To_run) }
 
     // Which status comes exactly where, unless memory was refused or one that is decided before it came.
     ensures usage { word_of (map (λ w. w.now) words.now) ≡ None → IsOrEarlier result.status Status.Usage [] }
@@ -72,17 +74,18 @@ pub fn run<R: Threads + Wait + Sync, D: Disk + Send, S: Source, K: Sink, G: Gate
         → IsWrongAt word (S.left script.old) line why
         → IsScriptAt result.status line why ⊎ Contains (Status.Memory ∷ Status.SourceFault ∷ []) result.status }
     ensures damage { IsTrue D.told → (word : TheWord) (damage : TheDamage) → word_of (map (λ w. w.now) words.now) ≡ Some word
-        → MustTell word (D.view disk).files damage
-        → IsOrEarlier result.status (Status.Damaged damage) (Status.DiskFault ∷ []) }
-    ensures not_empty { IsTrue S.told → IsTrue D.told → (word : TheWord) (name : Name) (rest : List Name)
-        → word_of (map (λ w. w.now) words.now) ≡ Some word → WantsEmpty word → HasRightScript word (S.left script.old)
+        → HasRightScript word (IsTrue S.told) (S.left script.old) → MustTell word (D.view disk).files damage
+        → IsOrEarlier result.status (Status.Damaged damage) (earlier_than_damage word) }
+    ensures not_empty { IsTrue D.told → (word : TheWord) (name : Name) (rest : List Name)
+        → word_of (map (λ w. w.now) words.now) ≡ Some word → WantsEmpty word → HasRightScript word (IsTrue S.told) (S.left script.old)
         → keys (D.view disk).files ≡ name ∷ rest → IsOrEarlier result.status (Status.NotEmpty name) (Status.SourceFault ∷ Status.DiskFault ∷ []) }
 
-    // With a command, a script and a store as it wants them, and no fault, it is done or memory was refused.
+    // With a command, a script and a store as it wants them, and no fault, it is done or memory was refused, or `run` has
+    // spent a region's numbers.
     ensures complete { IsTrue S.told → IsTrue D.told → (word : TheWord) → word_of (map (λ w. w.now) words.now) ≡ Some word
         → IsReady word (S.left script.old) (D.view disk).files
         → (Rose (S.faults script.old) (S.faults script.new) → ⊥) → (Rose (D.faults disk) (D.faults result.disk) → ⊥)
-        → (Rose (K.faults out.old) (K.faults out.new) → ⊥) → IsComplete result.status }
+        → (Rose (K.faults out.old) (K.faults out.new) → ⊥) → IsCompleteFor word result.status }
 {
     let mut disk = disk;
     match read_words(words) {
@@ -102,6 +105,7 @@ pub fn run<R: Threads + Wait + Sync, D: Disk + Send, S: Source, K: Sink, G: Gate
             status: recover(alloc, &mut disk, out),
             disk,
         },
+        Some(Word::Run) => run_script(rt, alloc, script, disk, out, gate),
         None => Outcome {
             status: refuse(out, Status::Usage),
             disk,

@@ -2,9 +2,8 @@
 #![tactic(auto)]
 
 mod command;
-mod gate;
 mod words;
 
 pub use command::run;
 pub use command_ends::{Damage, Outcome, Status, refuse};
-pub use gate::{FreeGate, Gate};
+pub use region_calls::{FreeGate, Gate};

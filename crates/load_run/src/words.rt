@@ -17,6 +17,8 @@ pub enum Word {
     Dump { number: u64 },
     /// Opens a store, and prints how far each region goes.
     Recover,
+    /// Runs the handlers of a script on a store, and reports.
+    Run,
 }
 
 /// The command that the words name.
@@ -41,6 +43,9 @@ fn read_word(word: &str) -> Option<Word>
     }
     if word == "recover" {
         return Some(Word::Recover);
+    }
+    if word == "run" {
+        return Some(Word::Run);
     }
     None
 }

@@ -43,6 +43,7 @@ pub store_ends : (status : Status) (script had has : List ℕ) (v w : DiskView) 
 store_ends ends.Memory script had has v w cut rose is looks prints = (refused_so had has refused_memory cut (prints refused_memory refl), unchanged v w looks)
 store_ends ends.DiskFault script had has v w cut rose is looks prints =
     inr (refused_so had has refused_disk cut (prints refused_disk refl), record { others = λ m other. (unchanged v w looks).files m; images = λ J now. inl (looks.crash J now) })
+store_ends (ends.NumbersSpent region last) script had has v w cut rose is looks prints = absurd is
 store_ends (ends.NotEmpty name) script had has v w cut rose is looks prints = tt
 store_ends ends.Done script had has v w cut rose is looks prints = absurd is
 store_ends ends.Usage script had has v w cut rose is looks prints = absurd is
@@ -61,6 +62,7 @@ input_ends ends.Usage script had has v cut rose is prints = absurd is
 input_ends ends.DiskFault script had has v cut rose is prints = absurd is
 input_ends ends.SinkFault script had has v cut rose is prints = absurd is
 input_ends (ends.Damaged damage) script had has v cut rose is prints = absurd is
+input_ends (ends.NumbersSpent region last) script had has v cut rose is prints = absurd is
 input_ends (ends.NotEmpty name) script had has v cut rose is prints = absurd is
 
 pub refused_ends : (status s : Status) (script had has : List ℕ) (v w : DiskView) (cut rose : Type 0) → status ≡ s → IsStoreRefusal s → Looks v w
@@ -181,6 +183,7 @@ ends_from ends.Usage script had has u v w late early sank is looks rose h = absu
 ends_from (ends.Script line why) script had has u v w late early sank is looks rose h = absurd is
 ends_from ends.SourceFault script had has u v w late early sank is looks rose h = absurd is
 ends_from (ends.Damaged damage) script had has u v w late early sank is looks rose h = absurd is
+ends_from (ends.NumbersSpent region last) script had has u v w late early sank is looks rose h = absurd is
 ends_from (ends.NotEmpty name) script had has u v w late early sank is looks rose h = absurd is
 
 pub looked_only : (text : List ℕ) (u v : DiskView) → Looks u v → AtEachMoment (LogMayLeave text u) u v

@@ -5,7 +5,7 @@ use Rattle.log_model.specs.Entry.{IsEntry, entry_frame}
 use Rattle.script_model.specs.Calls.{Script as TheScript}
 use Rattle.log_command.specs.Logged.{entries_in}
 use Rattle.command_ends.specs.declared.status.Status.{Status}
-use Rattle.command_ends.specs.declared.status.Status.TheVariants.{Done, Memory, Usage, DiskFault, SinkFault, Damaged, NotEmpty}
+use Rattle.command_ends.specs.declared.status.Status.TheVariants.{Done, Memory, Usage, DiskFault, SinkFault, Damaged, NumbersSpent, NotEmpty}
 
 -- of looking whether the store is empty
 abbrev pub IsStoreRefusal : Status → Type 0
@@ -34,6 +34,7 @@ IsScriptEnd _ = ⊥
 abbrev pub IsLogEnd : Status → Type 0
 IsLogEnd Usage = ⊥
 IsLogEnd (Damaged damage) = ⊥
+IsLogEnd (NumbersSpent region last) = ⊥
 IsLogEnd _ = Unit {0}
 
 -- the frames of a script's puts

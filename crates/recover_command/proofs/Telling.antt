@@ -38,6 +38,7 @@ printed_ends (ends.Damaged damage) text script had has v w rose cut may done aga
 printed_ends ends.Usage text script had has v w rose cut may done again printed refused = absurd may
 printed_ends (ends.Script line why) text script had has v w rose cut may done again printed refused = absurd may
 printed_ends ends.SourceFault text script had has v w rose cut may done again printed refused = absurd may
+printed_ends (ends.NumbersSpent region last) text script had has v w rose cut may done again printed refused = absurd may
 printed_ends (ends.NotEmpty name) text script had has v w rose cut may done again printed refused = absurd may
 
 -- ---- what a refusal says
@@ -78,4 +79,5 @@ print_leaves (ends.Damaged damage) Q may = absurd may
 print_leaves ends.Usage Q may = absurd may
 print_leaves (ends.Script line why) Q may = absurd may
 print_leaves ends.SourceFault Q may = absurd may
+print_leaves (ends.NumbersSpent region last) Q may = absurd may
 print_leaves (ends.NotEmpty name) Q may = absurd may

@@ -1,15 +1,16 @@
 use Rattle.disk_images.specs.Calls.{Rose}
-use Rattle.std.proofs.Common.{Some, inl}
+use Rattle.std.proofs.Common.{Some, inl, IsTrue}
 use Rattle.disk_images.specs.Crash.{IsImageNow}
 use Rattle.wal_split.specs.Moments.{WasOrAlike}
+use Rattle.run_model.specs.Headline.{MayKeep}
 use Rattle.command_ends.proofs.Endings.{time_of}
-use Rattle.load_run.specs.Words.{To_log, To_show, To_dump, To_recover}
-use Rattle.load_run.proofs.Finish.{word_is, words_are, moments_of, show_reported, dump_reported, show_complete, dump_complete, recover_complete}
-use Rattle.load_run.specs.declared.words.Word.TheVariants.{Log, Show, Dump, Recover}
+use Rattle.load_run.specs.Words.{To_log, To_show, To_dump, To_recover, To_run}
+use Rattle.load_run.proofs.Finish.{word_is, words_are, moments_of, show_reported, dump_reported, recover_reported, run_reported, show_complete, dump_complete, recover_complete, run_complete}
+use Rattle.load_run.specs.declared.words.Word.TheVariants.{Log, Show, Dump, Recover, Run}
 use Rattle.load_run.proofs.command.run.Goals as goal
 
 pub returns-in-Some-Show-clause-damage : goal.returns-in-Some-Show-clause-damage
-returns-in-Some-Show-clause-damage g c told word damage names damaged =
+returns-in-Some-Show-clause-damage g c told word damage names right damaged =
     show_reported word c.show.result (g.D.Disk.view c.args.disk).files damage (word_is c.in-Some-Show.field-0 Show _ word c.in-Some-Show.ensures c.in-Some-Show.field-0-is names) damaged
     (c.show.ensures.damaged told)
 
@@ -21,7 +22,7 @@ returns-in-Some-Show-clause-complete g c told told_disk word names ready no_sour
     c.show.ensures.status (c.show.ensures.damage told_disk) c.show.ensures.disk_cause c.show.ensures.sink_cause ready no_disk no_sink
 
 pub returns-in-Some-Dump-clause-damage : goal.returns-in-Some-Dump-clause-damage
-returns-in-Some-Dump-clause-damage g c told word damage names damaged =
+returns-in-Some-Dump-clause-damage g c told word damage names right damaged =
     dump_reported word c.in-Some-Dump.number c.dump.result (g.D.Disk.view c.args.disk).files damage
     (word_is c.in-Some-Dump.field-0 (Dump c.in-Some-Dump.number) _ word c.in-Some-Dump.ensures c.in-Some-Dump.field-0-is names) damaged
     (c.dump.ensures.damaged told)
@@ -68,6 +69,33 @@ returns-in-Some-Recover-clause-complete g c told told_disk word names ready no_s
     (Rose (g.D.Disk.faults c.args.disk) (g.D.Disk.faults c.recover.new.disk)) (Rose (g.K.Sink.faults c.args.out.now) (g.K.Sink.faults c.recover.new.out))
     (word_is c.in-Some-Recover.field-0 Recover _ word c.in-Some-Recover.ensures c.in-Some-Recover.field-0-is names)
     c.recover.ensures.status (c.recover.ensures.damage told_disk) c.recover.ensures.disk_cause c.recover.ensures.sink_cause ready no_disk no_sink
+
+pub returns-in-Some-Recover-clause-damage : goal.returns-in-Some-Recover-clause-damage
+returns-in-Some-Recover-clause-damage g c told word damage names right damaged =
+    recover_reported word c.recover.result (g.D.Disk.view c.args.disk).files damage
+    (word_is c.in-Some-Recover.field-0 Recover _ word c.in-Some-Recover.ensures c.in-Some-Recover.field-0-is names) damaged
+    (c.recover.ensures.damaged told damage)
+
+pub returns-in-Some-Run-clause-moments : goal.returns-in-Some-Run-clause-moments
+returns-in-Some-Run-clause-moments g c told =
+    time_of (MayKeep (g.D.Disk.view c.args.disk)) (g.D.Disk.view c.args.disk) (g.D.Disk.view c.run_script.result.disk) (c.run_script.ensures.any_moment told)
+
+pub returns-in-Some-Run-clause-any_moment : goal.returns-in-Some-Run-clause-any_moment
+returns-in-Some-Run-clause-any_moment g c told told_disk =
+    moments_of _ (Some To_run) (g.S.Source.left c.args.script.now) (g.D.Disk.view c.args.disk) (g.D.Disk.view c.run_script.result.disk)
+    (words_are c.in-Some-Run.field-0 Run _ c.in-Some-Run.ensures c.in-Some-Run.field-0-is) (c.run_script.ensures.any_moment told_disk)
+
+pub returns-in-Some-Run-clause-damage : goal.returns-in-Some-Run-clause-damage
+returns-in-Some-Run-clause-damage g c told_disk word damage names right damaged =
+    run_reported word c.run_script.result.status (IsTrue g.S.Source.told) (g.S.Source.left c.args.script.now) (g.D.Disk.view c.args.disk).files damage
+    (word_is c.in-Some-Run.field-0 Run _ word c.in-Some-Run.ensures c.in-Some-Run.field-0-is names) right damaged
+    (λ told rights. c.run_script.ensures.damaged told told_disk damage rights)
+
+pub returns-in-Some-Run-clause-complete : goal.returns-in-Some-Run-clause-complete
+returns-in-Some-Run-clause-complete g c told told_disk word names ready no_source no_disk no_sink =
+    run_complete word c.run_script.result.status (g.S.Source.left c.args.script.now) (g.D.Disk.view c.args.disk).files
+    (word_is c.in-Some-Run.field-0 Run _ word c.in-Some-Run.ensures c.in-Some-Run.field-0-is names) ready
+    (λ right sound sized. c.run_script.ensures.complete told told_disk right sound sized no_source no_disk no_sink)
 
 pub returns-in-None-clause-usage : goal.returns-in-None-clause-usage
 returns-in-None-clause-usage g c none = inl c.refuse.ensures.status

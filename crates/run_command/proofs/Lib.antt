@@ -1,0 +1,4 @@
+pub mod Leaving
+pub mod Fitting
+pub mod Standing
+pub mod Telling

@@ -1,0 +1,69 @@
+//! Handlers that are held where another thread goes on.
+
+use crate::bench::{assert_lines, has_line, run_past};
+use crate::disks::empty_disk;
+use crate::gates::{MeetingGate, SyncGate};
+use disk_fakes::WatchDisk;
+use load_run::Status;
+use std::sync::Arc;
+use std::sync::atomic::AtomicU64;
+use std::test::Fail as TestFail;
+
+const ONE_PUT: &str = "time 1000
+regions 1
+handlers 1
+put 1 1 sync 1
+cell r f q 1 put v
+";
+
+// The put's handler is held behind its edit, so another thread writes the batch: a sync of the new log, two of the batch.
+#[test]
+fn extra_threads_commit(rt: HostRuntime) -> Result<(), TestFail> {
+    let alloc = rt.alloc();
+    let seen = Arc::new(alloc, AtomicU64::new(0))?;
+    let held = Arc::new(alloc, AtomicU64::new(0))?;
+    let gate = SyncGate::new(Arc::try_clone(&seen)?, 3);
+    let disk = WatchDisk::new(empty_disk(alloc, &[])?, seen, held);
+    let ran = run_past(&rt, ONE_PUT, disk, &gate)?;
+    assert_eq!(rt; gate.vain(), 0);
+    assert_eq!(rt; ran.status, Status::Done);
+    assert_lines(&rt, ran.text.as_str(), &["reply 1 1 put ok 1"]);
+    Ok(())
+}
+
+// Two handlers with a put each, into one region or into two, and what they are answered, in one order or the other.
+const TWO_PUTS: [(&str, [&str; 2], [&str; 2]); 2] = [
+    (
+        "time 1000\nregions 1\nhandlers 2\nput 1 1 sync 1\ncell r f q 1 put v\nput 2 1 sync 1\ncell r f q 1 put w\n",
+        ["reply 1 1 put ok 1", "reply 2 1 put ok 2"],
+        ["reply 1 1 put ok 2", "reply 2 1 put ok 1"],
+    ),
+    (
+        "time 1000\nregions 2\nhandlers 2\nput 1 1 sync 1\ncell r f q 1 put v\nput 2 2 sync 1\ncell r f q 1 put w\n",
+        ["reply 1 1 put ok 1", "reply 2 1 put ok 1"],
+        ["reply 1 1 put ok 1", "reply 2 1 put ok 1"],
+    ),
+];
+
+fn has_both(text: &str, lines: &[&str]) -> bool {
+    for wanted in lines {
+        if !has_line(text, wanted) {
+            return false;
+        }
+    }
+    true
+}
+
+// Each put is held behind its edit until the other's edit is logged too.
+#[test]
+fn second_put_passes_first(rt: HostRuntime) -> Result<(), TestFail> {
+    for (script, one, other) in TWO_PUTS {
+        let gate = MeetingGate::new(2);
+        let ran = run_past(&rt, script, empty_disk(rt.alloc(), &[])?, &gate)?;
+        assert_eq!(rt; gate.vain(), 0);
+        assert_eq!(rt; ran.status, Status::Done);
+        let text = ran.text.as_str();
+        assert!(rt; has_both(text, &one) || has_both(text, &other), "{text}");
+    }
+    Ok(())
+}

@@ -1,0 +1,29 @@
+//! Trials of whole runs on disks in memory: what a script's handlers are answered and what the disk has then, faults of
+//! each disk call, crashes at each moment, handlers that are held, and many scripts whose reports are judged. A library of
+//! tests alone, at the top, so that no crate waits for it.
+#![tactic(auto)]
+
+#[cfg(test)]
+mod bench;
+#[cfg(test)]
+mod checked;
+#[cfg(test)]
+mod disks;
+#[cfg(test)]
+mod faults;
+#[cfg(test)]
+mod gates;
+#[cfg(test)]
+mod held;
+#[cfg(test)]
+mod many;
+#[cfg(test)]
+mod plans;
+#[cfg(test)]
+mod report;
+#[cfg(test)]
+mod stores;
+#[cfg(test)]
+mod sweeps;
+#[cfg(test)]
+mod worked;

@@ -1,0 +1,68 @@
+//! What the lines of a report say.
+
+/// The word of a line at this place, counted from 0. There is none where the line is shorter.
+pub(crate) fn word(line: &str, at: usize) -> &str {
+    for (i, word) in line.split(' ').enumerate() {
+        if i == at {
+            return word;
+        }
+    }
+    ""
+}
+
+/// The number in a line at this place; 0 where there is none.
+pub(crate) fn number(line: &str, at: usize) -> u64 {
+    word(line, at).parse::<u64>().unwrap_or(0)
+}
+
+/// The last number of a region's edits, or of what was there before them.
+pub(crate) fn journal_last(report: &str, region: u64) -> u64 {
+    let mut at = 0;
+    let mut last = 0;
+    for line in report.lines() {
+        if word(line, 0) == "region" {
+            at = number(line, 1);
+            if at == region {
+                last = number(line, 3);
+            }
+        }
+        if word(line, 0) == "edit" && at == region {
+            last = number(line, 1);
+        }
+    }
+    last
+}
+
+/// The number up to which a reply line says that its region is durable, where its put was one that waits: 0 if it doesn't.
+fn receipt(line: &str) -> u64 {
+    let call = word(line, 3);
+    let how = word(line, 4);
+    let is_put = call == "put" && (how == "ok" || how == "memory");
+    let is_flush = call == "flush" && how == "ok";
+    if is_put || is_flush {
+        number(line, 5)
+    } else {
+        0
+    }
+}
+
+/// The greatest number that a handler was told is durable.
+pub(crate) fn receipted(report: &str, handler: u64) -> u64 {
+    let mut most: u64 = 0;
+    for line in report.lines() {
+        if word(line, 0) == "reply" && number(line, 1) == handler {
+            most = most.max(receipt(line));
+        }
+    }
+    most
+}
+
+/// The last number and the count of cells that `recover` printed of a region.
+pub(crate) fn recovered(text: &str, region: u64) -> (u64, u64) {
+    for line in text.lines() {
+        if word(line, 0) == "recovered" && number(line, 1) == region {
+            return (number(line, 2), number(line, 3));
+        }
+    }
+    (0, 0)
+}

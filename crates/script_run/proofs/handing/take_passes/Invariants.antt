@@ -1,0 +1,16 @@
+use Rattle.std.proofs.Common.{◌≡◌, length, vec_len, vec_capacity}
+use Rattle.log_service.specs.Places.{Place}
+use Rattle.region_calls.specs.Deals.{passes_out, passes_back, ArePassesOf}
+use Rattle.script_run.specs.Ran.{AllOfPlace}
+use Rattle.script_run.specs.Rooms.{AreTaken}
+use Rattle.script_run.proofs.handing.take_passes.Given as goal
+
+abbrev pub invariant-loop-room : goal.invariant-loop-room
+invariant-loop-room g l = record {
+  taken : AreTaken 1 l.yielded l.handlers.items;
+  out : passes_out l.passes ≡ length l.yielded;
+  back : passes_back l.passes ≡ passes_back l.initial.passes;
+  len : vec_len l.handlers ≡ length l.yielded;
+  room : vec_capacity l.handlers ≡ vec_capacity l.initial.handlers;
+  of : (place : Place) → ArePassesOf place g.N.Naming-1.handlers l.fn.passes → ArePassesOf place g.N.Naming-1.handlers l.passes × AllOfPlace place l.handlers.items;
+}

@@ -1,0 +1,75 @@
+//! Passes are handed to handlers, and come back.
+
+ghost use Rattle.std.specs.Prelude.{◌≡◌, ◌≤◌, [], map, length, vec_len, vec_capacity};
+ghost use Rattle.log_service.specs.Places.{Place};
+ghost use Rattle.region_calls.specs.Passes.{knows, IsPassOf};
+ghost use Rattle.region_calls.specs.Deals.{passes_out, passes_back, ArePassesOf};
+ghost use Rattle.script_run.specs.Rooms.{AreTaken};
+ghost use Rattle.script_run.specs.Ran.{AllOfPlace, pass_of, lines_in, spent_in};
+ghost use Rattle.script_run.specs.Ends.{first_of_all};
+
+use crate::handler::Handler;
+use crate::room::Room;
+use crate::spending::first_of;
+use region_calls::Passes;
+use run_model::Spent;
+use script_calls::ReplyLines;
+
+/// Makes a handler for each room. There is room for them, and it takes no memory.
+pub fn take_passes<N: region_lock::Naming + region_versions::Naming>(
+    rooms: Vec<Room>,
+    passes: &mut Passes<N>,
+    handlers: &mut Vec<Handler<N>>,
+)
+    requires none { (handlers.old.items ≡ []) × (vec_len rooms ≤ vec_capacity handlers.old) }
+    requires of { (place : Place) × ArePassesOf place N.handlers passes.old }
+    requires passes { (passes_out passes.old ≡ 0) × (vec_len rooms ≡ N.handlers) }
+    ensures taken { AreTaken 1 rooms.items handlers.new.items }
+    ensures out { passes_out passes.new ≡ N.handlers }
+    ensures back { passes_back passes.new ≡ passes_back passes.old }
+    ensures of { (place : Place) → ArePassesOf place N.handlers passes.old → ArePassesOf place N.handlers passes.new × AllOfPlace place handlers.new.items }
+{
+    for room in rooms {
+        let Some(pass) = passes.next() else {
+            unreachable!()
+        };
+        let Room { calls, replies } = room;
+        handlers.push_reserved(Handler {
+            pass,
+            calls,
+            replies,
+            spent: None,
+        });
+    }
+}
+
+/// Gives the passes back, and keeps the replies and the first put that found no sequence id left. There is room for them, and
+/// it takes no memory.
+pub fn give_back<N: region_lock::Naming + region_versions::Naming>(
+    handlers: Vec<Handler<N>>,
+    passes: &mut Passes<N>,
+    parts: &mut Vec<ReplyLines>,
+) -> Option<Spent>
+    requires none { (parts.old.items ≡ []) × (vec_len handlers ≤ vec_capacity parts.old) }
+    requires of { (place : Place) × ArePassesOf place N.handlers passes.old × AllOfPlace place handlers.items }
+    requires passes { (passes_out passes.old ≡ N.handlers) × (passes_back passes.old ≡ []) × (vec_len handlers ≡ N.handlers) }
+    ensures back { passes_back passes.new ≡ map pass_of handlers.items }
+    ensures out { passes_out passes.new ≡ N.handlers }
+    ensures of { (place : Place) → ArePassesOf place N.handlers passes.old → AllOfPlace place handlers.items → ArePassesOf place N.handlers passes.new }
+    ensures parts { parts.new.items ≡ map lines_in handlers.items }
+    ensures spent { result ≡ first_of_all (map spent_in handlers.items) }
+{
+    let mut first = None;
+    for handler in handlers {
+        let Handler {
+            pass,
+            calls: _calls,
+            replies,
+            spent,
+        } = handler;
+        passes.put_back(pass);
+        parts.push_reserved(ReplyLines::of(replies));
+        first = first_of(first, spent);
+    }
+    first
+}
