@@ -40,15 +40,18 @@ fn is_named(name: Name) -> bool
     }
 }
 
-/// Makes a file with these bytes.
+/// Makes a file with these bytes; it may be empty.
 pub(crate) fn add(disk: &mut MemDisk, name: Name, bytes: &[u8]) -> Result<(), TestFail>
     requires none_gone { (m : _) → ¬ (view_of disk.old).gone m }
     ensures none_gone { (m : _) → ¬ (view_of disk.new).gone m }
 {
-    if !is_named(name) || bytes.is_empty() {
+    if !is_named(name) {
         return Err("no such file can be")?;
     }
     create(disk, name)?;
+    if bytes.is_empty() {
+        return Ok(());
+    }
     write(disk, name, bytes)
 }
 
