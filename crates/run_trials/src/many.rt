@@ -1,4 +1,4 @@
-//! Many scripts, each run a few times, and each report judged.
+//! Twenty scripts of 1 to 16 handlers, each run twenty times, and each report judged.
 
 use crate::bench::{Ended, recover, run_free};
 use crate::checked::{Edit, assert_journals, assert_replies, count_of, read_edits};
@@ -43,40 +43,74 @@ fn run_once<R: Threads + Wait + Sync + AllocGlobal + Abort>(
     assert_kept(rt, ran, &edits)
 }
 
-/// Runs each script of a table twice: its starting number, handlers, regions and calls of each handler.
-fn run_twice<R: Threads + Wait + Sync + AllocGlobal + Abort>(
+/// How often each script is run, since threads take turns in many orders.
+const TIMES: u64 = 20;
+
+/// A script is made from its starting number, handlers, regions and calls of each handler.
+type Row = (u64, u64, u64, u64);
+
+const ONE_HANDLER: [Row; 4] = [(1, 1, 1, 40), (2, 1, 4, 40), (3, 1, 2, 60), (4, 1, 1, 80)];
+
+const FEW_HANDLERS: [Row; 6] = [
+    (5, 2, 1, 20),
+    (6, 2, 3, 20),
+    (7, 3, 2, 20),
+    (8, 3, 1, 16),
+    (9, 4, 1, 20),
+    (10, 4, 4, 16),
+];
+
+const EIGHT_HANDLERS: [Row; 5] = [
+    (11, 5, 2, 16),
+    (12, 6, 1, 12),
+    (13, 7, 4, 12),
+    (14, 8, 3, 12),
+    (15, 8, 1, 12),
+];
+
+const SIXTEEN_HANDLERS: [Row; 5] = [
+    (16, 10, 2, 10),
+    (17, 12, 4, 8),
+    (18, 16, 1, 8),
+    (19, 16, 4, 8),
+    (20, 16, 3, 12),
+];
+
+/// Runs each script of a table, again and again.
+fn run_all<R: Threads + Wait + Sync + AllocGlobal + Abort>(
     rt: &R,
-    plans: &[(u64, u64, u64, u64)],
+    rows: &[Row],
 ) -> Result<(), TestFail> {
-    for (start, handlers, regions, calls) in plans {
+    for (start, handlers, regions, calls) in rows {
         let plan = Plan {
             start: *start,
             handlers: *handlers,
             regions: *regions,
             calls: *calls,
         };
-        run_once(rt, plan)?;
-        run_once(rt, plan)?;
+        for _ in 0..TIMES {
+            run_once(rt, plan)?;
+        }
     }
     Ok(())
 }
 
 #[test]
 fn one_handler(rt: HostRuntime) -> Result<(), TestFail> {
-    run_twice(&rt, &[(1, 1, 1, 40), (2, 1, 4, 40)])
+    run_all(&rt, &ONE_HANDLER)
 }
 
 #[test]
 fn few_handlers(rt: HostRuntime) -> Result<(), TestFail> {
-    run_twice(&rt, &[(3, 2, 1, 20), (4, 3, 2, 20), (5, 4, 1, 20)])
+    run_all(&rt, &FEW_HANDLERS)
 }
 
 #[test]
 fn eight_handlers(rt: HostRuntime) -> Result<(), TestFail> {
-    run_twice(&rt, &[(6, 8, 3, 12)])
+    run_all(&rt, &EIGHT_HANDLERS)
 }
 
 #[test]
 fn sixteen_handlers(rt: HostRuntime) -> Result<(), TestFail> {
-    run_twice(&rt, &[(7, 16, 1, 8), (8, 16, 4, 8)])
+    run_all(&rt, &SIXTEEN_HANDLERS)
 }
