@@ -1,0 +1,5 @@
+pub mod Kept
+pub mod Counted
+pub mod Telling
+pub mod Lines
+pub mod Running
