@@ -3,3 +3,4 @@ pub mod Counted
 pub mod Telling
 pub mod Lines
 pub mod Running
+pub mod Damages

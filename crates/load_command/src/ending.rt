@@ -11,7 +11,7 @@ ghost use Rattle.load_model.specs.Text.{load_text, ended_text};
 ghost use Rattle.run_model.specs.Headline.{MayKeep};
 ghost use Rattle.command_ends.specs.Invocation.{invocation, AtEachMoment};
 ghost use Rattle.command_ends.specs.Prints.{Prints};
-ghost use Rattle.command_ends.specs.Status.{refusal_line, exit_status, IsComplete, IsRefusal, IsPrintEnd, IsReadingEnd};
+ghost use Rattle.command_ends.specs.Status.{refusal_line, exit_status, IsComplete, IsDamageOf, IsRefusal, IsPrintEnd, IsReadingEnd};
 ghost use Rattle.recover_command.specs.Recovered.{AreSized};
 ghost use Rattle.recover_command.specs.Refusals.{refused_as};
 ghost use Rattle.load_command.specs.Ends.{EndsLoad, HasEnded};
@@ -45,6 +45,7 @@ pub fn end_load<D: Disk, K: Sink>(
     ensures refusal { IsTrue K.told → IsRefusal result → (text : List ℕ) → refusal_line result ≡ Some text
         → Prints (K.taken out.old) (K.taken out.new) text (Rose (K.faults out.old) (K.faults out.new)) }
     ensures status { IsClosedEnd result }
+    ensures damage { IsTrue D.told → IsDamageOf result (IsDamage (D.view disk.new).files) }
     ensures disk_cause { result ≡ Status.DiskFault → status ≢ Status.DiskFault → Rose (D.faults disk.old) (D.faults disk.new) }
     ensures sink_cause { result ≡ Status.SinkFault → Rose (K.faults out.old) (K.faults out.new) }
     ensures later { (D.faults disk.old ≤ D.faults disk.new) × (K.faults out.old ≤ K.faults out.new) }
@@ -93,6 +94,7 @@ fn recover_load<D: Disk, K: Sink>(
     ensures refusal { IsTrue K.told → (text : List ℕ) → refusal_line result ≡ Some text
         → Prints (K.taken out.old) (K.taken out.new) text (Rose (K.faults out.old) (K.faults out.new)) }
     ensures status { IsReadingEnd result }
+    ensures damage { IsTrue D.told → IsDamageOf result (IsDamage (D.view disk.new).files) }
     ensures disk_cause { result ≡ Status.DiskFault → Rose (D.faults disk.old) (D.faults disk.new) }
     ensures sink_cause { result ≡ Status.SinkFault → Rose (K.faults out.old) (K.faults out.new) }
     ensures later { (D.faults disk.old ≤ D.faults disk.new) × (K.faults out.old ≤ K.faults out.new) }

@@ -89,22 +89,22 @@ sound_dump : (files : Files) (n : ℕ) → ((name : Name) (at : ℕ) → IsDumpe
 sound_dump files n sound (damages.Two first second region number) damage = damage
 sound_dump files n sound (damages.Bytes name at) damage = sound name at damage.0 damage.1
 
-pub show_complete : (word : Word) (status : Status) (script : List ℕ) (files : Files) (d k : Type 0) → word ≡ To_show → IsReadingEnd status → IsDamageOf status (IsLogDamage files (log_name 1))
-    → (status ≡ ends.DiskFault → d) → (status ≡ ends.SinkFault → k) → IsReady word script files → (d → ⊥) → (k → ⊥) → IsCompleteFor word status
-show_complete word status script files d k is ended damage disk sink ready no_disk no_sink =
+pub show_complete : (word : Word) (status : Status) (script : List ℕ) (files left : Files) (d k : Type 0) → word ≡ To_show → IsReadingEnd status → IsDamageOf status (IsLogDamage files (log_name 1))
+    → (status ≡ ends.DiskFault → d) → (status ≡ ends.SinkFault → k) → IsReady word script files left → (d → ⊥) → (k → ⊥) → IsCompleteFor word status
+show_complete word status script files left d k is ended damage disk sink ready no_disk no_sink =
     complete_for word To_show status is
-    (reader_done status (IsLogDamage files (log_name 1)) d k ended damage disk sink (sound_log files (log_name 1) (subst (λ (w : Word). IsReady w script files) is ready)) no_disk no_sink)
+    (reader_done status (IsLogDamage files (log_name 1)) d k ended damage disk sink (sound_log files (log_name 1) (subst (λ (w : Word). IsReady w script files left) is ready)) no_disk no_sink)
 
-pub dump_complete : (word : Word) (n : ℕ) (status : Status) (script : List ℕ) (files : Files) (d k : Type 0) → word ≡ To_dump n → IsReadingEnd status → IsDamageOf status (IsDumpDamage n files)
-    → (status ≡ ends.DiskFault → d) → (status ≡ ends.SinkFault → k) → IsReady word script files → (d → ⊥) → (k → ⊥) → IsCompleteFor word status
-dump_complete word n status script files d k is ended damage disk sink ready no_disk no_sink =
+pub dump_complete : (word : Word) (n : ℕ) (status : Status) (script : List ℕ) (files left : Files) (d k : Type 0) → word ≡ To_dump n → IsReadingEnd status → IsDamageOf status (IsDumpDamage n files)
+    → (status ≡ ends.DiskFault → d) → (status ≡ ends.SinkFault → k) → IsReady word script files left → (d → ⊥) → (k → ⊥) → IsCompleteFor word status
+dump_complete word n status script files left d k is ended damage disk sink ready no_disk no_sink =
     complete_for word (To_dump n) status is
-    (reader_done status (IsDumpDamage n files) d k ended damage disk sink (sound_dump files n (subst (λ (w : Word). IsReady w script files) is ready)) no_disk no_sink)
+    (reader_done status (IsDumpDamage n files) d k ended damage disk sink (sound_dump files n (subst (λ (w : Word). IsReady w script files left) is ready)) no_disk no_sink)
 
-pub recover_complete : (word : Word) (status : Status) (script : List ℕ) (files : Files) (d k : Type 0) → word ≡ To_recover → IsReadingEnd status → IsDamageOf status (IsDamage files)
-    → (status ≡ ends.DiskFault → d) → (status ≡ ends.SinkFault → k) → IsReady word script files → (d → ⊥) → (k → ⊥) → IsCompleteFor word status
-recover_complete word status script files d k is ended damage disk sink ready no_disk no_sink =
-    let wanted : IsReady To_recover script files = subst (λ (w : Word). IsReady w script files) is ready in
+pub recover_complete : (word : Word) (status : Status) (script : List ℕ) (files left : Files) (d k : Type 0) → word ≡ To_recover → IsReadingEnd status → IsDamageOf status (IsDamage files)
+    → (status ≡ ends.DiskFault → d) → (status ≡ ends.SinkFault → k) → IsReady word script files left → (d → ⊥) → (k → ⊥) → IsCompleteFor word status
+recover_complete word status script files left d k is ended damage disk sink ready no_disk no_sink =
+    let wanted : IsReady To_recover script files left = subst (λ (w : Word). IsReady w script files left) is ready in
     complete_for word To_recover status is
     (reader_done status (IsDamage files) d k ended damage disk sink (λ x told. (sound_undamaged files wanted.1 wanted.0).2 x told) no_disk no_sink)
 
@@ -127,8 +127,8 @@ run_reported word status told script files damage is right damaged tells =
     let it : told × (script_fault Run script ≡ None) = has Run refl in
     reported_for word To_run status damage is (tells it.0 it.1 must.0 must.1)
 
-pub run_complete : (word : Word) (status : Status) (script : List ℕ) (files : Files) → word ≡ To_run → IsReady word script files
+pub run_complete : (word : Word) (status : Status) (script : List ℕ) (files left : Files) → word ≡ To_run → IsReady word script files left
     → (script_fault Run script ≡ None → IsSound files → AreSized files → IsRunComplete status) → IsCompleteFor word status
-run_complete word status script files is ready done =
-    let wanted : IsReady To_run script files = subst (λ (w : Word). IsReady w script files) is ready in
+run_complete word status script files left is ready done =
+    let wanted : IsReady To_run script files left = subst (λ (w : Word). IsReady w script files left) is ready in
     complete_for word To_run status is (done wanted.0 wanted.1 wanted.2)

@@ -8,6 +8,8 @@ use Rattle.command_ends.specs.declared.status.Status.TheVariants.{NotEmpty, Disk
 use Rattle.run_model.specs.Headline.{MayKeep}
 use Rattle.command_ends.proofs.Endings.{time_of, unchanged}
 use Rattle.load_command.specs.Statuses.{IsLoadEnd}
+use Rattle.log_model.specs.Damage.{IsDamage}
+use Rattle.load_command.proofs.Damages.{other_status, first_damage}
 use Rattle.load_command.proofs.Running.{rose_then, ends_before, looked_only, moments_before, closed_load, closed_not_empty, closed_leaves, refused_first, refusal_end, refusal_sink, refusal_first, refusal_complete}
 use Rattle.load_command.proofs.command.load.Goals as goal
 
@@ -83,3 +85,11 @@ pub returns-in-Err-clause-complete : goal.returns-in-Err-clause-complete
 returns-in-Err-clause-complete g c told none sized disk sink =
     subst IsComplete (sym c.refuse.ensures.status)
     (refusal_complete c.in-Err.status (g.D.Disk.view c.args.disk).files c.in-Err.ensures.refused (c.in-Err.ensures.not_empty told) none (λ is. disk (c.in-Err.ensures.cause.risen (ap Err is))))
+
+pub returns-in-Ok-clause-damage : goal.returns-in-Ok-clause-damage
+returns-in-Ok-clause-damage g c told = c.load_empty.ensures.damage told
+
+pub returns-in-Err-clause-damage : goal.returns-in-Err-clause-damage
+returns-in-Err-clause-damage g c told =
+    other_status c.refuse.result c.in-Err.status (IsDamage (g.D.Disk.view c.check_empty.new.disk).files) c.refuse.ensures.status
+    (first_damage c.in-Err.status (IsDamage (g.D.Disk.view c.check_empty.new.disk).files) c.in-Err.ensures.refused)

@@ -7,6 +7,7 @@ use Rattle.script_model.specs.Outputs.{refused_memory}
 use Rattle.made_script.specs.Counts.{counts_of}
 use Rattle.command_ends.specs.Status.{refusal_line, IsComplete}
 use Rattle.load_command.specs.Statuses.{IsClosedEnd}
+use Rattle.load_command.proofs.Damages.{other_status, opened_damage}
 use Rattle.load_command.proofs.Telling.{memory_ends}
 use Rattle.load_command.proofs.Running.{untouched, ended_from, rose_later, rose_then, fault_cases, not_opened, opening_end, opening_fault, opening_sink, opening_complete}
 use Rattle.load_command.proofs.command.load_empty.Goals as goal
@@ -95,3 +96,19 @@ pub returns-in-NotOpened-clause-complete : goal.returns-in-NotOpened-clause-comp
 returns-in-NotOpened-clause-complete g c told sized disk sink =
     subst IsComplete (sym (c.refuse-in-NotOpened.ensures.status ∙ c.status_of.ensures))
     (opening_complete c.in-NotOpened.why (g.D.Disk.view c.args.disk).files _ (c.requires.empty told) (λ is. disk (c.in-NotOpened.ensures.cause is)) (c.in-NotOpened.ensures.ran told).1)
+
+pub returns-in-NotOpened-clause-damage : goal.returns-in-NotOpened-clause-damage
+returns-in-NotOpened-clause-damage g c told =
+    other_status c.refuse-in-NotOpened.result _ (IsDamage (g.D.Disk.view c.in-NotOpened.disk).files) (c.refuse-in-NotOpened.ensures.status ∙ c.status_of.ensures)
+    (opened_damage c.in-NotOpened.why (g.D.Disk.view c.args.disk).files (g.D.Disk.view c.in-NotOpened.disk).files (c.in-NotOpened.ensures.ran told).1)
+
+-- ---- no damage
+
+pub returns-in_default-clause-damage : goal.returns-in_default-clause-damage
+returns-in_default-clause-damage g c told = other_status c.refuse.result _ (IsDamage (g.D.Disk.view c.args.disk).files) c.refuse.ensures.status tt
+
+pub returns-in-Left-clause-damage : goal.returns-in-Left-clause-damage
+returns-in-Left-clause-damage g c told = other_status c.refuse-in-Left.result _ (IsDamage (g.D.Disk.view c.in-Left.disk).files) c.refuse-in-Left.ensures.status tt
+
+pub returns-in-Closed-clause-damage : goal.returns-in-Closed-clause-damage
+returns-in-Closed-clause-damage g c told = c.end_load-status.ensures.damage told

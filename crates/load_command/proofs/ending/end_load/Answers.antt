@@ -5,6 +5,8 @@ use Rattle.command_ends.specs.Status.{refusal_line, IsComplete}
 use Rattle.command_ends.specs.declared.status.Status.{Status}
 use Rattle.run_model.proofs.KeepsFound.{all_keep}
 use Rattle.load_command.specs.Ends.{HasEnded}
+use Rattle.log_model.specs.Damage.{IsDamage}
+use Rattle.load_command.proofs.Damages.{other_status, printed_damage}
 use Rattle.load_command.proofs.Kept.{stays_kept}
 use Rattle.load_command.proofs.Telling.{memory_ends, reading_closed, unfinished_ends, unfinished_refusal, unfinished_end, unfinished_fault, unfinished_complete, decided_told}
 use Rattle.load_command.proofs.ending.end_load.Goals as goal
@@ -70,3 +72,12 @@ returns-in_default-clause-disk_cause g c is other = absurd (unfinished_fault c.a
 pub returns-in_default-clause-complete : goal.returns-in_default-clause-complete
 returns-in_default-clause-complete g c told options first ended sized unbroken disk sink =
     unfinished_complete c.args.status c.print_ended.result options (g.D.Disk.view first) (g.D.Disk.view c.args.disk.now) c.print_ended.ensures.status c.requires c.in_default.not-Done c.in_default.not-Memory ended unbroken (λ is. sink (c.print_ended.ensures.cause is))
+
+pub returns-in-Memory-clause-damage : goal.returns-in-Memory-clause-damage
+returns-in-Memory-clause-damage g c told = other_status c.refuse.result _ (IsDamage (g.D.Disk.view c.args.disk.now).files) c.refuse.ensures.status tt
+
+pub returns-in-Done-clause-damage : goal.returns-in-Done-clause-damage
+returns-in-Done-clause-damage g c told = c.recover_load.ensures.damage told
+
+pub returns-in_default-clause-damage : goal.returns-in_default-clause-damage
+returns-in_default-clause-damage g c told = printed_damage c.args.status c.print_ended.result (IsDamage (g.D.Disk.view c.args.disk.now).files) c.requires c.print_ended.ensures.status

@@ -9,6 +9,8 @@ use Rattle.command_ends.proofs.Readers.{lined}
 use Rattle.recover_command.proofs.Telling.{reads_refused, fault_refused}
 use Rattle.load_command.specs.Counted.{cells_of}
 use Rattle.load_command.specs.Ends.{EndsLoad}
+use Rattle.log_model.specs.Damage.{IsDamage}
+use Rattle.load_command.proofs.Damages.{other_status, print_damage, refused_damage}
 use Rattle.load_command.proofs.Kept.{opened_keeps, opened_throughout}
 use Rattle.load_command.proofs.Telling.{done, printed_ends, refused_ends, print_complete, refused_complete, undamaged}
 use Rattle.load_command.proofs.ending.recover_load.Goals as goal
@@ -66,3 +68,11 @@ returns-in-Err-clause-complete g c told options first ended sized disk sink =
     let now = (g.met.D.Disk.is_true c.args.disk.now told).reads in
     subst IsComplete (sym (c.refuse.ensures.status ∙ c.status_of.ensures))
     (refused_complete c.in-Err.refusal _ (λ is. disk (c.in-Err.ensures.cause.risen (ap Err is))) (λ d told_damage. undamaged options before left after d ended now sized told_damage.1 told_damage.0) (c.in-Err.ensures.damaged told))
+
+pub returns-in-Ok-clause-damage : goal.returns-in-Ok-clause-damage
+returns-in-Ok-clause-damage g c told = print_damage c.print_loaded.result (IsDamage (g.D.Disk.view c.recover_all.new.disk).files) c.print_loaded.ensures.status
+
+pub returns-in-Err-clause-damage : goal.returns-in-Err-clause-damage
+returns-in-Err-clause-damage g c told =
+    other_status c.refuse.result _ (IsDamage (g.D.Disk.view c.recover_all.new.disk).files) (c.refuse.ensures.status ∙ c.status_of.ensures)
+    (refused_damage c.in-Err.refusal (g.D.Disk.view c.args.disk.now).files (g.D.Disk.view c.recover_all.new.disk).files (c.in-Err.ensures.damaged told))

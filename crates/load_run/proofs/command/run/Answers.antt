@@ -16,7 +16,7 @@ returns-in-Some-Show-clause-damage g c told word damage names right damaged =
 
 pub returns-in-Some-Show-clause-complete : goal.returns-in-Some-Show-clause-complete
 returns-in-Some-Show-clause-complete g c told told_disk word names ready no_source no_disk no_sink =
-    show_complete word c.show.result (g.S.Source.left c.args.script.now) (g.D.Disk.view c.args.disk).files
+    show_complete word c.show.result (g.S.Source.left c.args.script.now) (g.D.Disk.view c.args.disk).files (g.D.Disk.view c.show.new.disk).files
     (Rose (g.D.Disk.faults c.args.disk) (g.D.Disk.faults c.show.new.disk)) (Rose (g.K.Sink.faults c.args.out.now) (g.K.Sink.faults c.show.new.out))
     (word_is c.in-Some-Show.field-0 Show _ word c.in-Some-Show.ensures c.in-Some-Show.field-0-is names)
     c.show.ensures.status (c.show.ensures.damage told_disk) c.show.ensures.disk_cause c.show.ensures.sink_cause ready no_disk no_sink
@@ -29,7 +29,7 @@ returns-in-Some-Dump-clause-damage g c told word damage names right damaged =
 
 pub returns-in-Some-Dump-clause-complete : goal.returns-in-Some-Dump-clause-complete
 returns-in-Some-Dump-clause-complete g c told told_disk word names ready no_source no_disk no_sink =
-    dump_complete word c.in-Some-Dump.number c.dump.result (g.S.Source.left c.args.script.now) (g.D.Disk.view c.args.disk).files
+    dump_complete word c.in-Some-Dump.number c.dump.result (g.S.Source.left c.args.script.now) (g.D.Disk.view c.args.disk).files (g.D.Disk.view c.dump.new.disk).files
     (Rose (g.D.Disk.faults c.args.disk) (g.D.Disk.faults c.dump.new.disk)) (Rose (g.K.Sink.faults c.args.out.now) (g.K.Sink.faults c.dump.new.out))
     (word_is c.in-Some-Dump.field-0 (Dump c.in-Some-Dump.number) _ word c.in-Some-Dump.ensures c.in-Some-Dump.field-0-is names)
     c.dump.ensures.status (c.dump.ensures.damage told_disk) c.dump.ensures.disk_cause c.dump.ensures.sink_cause ready no_disk no_sink
@@ -65,7 +65,7 @@ returns-in-Some-Recover-clause-any_moment g c told told_disk =
 
 pub returns-in-Some-Recover-clause-complete : goal.returns-in-Some-Recover-clause-complete
 returns-in-Some-Recover-clause-complete g c told told_disk word names ready no_source no_disk no_sink =
-    recover_complete word c.recover.result (g.S.Source.left c.args.script.now) (g.D.Disk.view c.args.disk).files
+    recover_complete word c.recover.result (g.S.Source.left c.args.script.now) (g.D.Disk.view c.args.disk).files (g.D.Disk.view c.recover.new.disk).files
     (Rose (g.D.Disk.faults c.args.disk) (g.D.Disk.faults c.recover.new.disk)) (Rose (g.K.Sink.faults c.args.out.now) (g.K.Sink.faults c.recover.new.out))
     (word_is c.in-Some-Recover.field-0 Recover _ word c.in-Some-Recover.ensures c.in-Some-Recover.field-0-is names)
     c.recover.ensures.status (c.recover.ensures.damage told_disk) c.recover.ensures.disk_cause c.recover.ensures.sink_cause ready no_disk no_sink
@@ -93,7 +93,7 @@ returns-in-Some-Run-clause-damage g c told_disk word damage names right damaged 
 
 pub returns-in-Some-Run-clause-complete : goal.returns-in-Some-Run-clause-complete
 returns-in-Some-Run-clause-complete g c told told_disk word names ready no_source no_disk no_sink =
-    run_complete word c.run_script.result.status (g.S.Source.left c.args.script.now) (g.D.Disk.view c.args.disk).files
+    run_complete word c.run_script.result.status (g.S.Source.left c.args.script.now) (g.D.Disk.view c.args.disk).files (g.D.Disk.view c.run_script.result.disk).files
     (word_is c.in-Some-Run.field-0 Run _ word c.in-Some-Run.ensures c.in-Some-Run.field-0-is names) ready
     (λ right sound sized. c.run_script.ensures.complete told told_disk right sound sized no_source no_disk no_sink)
 
