@@ -1,11 +1,12 @@
 -- Damage that is told is of the files that were left.
-use Rattle.std.proofs.Common.{Err, ◌≡◌, sym, subst, inl, inr}
+use Rattle.std.proofs.Common.{Err, ◌≡◌, List, sym, subst, inl, inr}
 use Rattle.log_model.specs.Files.{Files}
 use Rattle.log_model.specs.Damage.{IsDamage}
 use Rattle.log_model.specs.declared.damage.Damage.{Damage}
 use Rattle.found_files.specs.Refusal.{IfDamage}
 use Rattle.found_files.specs.declared.refusal.SplitRefusal.{SplitRefusal}
 use Rattle.found_files.specs.declared.refusal.SplitRefusal.TheVariants as refusals
+use Rattle.region_replay.specs.Ready.{Found}
 use Rattle.region_calls.specs.declared.refusal.StartWhy.{StartWhy}
 use Rattle.region_calls.specs.declared.refusal.StartWhy.TheVariants as whys
 use Rattle.command_ends.specs.Status.{IsDamageOf, IsPrintEnd}
@@ -45,7 +46,7 @@ printed_damage status result P may printed = elim printed [
 here : (damage : Damage) (old new : Files) → IsDamage old damage × (new ≡ old) → IsDamage new damage
 here damage old new told = subst (λ (f : Files). IsDamage f damage) (sym told.1) told.0
 
-pub refused_damage : {T : Type 0} (refusal : SplitRefusal) (old new : Files) → IfDamage {T = T} (Err refusal) (λ damage. IsDamage old damage × (new ≡ old)) → IsDamageOf (refused_as refusal) (IsDamage new)
+pub refused_damage : (refusal : SplitRefusal) (old new : Files) → IfDamage {T = List Found} (Err refusal) (λ damage. IsDamage old damage × (new ≡ old)) → IsDamageOf (refused_as refusal) (IsDamage new)
 refused_damage refusals.Memory old new told = tt
 refused_damage refusals.DiskFault old new told = tt
 refused_damage (refusals.Damaged damage) old new told = here damage old new told

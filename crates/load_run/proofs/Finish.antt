@@ -1,5 +1,6 @@
 -- How the top call ends, by the command that its words name.
 use Rattle.std.proofs.Common.{◌≡◌, ℕ, List, [], ◌∷◌, Option, Some, None, refl, sym, ap, subst, ◌∙◌}
+use Rattle.std.specs.Option.{option_map}
 use Rattle.log_model.specs.declared.name.Name.{Name}
 use Rattle.log_model.specs.declared.damage.Damage.{Damage}
 use Rattle.log_model.specs.declared.damage.Damage.TheVariants as damages
@@ -26,11 +27,11 @@ some_or a None = a
 some_or a (Some b) = b
 
 -- the words name the command that was read
-pub word_is : (x y : CodeWord) (words : Option Word) (word : Word) → Some (meaning_of x) ≡ words → x ≡ y → words ≡ Some word → word ≡ meaning_of y
-word_is x y words word first same is = ap (some_or word) (sym is ∙ sym first) ∙ ap meaning_of same
+pub words_named : (read : Option CodeWord) (x : CodeWord) (words : Option Word) → read ≡ Some x → option_map meaning_of read ≡ words → words ≡ Some (meaning_of x)
+words_named read x words is first = sym first ∙ ap (option_map meaning_of) is
 
-pub words_are : (x y : CodeWord) (words : Option Word) → Some (meaning_of x) ≡ words → x ≡ y → words ≡ Some (meaning_of y)
-words_are x y words first same = sym first ∙ ap (λ (w : CodeWord). Some (meaning_of w)) same
+pub word_named : (read : Option CodeWord) (x : CodeWord) (words : Option Word) (word : Word) → read ≡ Some x → option_map meaning_of read ≡ words → words ≡ Some word → word ≡ meaning_of x
+word_named read x words word is first names = ap (some_or word) (sym names ∙ words_named read x words is first)
 
 -- what may stand at each moment, for the command that was read
 pub moments_of : (words command : Option Word) (script : List ℕ) (v w : DiskView) → words ≡ command → AtEachMoment (MayLeave command script v) v w → AtEachMoment (MayLeave words script v) v w

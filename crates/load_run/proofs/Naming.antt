@@ -30,5 +30,5 @@ unfolding load_of
 wrong_words words wrong = go (fault_of load_app words) wrong
   where
     go : (kinds : Kinds) → (kinds ≡ [] → ⊥) → None ≡ option_map To_load (unless_wrong kinds (options_in words))
-    go [] no = absurd (no refl)
-    go (kind ∷ kinds) no = refl
+    go [] never = absurd (never refl)
+    go (kind ∷ kinds) never = refl
