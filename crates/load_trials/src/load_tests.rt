@@ -107,14 +107,70 @@ const WORDS: [&str; 9] = [
 /// A number out of its range, one that is no number, an unknown option, one that stands twice, one that is left out, a word
 /// behind them.
 const WRONG: [[&str; 6]; 8] = [
-    ["load", "--start=18446744073709551616", "--handlers=1", "--regions=1", "--count=1", "--count=1"],
-    ["load", "--start=0", "--handlers=17", "--regions=1", "--count", "1"],
-    ["load", "--start=0", "--handlers=1", "--regions=65", "--count", "1"],
-    ["load", "--start=0", "--handlers=1", "--regions=1", "--count", "10001"],
-    ["load", "--start=0", "--handlers=0", "--regions=1", "--count", "1"],
-    ["load", "--start=0", "--start=0", "--handlers=1", "--regions=1", "--count=1"],
-    ["load", "--start=0", "--handlers=1", "--regions=1", "--seed=1", "--count=1"],
-    ["load", "--start=0", "--handlers=1", "--regions=1", "--count=1", "more"],
+    [
+        "load",
+        "--start=18446744073709551616",
+        "--handlers=1",
+        "--regions=1",
+        "--count=1",
+        "--count=1",
+    ],
+    [
+        "load",
+        "--start=0",
+        "--handlers=17",
+        "--regions=1",
+        "--count",
+        "1",
+    ],
+    [
+        "load",
+        "--start=0",
+        "--handlers=1",
+        "--regions=65",
+        "--count",
+        "1",
+    ],
+    [
+        "load",
+        "--start=0",
+        "--handlers=1",
+        "--regions=1",
+        "--count",
+        "10001",
+    ],
+    [
+        "load",
+        "--start=0",
+        "--handlers=0",
+        "--regions=1",
+        "--count",
+        "1",
+    ],
+    [
+        "load",
+        "--start=0",
+        "--start=0",
+        "--handlers=1",
+        "--regions=1",
+        "--count=1",
+    ],
+    [
+        "load",
+        "--start=0",
+        "--handlers=1",
+        "--regions=1",
+        "--seed=1",
+        "--count=1",
+    ],
+    [
+        "load",
+        "--start=0",
+        "--handlers=1",
+        "--regions=1",
+        "--count=1",
+        "more",
+    ],
 ];
 
 #[test]
