@@ -1,11 +1,7 @@
 -- What was found is kept where the store that a run left was opened again.
-use Rattle.std.proofs.Common.{◌≡◌, ℕ, inl, inr}
+use Rattle.std.proofs.Common.{inl, inr}
 use Rattle.std.proofs.Math.Logic.{∥∥₁_map}
-use Rattle.log_model.specs.Files.{Files, IsSound}
-use Rattle.log_model.specs.Damage.{IsDamage}
-use Rattle.log_model.specs.declared.damage.Damage.{Damage}
-use Rattle.log_model.specs.declared.name.NameKind.{NameKind}
-use Rattle.log_model.specs.declared.name.NameKind.TheVariants as kinds
+use Rattle.log_model.specs.Files.{Files}
 use Rattle.disk_images.specs.Crash.{DiskView, IsImageNow}
 use Rattle.disk_images.proofs.Moments.{at_end}
 use Rattle.recovery.specs.Alike.{AllAlike}

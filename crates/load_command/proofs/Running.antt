@@ -1,10 +1,9 @@
 -- What a run leaves for the end of a load.
-use Rattle.std.proofs.Common.{Err, ◌≡◌, ◌≢◌, ℕ, ◌^◌, ◌≤◌, ◌⊎◌, Bool, true, false, if◌then◌else◌, List, [], ◌∷◌, ◌++◌, length, map, Contains, Option, Some, None, inl, inr, refl, sym, ap, ◌∙◌, subst, arith}
+use Rattle.std.proofs.Common.{◌≡◌, ◌≢◌, ℕ, ◌^◌, ◌≤◌, ◌⊎◌, Bool, true, false, if◌then◌else◌, List, [], ◌∷◌, ◌++◌, map, Contains, Option, Some, None, inl, inr, refl, sym, ap, ◌∙◌, subst, arith}
 use Rattle.std.specs.FinMap.{keys}
 use Rattle.std.proofs.Math.Logic.{∥∥₁_map, ∥∥₁_elim, ∥∥₁_prop}
 use Rattle.std.proofs.lemmas.List.{map-append}
 use Rattle.log_model.specs.declared.name.Name.{Name}
-use Rattle.log_model.specs.declared.damage.Damage.{Damage}
 use Rattle.log_model.specs.Damage.{IsDamage}
 use Rattle.log_model.specs.Files.{Files, IsSound, IsPresent}
 use Rattle.log_model.specs.Recovered.{RecoversAlike}
@@ -12,7 +11,7 @@ use Rattle.log_model.proofs.DamageLaws.{sound_undamaged}
 use Rattle.disk_images.specs.Crash.{DiskView, IsImageNow, Elapses, Throughout}
 use Rattle.disk_images.specs.Calls.{Looks, Rose}
 use Rattle.script_model.specs.Calls.{Script}
-use Rattle.script_model.specs.Report.{ReplyLine, report_text}
+use Rattle.script_model.specs.Report.{ReplyLine}
 use Rattle.script_model.specs.Outputs.{refused_memory, refused_disk}
 use Rattle.server_model.specs.Pass.{Naming}
 use Rattle.server_model.specs.Closing.{Handled, replies_of}
@@ -33,8 +32,8 @@ use Rattle.load_model.specs.Loaded.{HasBroken}
 use Rattle.load_model.proofs.Empty.{empty_is_sound, no_bytes}
 use Rattle.command_ends.specs.Invocation.{invocation, AtEachMoment, GoesOn}
 use Rattle.command_ends.specs.Prints.{Prints}
-use Rattle.command_ends.specs.Ends.{Stands, Done, Failed}
-use Rattle.command_ends.specs.Status.{refusal_line, exit_status, IsComplete, IsNotEmpty, IsRefusal, IsReadingEnd, IsOrEarlier}
+use Rattle.command_ends.specs.Ends.{Done, Failed}
+use Rattle.command_ends.specs.Status.{refusal_line, exit_status, IsComplete, IsNotEmpty, IsOrEarlier}
 use Rattle.command_ends.specs.declared.status.Status.{Status}
 use Rattle.command_ends.specs.declared.status.Status.TheVariants as ends
 use Rattle.command_ends.proofs.Endings.{refused_so, looked, each_on, each_then}

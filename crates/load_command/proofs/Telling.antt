@@ -1,11 +1,9 @@
 -- How a load ends.
-use Rattle.std.proofs.Common.{Err, ◌≡◌, ◌≢◌, ℕ, ◌-◌, ◌^◌, ◌≤◌, ◌⊎◌, min, sum_by, List, [], length, Some, inl, inr, refl, sym, ap, ◌∙◌, subst, arith}
-use Rattle.std.proofs.Math.Logic.{∥∥₁_map, ∥∥₁_elim, ∥∥₁_prop}
-use Rattle.log_model.specs.Files.{Files, IsSound}
+use Rattle.std.proofs.Common.{Err, ◌≡◌, ◌≢◌, ℕ, ◌-◌, ◌^◌, min, sum_by, List, [], length, Some, inl, inr, refl, sym, ap, ◌∙◌, subst}
+use Rattle.std.proofs.Math.Logic.{∥∥₁_map, ∥∥₁_elim}
+use Rattle.log_model.specs.Files.{IsSound}
 use Rattle.log_model.specs.Damage.{IsDamage}
 use Rattle.log_model.specs.declared.damage.Damage.{Damage}
-use Rattle.log_model.specs.declared.name.NameKind.{NameKind}
-use Rattle.log_model.specs.declared.name.NameKind.TheVariants as kinds
 use Rattle.log_model.proofs.DamageLaws.{sound_undamaged}
 use Rattle.disk_images.specs.Crash.{DiskView, IsImageNow}
 use Rattle.recovery.specs.Alike.{AllAlike}
@@ -20,7 +18,7 @@ use Rattle.made_script.specs.Made.{made_script}
 use Rattle.made_script.specs.Counts.{counts_of}
 use Rattle.made_script.specs.declared.options.LoadOptions.{LoadOptions}
 use Rattle.made_script.specs.declared.counts.CallCounts.{CallCounts}
-use Rattle.run_model.specs.Headline.{AllKeep, KeepsFound}
+use Rattle.run_model.specs.Headline.{KeepsFound}
 use Rattle.run_model.proofs.KeepsFound.{all_keep}
 use Rattle.load_model.specs.Text.{load_text, ended_text}
 use Rattle.load_model.specs.Loaded.{HasLoaded, HasBroken}
@@ -32,7 +30,7 @@ use Rattle.command_ends.specs.Status.{refusal_line, exit_status, IsPrintEnd, IsR
 use Rattle.command_ends.specs.declared.status.Status.{Status}
 use Rattle.command_ends.specs.declared.status.Status.TheVariants as ends
 use Rattle.command_ends.proofs.Endings.{taken_whole, taken_begins, refused_so}
-use Rattle.recover_command.specs.Recovered.{AreSized, RecoverDone}
+use Rattle.recover_command.specs.Recovered.{AreSized}
 use Rattle.recover_command.specs.Refusals.{refused_as}
 use Rattle.recover_command.proofs.Leaving.{recovered}
 use Rattle.load_command.specs.Counted.{cells_of}

@@ -1,5 +1,4 @@
-use Rattle.std.proofs.Common.{◌≡◌, refl, sym, ap, ◌∙◌, subst, inl, inr}
-use Rattle.disk_images.specs.Calls.{Rose}
+use Rattle.std.proofs.Common.{refl, sym, ap, ◌∙◌, subst, inl, inr}
 use Rattle.log_model.specs.Damage.{IsDamage}
 use Rattle.run_model.specs.Headline.{MayKeep}
 use Rattle.command_ends.proofs.Endings.{each_on, no_moment}
