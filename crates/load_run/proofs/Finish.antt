@@ -1,5 +1,6 @@
 -- How the top call ends, by the command that its words name.
 use Rattle.std.proofs.Common.{◌≡◌, ℕ, List, [], ◌∷◌, Option, Some, None, refl, sym, ap, subst, ◌∙◌}
+use Rattle.std.specs.Option.{option_map}
 use Rattle.log_model.specs.declared.name.Name.{Name}
 use Rattle.log_model.specs.declared.damage.Damage.{Damage}
 use Rattle.log_model.specs.declared.damage.Damage.TheVariants as damages
@@ -26,11 +27,11 @@ some_or a None = a
 some_or a (Some b) = b
 
 -- the words name the command that was read
-pub word_is : (x y : CodeWord) (words : Option Word) (word : Word) → Some (meaning_of x) ≡ words → x ≡ y → words ≡ Some word → word ≡ meaning_of y
-word_is x y words word first same is = ap (some_or word) (sym is ∙ sym first) ∙ ap meaning_of same
+pub words_named : (read : Option CodeWord) (x : CodeWord) (words : Option Word) → read ≡ Some x → option_map meaning_of read ≡ words → words ≡ Some (meaning_of x)
+words_named read x words is first = sym first ∙ ap (option_map meaning_of) is
 
-pub words_are : (x y : CodeWord) (words : Option Word) → Some (meaning_of x) ≡ words → x ≡ y → words ≡ Some (meaning_of y)
-words_are x y words first same = sym first ∙ ap (λ (w : CodeWord). Some (meaning_of w)) same
+pub word_named : (read : Option CodeWord) (x : CodeWord) (words : Option Word) (word : Word) → read ≡ Some x → option_map meaning_of read ≡ words → words ≡ Some word → word ≡ meaning_of x
+word_named read x words word is first names = ap (some_or word) (sym names ∙ words_named read x words is first)
 
 -- what may stand at each moment, for the command that was read
 pub moments_of : (words command : Option Word) (script : List ℕ) (v w : DiskView) → words ≡ command → AtEachMoment (MayLeave command script v) v w → AtEachMoment (MayLeave words script v) v w
@@ -89,22 +90,22 @@ sound_dump : (files : Files) (n : ℕ) → ((name : Name) (at : ℕ) → IsDumpe
 sound_dump files n sound (damages.Two first second region number) damage = damage
 sound_dump files n sound (damages.Bytes name at) damage = sound name at damage.0 damage.1
 
-pub show_complete : (word : Word) (status : Status) (script : List ℕ) (files : Files) (d k : Type 0) → word ≡ To_show → IsReadingEnd status → IsDamageOf status (IsLogDamage files (log_name 1))
-    → (status ≡ ends.DiskFault → d) → (status ≡ ends.SinkFault → k) → IsReady word script files → (d → ⊥) → (k → ⊥) → IsCompleteFor word status
-show_complete word status script files d k is ended damage disk sink ready no_disk no_sink =
+pub show_complete : (word : Word) (status : Status) (script : List ℕ) (files left : Files) (d k : Type 0) → word ≡ To_show → IsReadingEnd status → IsDamageOf status (IsLogDamage files (log_name 1))
+    → (status ≡ ends.DiskFault → d) → (status ≡ ends.SinkFault → k) → IsReady word script files left → (d → ⊥) → (k → ⊥) → IsCompleteFor word status
+show_complete word status script files left d k is ended damage disk sink ready no_disk no_sink =
     complete_for word To_show status is
-    (reader_done status (IsLogDamage files (log_name 1)) d k ended damage disk sink (sound_log files (log_name 1) (subst (λ (w : Word). IsReady w script files) is ready)) no_disk no_sink)
+    (reader_done status (IsLogDamage files (log_name 1)) d k ended damage disk sink (sound_log files (log_name 1) (subst (λ (w : Word). IsReady w script files left) is ready)) no_disk no_sink)
 
-pub dump_complete : (word : Word) (n : ℕ) (status : Status) (script : List ℕ) (files : Files) (d k : Type 0) → word ≡ To_dump n → IsReadingEnd status → IsDamageOf status (IsDumpDamage n files)
-    → (status ≡ ends.DiskFault → d) → (status ≡ ends.SinkFault → k) → IsReady word script files → (d → ⊥) → (k → ⊥) → IsCompleteFor word status
-dump_complete word n status script files d k is ended damage disk sink ready no_disk no_sink =
+pub dump_complete : (word : Word) (n : ℕ) (status : Status) (script : List ℕ) (files left : Files) (d k : Type 0) → word ≡ To_dump n → IsReadingEnd status → IsDamageOf status (IsDumpDamage n files)
+    → (status ≡ ends.DiskFault → d) → (status ≡ ends.SinkFault → k) → IsReady word script files left → (d → ⊥) → (k → ⊥) → IsCompleteFor word status
+dump_complete word n status script files left d k is ended damage disk sink ready no_disk no_sink =
     complete_for word (To_dump n) status is
-    (reader_done status (IsDumpDamage n files) d k ended damage disk sink (sound_dump files n (subst (λ (w : Word). IsReady w script files) is ready)) no_disk no_sink)
+    (reader_done status (IsDumpDamage n files) d k ended damage disk sink (sound_dump files n (subst (λ (w : Word). IsReady w script files left) is ready)) no_disk no_sink)
 
-pub recover_complete : (word : Word) (status : Status) (script : List ℕ) (files : Files) (d k : Type 0) → word ≡ To_recover → IsReadingEnd status → IsDamageOf status (IsDamage files)
-    → (status ≡ ends.DiskFault → d) → (status ≡ ends.SinkFault → k) → IsReady word script files → (d → ⊥) → (k → ⊥) → IsCompleteFor word status
-recover_complete word status script files d k is ended damage disk sink ready no_disk no_sink =
-    let wanted : IsReady To_recover script files = subst (λ (w : Word). IsReady w script files) is ready in
+pub recover_complete : (word : Word) (status : Status) (script : List ℕ) (files left : Files) (d k : Type 0) → word ≡ To_recover → IsReadingEnd status → IsDamageOf status (IsDamage files)
+    → (status ≡ ends.DiskFault → d) → (status ≡ ends.SinkFault → k) → IsReady word script files left → (d → ⊥) → (k → ⊥) → IsCompleteFor word status
+recover_complete word status script files left d k is ended damage disk sink ready no_disk no_sink =
+    let wanted : IsReady To_recover script files left = subst (λ (w : Word). IsReady w script files left) is ready in
     complete_for word To_recover status is
     (reader_done status (IsDamage files) d k ended damage disk sink (λ x told. (sound_undamaged files wanted.1 wanted.0).2 x told) no_disk no_sink)
 
@@ -127,8 +128,8 @@ run_reported word status told script files damage is right damaged tells =
     let it : told × (script_fault Run script ≡ None) = has Run refl in
     reported_for word To_run status damage is (tells it.0 it.1 must.0 must.1)
 
-pub run_complete : (word : Word) (status : Status) (script : List ℕ) (files : Files) → word ≡ To_run → IsReady word script files
+pub run_complete : (word : Word) (status : Status) (script : List ℕ) (files left : Files) → word ≡ To_run → IsReady word script files left
     → (script_fault Run script ≡ None → IsSound files → AreSized files → IsRunComplete status) → IsCompleteFor word status
-run_complete word status script files is ready done =
-    let wanted : IsReady To_run script files = subst (λ (w : Word). IsReady w script files) is ready in
+run_complete word status script files left is ready done =
+    let wanted : IsReady To_run script files left = subst (λ (w : Word). IsReady w script files left) is ready in
     complete_for word To_run status is (done wanted.0 wanted.1 wanted.2)

@@ -1,1 +1,3 @@
 pub mod Finish
+pub mod Load
+pub mod Naming

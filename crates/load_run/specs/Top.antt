@@ -22,7 +22,9 @@ use Rattle.dump_command.specs.Dumped.{EndsDump, IsDumped, IsDumpDamage}
 use Rattle.recover_command.specs.Recovered.{EndsRecover, AreSized}
 use Rattle.run_model.specs.Headline.{MayKeep}
 use Rattle.run_command.specs.Ends.{RunEnds, IsRunRefusal, LeavesStore, IsRunComplete}
-use Rattle.load_run.specs.Words.{Word, To_log, To_show, To_dump, To_recover, To_run}
+use Rattle.load_command.specs.Ends.{EndsLoad}
+use Rattle.load_command.specs.Statuses.{LeavesStore as LeavesFullStore}
+use Rattle.load_run.specs.Words.{Word, To_log, To_show, To_dump, To_recover, To_run, To_load}
 
 -- ---- what a command does
 
@@ -33,6 +35,7 @@ Ends To_show status o rose sank = EndsShow status o rose sank
 Ends (To_dump n) status o rose sank = EndsDump n status o rose sank
 Ends To_recover status o rose sank = EndsRecover status o rose sank
 Ends To_run status o rose sank = RunEnds status o sank
+Ends (To_load options) status o rose sank = EndsLoad status options o rose sank
 
 -- ---- the moments of a call
 
@@ -44,11 +47,12 @@ MayLeave (Some To_show) script before J = IsImageNow before J
 MayLeave (Some (To_dump n)) script before J = IsImageNow before J
 MayLeave (Some To_recover) script before J = WasOrAlike before J
 MayLeave (Some To_run) script before J = MayKeep before J
+MayLeave (Some (To_load options)) script before J = MayKeep before J
 
 -- ---- refusals
 
 -- Where the status has a refusal line, that line alone is printed. After a fault of the disk `log` may print its replies,
--- and `run` its report, which it may also do where memory was refused.
+-- `run` its report and `load` its counts; `run` may also print its report where memory was refused.
 abbrev pub ComesWithLine : Option Word → Status → Type 0
 ComesWithLine None status = Unit {0}
 ComesWithLine (Some To_log) status = IsRefusal status
@@ -56,6 +60,7 @@ ComesWithLine (Some To_show) status = Unit {0}
 ComesWithLine (Some (To_dump n)) status = Unit {0}
 ComesWithLine (Some To_recover) status = Unit {0}
 ComesWithLine (Some To_run) status = IsRunRefusal status
+ComesWithLine (Some (To_load options)) status = IsRefusal status
 
 -- the disk stays as it was
 abbrev pub LeavesDisk : Option Word → Status → Type 0
@@ -65,6 +70,17 @@ LeavesDisk (Some To_show) status = Unit {0}
 LeavesDisk (Some (To_dump n)) status = Unit {0}
 LeavesDisk (Some To_recover) status = ⊥
 LeavesDisk (Some To_run) status = LeavesStore status
+LeavesDisk (Some (To_load options)) status = LeavesFullStore status
+
+-- damage is of the files as found, and no file reads otherwise; that of `load` is of the files that it left
+abbrev pub LeavesDamaged : Option Word → Type 0
+LeavesDamaged None = Unit {0}
+LeavesDamaged (Some To_log) = Unit {0}
+LeavesDamaged (Some To_show) = Unit {0}
+LeavesDamaged (Some (To_dump n)) = Unit {0}
+LeavesDamaged (Some To_recover) = Unit {0}
+LeavesDamaged (Some To_run) = Unit {0}
+LeavesDamaged (Some (To_load options)) = ⊥
 
 -- ---- which status comes only where
 
@@ -75,6 +91,7 @@ command_of To_show = None
 command_of (To_dump n) = None
 command_of To_recover = None
 command_of To_run = Some Run
+command_of (To_load options) = None
 
 -- these words take no script: those of no command, too
 abbrev pub TakesNoScript : Option Word → Type 0
@@ -89,13 +106,14 @@ IsWrongAt word script line why = (command : Command) × (command_of word ≡ Som
 abbrev pub HasRightScript : Word → Type 0 → List ℕ → Type 0
 HasRightScript word told script = (command : Command) → command_of word ≡ Some command → told × (script_fault command script ≡ None)
 
--- what is damaged for the command, in the files as found
-abbrev pub IsDamageFor : Word → Files → Damage → Type 0
-IsDamageFor To_log files damage = ⊥
-IsDamageFor To_show files damage = IsLogDamage files (log_name 1) damage
-IsDamageFor (To_dump n) files damage = IsDumpDamage n files damage
-IsDamageFor To_recover files damage = IsDamage files damage
-IsDamageFor To_run files damage = IsDamage files damage
+-- what is damaged for the command, in the files as found; for `load`, in those that it left
+abbrev pub IsDamageFor : Word → (found left : Files) → Damage → Type 0
+IsDamageFor To_log found left damage = ⊥
+IsDamageFor To_show found left damage = IsLogDamage found (log_name 1) damage
+IsDamageFor (To_dump n) found left damage = IsDumpDamage n found damage
+IsDamageFor To_recover found left damage = IsDamage found damage
+IsDamageFor To_run found left damage = IsDamage found damage
+IsDamageFor (To_load options) found left damage = IsDamage left damage
 
 -- damage that the command must tell: `recover` and `run` where the files aren't sound, and then what shows it first
 abbrev pub MustTell : Word → Files → Damage → Type 0
@@ -104,6 +122,7 @@ MustTell To_show files damage = IsLogDamage files (log_name 1) damage
 MustTell (To_dump n) files damage = IsDumpDamage n files damage
 MustTell To_recover files damage = (¬ IsSound files) × IsDamage files damage
 MustTell To_run files damage = (¬ IsSound files) × IsDamage files damage
+MustTell (To_load options) files damage = ⊥
 
 -- the statuses that are decided before damage
 abbrev pub earlier_than_damage : Word → List Status
@@ -112,11 +131,22 @@ earlier_than_damage To_show = ends.DiskFault ∷ []
 earlier_than_damage (To_dump n) = ends.DiskFault ∷ []
 earlier_than_damage To_recover = ends.DiskFault ∷ []
 earlier_than_damage To_run = ends.SourceFault ∷ ends.DiskFault ∷ []
+earlier_than_damage (To_load options) = ends.DiskFault ∷ []
 
 -- where a put found the numbers of its region spent
 abbrev pub IfSpent : Status → Type 0 → Type 0
 IfSpent (ends.NumbersSpent region last) P = P
 IfSpent _ P = Unit {0}
+
+-- whose puts may find them spent; with a disk and a sink that tell, `load`'s never do
+abbrev pub MaySpend : Option Word → Type 0
+MaySpend None = ⊥
+MaySpend (Some To_log) = ⊥
+MaySpend (Some To_show) = ⊥
+MaySpend (Some (To_dump n)) = ⊥
+MaySpend (Some To_recover) = ⊥
+MaySpend (Some To_run) = Unit {0}
+MaySpend (Some (To_load options)) = Unit {0}
 
 abbrev pub WantsEmpty : Word → Type 0
 WantsEmpty To_log = Unit {0}
@@ -124,6 +154,7 @@ WantsEmpty To_show = ⊥
 WantsEmpty (To_dump n) = ⊥
 WantsEmpty To_recover = ⊥
 WantsEmpty To_run = ⊥
+WantsEmpty (To_load options) = Unit {0}
 
 -- these words are of a command that wants an empty store
 abbrev pub NeedsEmpty : Option Word → Type 0
@@ -132,13 +163,14 @@ NeedsEmpty (Some word) = WantsEmpty word
 
 -- ---- completeness
 
--- the script and the store are as the command wants them
-abbrev pub IsReady : Word → List ℕ → Files → Type 0
-IsReady To_log script files = (script_fault Log script ≡ None) × (keys files ≡ [])
-IsReady To_show script files = (at : ℕ) → IsDamagedLog files (log_name 1) at → ⊥
-IsReady (To_dump n) script files = (name : Name) (at : ℕ) → IsDumped files n name → IsDamagedLog files name at → ⊥
-IsReady To_recover script files = IsSound files × AreSized files
-IsReady To_run script files = (script_fault Run script ≡ None) × IsSound files × AreSized files
+-- the script and the store are as the command wants them; of `load`, which reads what it left, also the sizes of those files
+abbrev pub IsReady : Word → List ℕ → (found left : Files) → Type 0
+IsReady To_log script found left = (script_fault Log script ≡ None) × (keys found ≡ [])
+IsReady To_show script found left = (at : ℕ) → IsDamagedLog found (log_name 1) at → ⊥
+IsReady (To_dump n) script found left = (name : Name) (at : ℕ) → IsDumped found n name → IsDamagedLog found name at → ⊥
+IsReady To_recover script found left = IsSound found × AreSized found
+IsReady To_run script found left = (script_fault Run script ≡ None) × IsSound found × AreSized found
+IsReady (To_load options) script found left = (keys found ≡ []) × AreSized left
 
 -- done, or memory was refused; of `run` also that a put found the numbers spent
 abbrev pub IsCompleteFor : Word → Status → Type 0
@@ -147,3 +179,4 @@ IsCompleteFor To_show status = IsComplete status
 IsCompleteFor (To_dump n) status = IsComplete status
 IsCompleteFor To_recover status = IsComplete status
 IsCompleteFor To_run status = IsRunComplete status
+IsCompleteFor (To_load options) status = IsComplete status

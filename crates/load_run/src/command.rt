@@ -7,16 +7,17 @@ ghost use Rattle.log_model.specs.declared.damage.Damage.{Damage as TheDamage};
 ghost use Rattle.log_model.specs.Files.{Same};
 ghost use Rattle.disk_images.specs.Calls.{Rose};
 ghost use Rattle.script_model.specs.Fields.{Why};
-ghost use Rattle.load_run.specs.Words.{Word as TheWord, To_run, word_of};
+ghost use Rattle.load_run.specs.Words.{Word as TheWord, word_of};
 ghost use Rattle.command_ends.specs.Invocation.{invocation, IsUnchanged, GoesOn, AtEachMoment};
 ghost use Rattle.command_ends.specs.Prints.{Prints};
 ghost use Rattle.command_ends.specs.Status.{refusal_line, IfDamaged, IfNotEmpty, IsScriptFault, IsScriptAt, IsDamageOf, IsNotEmpty, IsOrEarlier};
-ghost use Rattle.load_run.specs.Top.{Ends, MayLeave, ComesWithLine, LeavesDisk, TakesNoScript, IsWrongAt, IsDamageFor, MustTell, earlier_than_damage, IfSpent, WantsEmpty, NeedsEmpty, HasRightScript, IsReady, IsCompleteFor};
+ghost use Rattle.load_run.specs.Top.{Ends, MayLeave, ComesWithLine, LeavesDisk, LeavesDamaged, TakesNoScript, IsWrongAt, IsDamageFor, MustTell, earlier_than_damage, IfSpent, MaySpend, WantsEmpty, NeedsEmpty, HasRightScript, IsReady, IsCompleteFor};
 
 use crate::words::{Word, read_words};
 use command_ends::{Outcome, Status, refuse};
 use disk_images::{Disk, Sink, Source};
 use dump_command::dump;
+use load_command::load;
 use log_command::log;
 use recover_command::recover;
 use region_calls::Gate;
@@ -26,8 +27,9 @@ use std::alloc::Global;
 use std::sync::Wait;
 use std::thread::Threads;
 
-/// Carries out the command that the words name: `log`, `show`, `dump NUMBER`, `recover` or `run`. The source has a script, the
-/// sink takes the output. The gate can hold the handlers that `run` has; it changes nothing of what the command says.
+/// Carries out the command that the words name: `log`, `show`, `dump NUMBER`, `recover`, `run` or `load` with its options. The
+/// source has a script, the sink takes the output. The gate can hold the handlers that `run` and `load` have; it changes nothing
+/// of what the command says.
 pub fn run<R: Threads + Wait + Sync, D: Disk + Send, S: Source, K: Sink, G: Gate + Sync>(
     rt: &R,
     alloc: Global,
@@ -47,7 +49,8 @@ pub fn run<R: Threads + Wait + Sync, D: Disk + Send, S: Source, K: Sink, G: Gate
         → Prints (K.taken out.old) (K.taken out.new) text (Rose (K.faults out.old) (K.faults out.new)) }
     ensures leaves_disk { IsTrue D.told → LeavesDisk (word_of (map (λ w. w.now) words.now)) result.status
         → IsUnchanged (D.view disk) (D.view result.disk) }
-    ensures damage_leaves { IsTrue D.told → IfDamaged result.status (Same (D.view disk).files (D.view result.disk).files) }
+    ensures damage_leaves { IsTrue D.told → LeavesDamaged (word_of (map (λ w. w.now) words.now))
+        → IfDamaged result.status (Same (D.view disk).files (D.view result.disk).files) }
     // The images of former moments stay. A stop at any moment leaves only what the command says.
     ensures moments { IsTrue D.told → GoesOn (D.view disk) (D.view result.disk) }
     ensures any_moment { IsTrue S.told → IsTrue D.told → AtEachMoment (MayLeave (word_of (map (λ w. w.now) words.now)) (S.left script.old) (D.view disk))
@@ -63,10 +66,10 @@ pub fn run<R: Threads + Wait + Sync, D: Disk + Send, S: Source, K: Sink, G: Gate
     ensures disk_cause { result.status ≡ Status.DiskFault → Rose (D.faults disk) (D.faults result.disk) }
     ensures sink_cause { result.status ≡ Status.SinkFault → Rose (K.faults out.old) (K.faults out.new) }
     ensures damage_only { IsTrue D.told → (word : TheWord) → word_of (map (λ w. w.now) words.now) ≡ Some word
-        → IsDamageOf result.status (IsDamageFor word (D.view disk).files) }
+        → IsDamageOf result.status (IsDamageFor word (D.view disk).files (D.view result.disk).files) }
     ensures not_empty_only { IsTrue D.told → IsNotEmpty result.status (D.view disk).files }
     ensures not_empty_need { IfNotEmpty result.status (NeedsEmpty (word_of (map (λ w. w.now) words.now))) }
-    ensures spent_only { IfSpent result.status (word_of (map (λ w. w.now) words.now) ≡ Some To_run) }
+    ensures spent_only { IfSpent result.status (MaySpend (word_of (map (λ w. w.now) words.now))) }
 
     // Which status comes exactly where, unless memory was refused or one that is decided before it came.
     ensures usage { word_of (map (λ w. w.now) words.now) ≡ None → IsOrEarlier result.status Status.Usage [] }
@@ -83,12 +86,18 @@ pub fn run<R: Threads + Wait + Sync, D: Disk + Send, S: Source, K: Sink, G: Gate
     // With a command, a script and a store as it wants them, and no fault, it is done or memory was refused, or `run` has
     // spent a region's numbers.
     ensures complete { IsTrue S.told → IsTrue D.told → (word : TheWord) → word_of (map (λ w. w.now) words.now) ≡ Some word
-        → IsReady word (S.left script.old) (D.view disk).files
+        → IsReady word (S.left script.old) (D.view disk).files (D.view result.disk).files
         → (Rose (S.faults script.old) (S.faults script.new) → ⊥) → (Rose (D.faults disk) (D.faults result.disk) → ⊥)
         → (Rose (K.faults out.old) (K.faults out.new) → ⊥) → IsCompleteFor word result.status }
 {
     let mut disk = disk;
-    match read_words(words) {
+    let Ok(word) = read_words(alloc, words) else {
+        return Outcome {
+            status: refuse(out, Status::Memory),
+            disk,
+        };
+    };
+    match word {
         Some(Word::Log) => Outcome {
             status: log(alloc, script, &mut disk, out),
             disk,
@@ -106,6 +115,7 @@ pub fn run<R: Threads + Wait + Sync, D: Disk + Send, S: Source, K: Sink, G: Gate
             disk,
         },
         Some(Word::Run) => run_script(rt, alloc, script, disk, out, gate),
+        Some(Word::Load { options }) => load(rt, alloc, options, disk, out, gate),
         None => Outcome {
             status: refuse(out, Status::Usage),
             disk,

@@ -4,6 +4,8 @@
 #[cfg(test)]
 mod dump_tests;
 #[cfg(test)]
+mod load_tests;
+#[cfg(test)]
 mod log_tests;
 #[cfg(test)]
 mod recover_tests;

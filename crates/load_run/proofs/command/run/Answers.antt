@@ -1,79 +1,92 @@
 use Rattle.disk_images.specs.Calls.{Rose}
-use Rattle.std.proofs.Common.{Some, inl, IsTrue}
+use Rattle.std.proofs.Common.{◌≡◌, rules, Some, inl, refl, IsTrue}
 use Rattle.disk_images.specs.Crash.{IsImageNow}
 use Rattle.wal_split.specs.Moments.{WasOrAlike}
 use Rattle.run_model.specs.Headline.{MayKeep}
-use Rattle.command_ends.proofs.Endings.{time_of}
-use Rattle.load_run.specs.Words.{To_log, To_show, To_dump, To_recover, To_run}
-use Rattle.load_run.proofs.Finish.{word_is, words_are, moments_of, show_reported, dump_reported, recover_reported, run_reported, show_complete, dump_complete, recover_complete, run_complete}
-use Rattle.load_run.specs.declared.words.Word.TheVariants.{Log, Show, Dump, Recover, Run}
+use Rattle.script_model.specs.Outputs.{refused_memory}
+use Rattle.command_ends.proofs.Endings.{no_moment, time_of}
+use Rattle.load_run.specs.Words.{To_log, To_show, To_dump, To_recover, To_run, To_load}
+use Rattle.load_run.proofs.Finish.{word_named, words_named, moments_of, show_reported, dump_reported, recover_reported, run_reported, show_complete, dump_complete, recover_complete, run_complete}
+use Rattle.load_run.specs.Top.{MayLeave}
+use Rattle.load_run.proofs.Load.{load_full, unread_ends, unread_leaves}
+use Rattle.load_run.specs.declared.words.Word.TheVariants.{Log, Show, Dump, Recover, Run, Load}
 use Rattle.load_run.proofs.command.run.Goals as goal
 
 pub returns-in-Some-Show-clause-damage : goal.returns-in-Some-Show-clause-damage
 returns-in-Some-Show-clause-damage g c told word damage names right damaged =
-    show_reported word c.show.result (g.D.Disk.view c.args.disk).files damage (word_is c.in-Some-Show.field-0 Show _ word c.in-Some-Show.ensures c.in-Some-Show.field-0-is names) damaged
+    let read : c.in-Ok.word ≡ Some Show = search rules in
+    show_reported word c.show.result (g.D.Disk.view c.args.disk).files damage (word_named c.in-Ok.word Show _ word read c.in-Ok.ensures.named names) damaged
     (c.show.ensures.damaged told)
 
 pub returns-in-Some-Show-clause-complete : goal.returns-in-Some-Show-clause-complete
 returns-in-Some-Show-clause-complete g c told told_disk word names ready no_source no_disk no_sink =
-    show_complete word c.show.result (g.S.Source.left c.args.script.now) (g.D.Disk.view c.args.disk).files
+    let read : c.in-Ok.word ≡ Some Show = search rules in
+    show_complete word c.show.result (g.S.Source.left c.args.script.now) (g.D.Disk.view c.args.disk).files (g.D.Disk.view c.show.new.disk).files
     (Rose (g.D.Disk.faults c.args.disk) (g.D.Disk.faults c.show.new.disk)) (Rose (g.K.Sink.faults c.args.out.now) (g.K.Sink.faults c.show.new.out))
-    (word_is c.in-Some-Show.field-0 Show _ word c.in-Some-Show.ensures c.in-Some-Show.field-0-is names)
+    (word_named c.in-Ok.word Show _ word read c.in-Ok.ensures.named names)
     c.show.ensures.status (c.show.ensures.damage told_disk) c.show.ensures.disk_cause c.show.ensures.sink_cause ready no_disk no_sink
 
 pub returns-in-Some-Dump-clause-damage : goal.returns-in-Some-Dump-clause-damage
 returns-in-Some-Dump-clause-damage g c told word damage names right damaged =
+    let read : c.in-Ok.word ≡ Some (Dump c.in-Some-Dump.number) = search rules in
     dump_reported word c.in-Some-Dump.number c.dump.result (g.D.Disk.view c.args.disk).files damage
-    (word_is c.in-Some-Dump.field-0 (Dump c.in-Some-Dump.number) _ word c.in-Some-Dump.ensures c.in-Some-Dump.field-0-is names) damaged
+    (word_named c.in-Ok.word (Dump c.in-Some-Dump.number) _ word read c.in-Ok.ensures.named names) damaged
     (c.dump.ensures.damaged told)
 
 pub returns-in-Some-Dump-clause-complete : goal.returns-in-Some-Dump-clause-complete
 returns-in-Some-Dump-clause-complete g c told told_disk word names ready no_source no_disk no_sink =
-    dump_complete word c.in-Some-Dump.number c.dump.result (g.S.Source.left c.args.script.now) (g.D.Disk.view c.args.disk).files
+    let read : c.in-Ok.word ≡ Some (Dump c.in-Some-Dump.number) = search rules in
+    dump_complete word c.in-Some-Dump.number c.dump.result (g.S.Source.left c.args.script.now) (g.D.Disk.view c.args.disk).files (g.D.Disk.view c.dump.new.disk).files
     (Rose (g.D.Disk.faults c.args.disk) (g.D.Disk.faults c.dump.new.disk)) (Rose (g.K.Sink.faults c.args.out.now) (g.K.Sink.faults c.dump.new.out))
-    (word_is c.in-Some-Dump.field-0 (Dump c.in-Some-Dump.number) _ word c.in-Some-Dump.ensures c.in-Some-Dump.field-0-is names)
+    (word_named c.in-Ok.word (Dump c.in-Some-Dump.number) _ word read c.in-Ok.ensures.named names)
     c.dump.ensures.status (c.dump.ensures.damage told_disk) c.dump.ensures.disk_cause c.dump.ensures.sink_cause ready no_disk no_sink
 
 pub returns-in-Some-Log-clause-any_moment : goal.returns-in-Some-Log-clause-any_moment
 returns-in-Some-Log-clause-any_moment g c told told_disk =
+    let read : c.in-Ok.word ≡ Some Log = search rules in
     moments_of _ (Some To_log) (g.S.Source.left c.args.script.now) (g.D.Disk.view c.args.disk) (g.D.Disk.view c.log.new.disk)
-    (words_are c.in-Some-Log.field-0 Log _ c.in-Some-Log.ensures c.in-Some-Log.field-0-is) (c.log.ensures.any_moment told told_disk)
+    (words_named c.in-Ok.word Log _ read c.in-Ok.ensures.named) (c.log.ensures.any_moment told told_disk)
 
 pub returns-in-Some-Show-clause-moments : goal.returns-in-Some-Show-clause-moments
 returns-in-Some-Show-clause-moments g c told = time_of (IsImageNow (g.D.Disk.view c.args.disk)) (g.D.Disk.view c.args.disk) (g.D.Disk.view c.show.new.disk) (c.show.ensures.moments told)
 
 pub returns-in-Some-Show-clause-any_moment : goal.returns-in-Some-Show-clause-any_moment
 returns-in-Some-Show-clause-any_moment g c told told_disk =
+    let read : c.in-Ok.word ≡ Some Show = search rules in
     moments_of _ (Some To_show) (g.S.Source.left c.args.script.now) (g.D.Disk.view c.args.disk) (g.D.Disk.view c.show.new.disk)
-    (words_are c.in-Some-Show.field-0 Show _ c.in-Some-Show.ensures c.in-Some-Show.field-0-is) (c.show.ensures.moments told_disk)
+    (words_named c.in-Ok.word Show _ read c.in-Ok.ensures.named) (c.show.ensures.moments told_disk)
 
 pub returns-in-Some-Dump-clause-moments : goal.returns-in-Some-Dump-clause-moments
 returns-in-Some-Dump-clause-moments g c told = time_of (IsImageNow (g.D.Disk.view c.args.disk)) (g.D.Disk.view c.args.disk) (g.D.Disk.view c.dump.new.disk) (c.dump.ensures.moments told)
 
 pub returns-in-Some-Dump-clause-any_moment : goal.returns-in-Some-Dump-clause-any_moment
 returns-in-Some-Dump-clause-any_moment g c told told_disk =
+    let read : c.in-Ok.word ≡ Some (Dump c.in-Some-Dump.number) = search rules in
     moments_of _ (Some (To_dump c.in-Some-Dump.number)) (g.S.Source.left c.args.script.now) (g.D.Disk.view c.args.disk) (g.D.Disk.view c.dump.new.disk)
-    (words_are c.in-Some-Dump.field-0 (Dump c.in-Some-Dump.number) _ c.in-Some-Dump.ensures c.in-Some-Dump.field-0-is) (c.dump.ensures.moments told_disk)
+    (words_named c.in-Ok.word (Dump c.in-Some-Dump.number) _ read c.in-Ok.ensures.named) (c.dump.ensures.moments told_disk)
 
 pub returns-in-Some-Recover-clause-moments : goal.returns-in-Some-Recover-clause-moments
 returns-in-Some-Recover-clause-moments g c told = time_of (WasOrAlike (g.D.Disk.view c.args.disk)) (g.D.Disk.view c.args.disk) (g.D.Disk.view c.recover.new.disk) (c.recover.ensures.any_moment told)
 
 pub returns-in-Some-Recover-clause-any_moment : goal.returns-in-Some-Recover-clause-any_moment
 returns-in-Some-Recover-clause-any_moment g c told told_disk =
+    let read : c.in-Ok.word ≡ Some Recover = search rules in
     moments_of _ (Some To_recover) (g.S.Source.left c.args.script.now) (g.D.Disk.view c.args.disk) (g.D.Disk.view c.recover.new.disk)
-    (words_are c.in-Some-Recover.field-0 Recover _ c.in-Some-Recover.ensures c.in-Some-Recover.field-0-is) (c.recover.ensures.any_moment told_disk)
+    (words_named c.in-Ok.word Recover _ read c.in-Ok.ensures.named) (c.recover.ensures.any_moment told_disk)
 
 pub returns-in-Some-Recover-clause-complete : goal.returns-in-Some-Recover-clause-complete
 returns-in-Some-Recover-clause-complete g c told told_disk word names ready no_source no_disk no_sink =
-    recover_complete word c.recover.result (g.S.Source.left c.args.script.now) (g.D.Disk.view c.args.disk).files
+    let read : c.in-Ok.word ≡ Some Recover = search rules in
+    recover_complete word c.recover.result (g.S.Source.left c.args.script.now) (g.D.Disk.view c.args.disk).files (g.D.Disk.view c.recover.new.disk).files
     (Rose (g.D.Disk.faults c.args.disk) (g.D.Disk.faults c.recover.new.disk)) (Rose (g.K.Sink.faults c.args.out.now) (g.K.Sink.faults c.recover.new.out))
-    (word_is c.in-Some-Recover.field-0 Recover _ word c.in-Some-Recover.ensures c.in-Some-Recover.field-0-is names)
+    (word_named c.in-Ok.word Recover _ word read c.in-Ok.ensures.named names)
     c.recover.ensures.status (c.recover.ensures.damage told_disk) c.recover.ensures.disk_cause c.recover.ensures.sink_cause ready no_disk no_sink
 
 pub returns-in-Some-Recover-clause-damage : goal.returns-in-Some-Recover-clause-damage
 returns-in-Some-Recover-clause-damage g c told word damage names right damaged =
+    let read : c.in-Ok.word ≡ Some Recover = search rules in
     recover_reported word c.recover.result (g.D.Disk.view c.args.disk).files damage
-    (word_is c.in-Some-Recover.field-0 Recover _ word c.in-Some-Recover.ensures c.in-Some-Recover.field-0-is names) damaged
+    (word_named c.in-Ok.word Recover _ word read c.in-Ok.ensures.named names) damaged
     (c.recover.ensures.damaged told damage)
 
 pub returns-in-Some-Run-clause-moments : goal.returns-in-Some-Run-clause-moments
@@ -82,20 +95,50 @@ returns-in-Some-Run-clause-moments g c told =
 
 pub returns-in-Some-Run-clause-any_moment : goal.returns-in-Some-Run-clause-any_moment
 returns-in-Some-Run-clause-any_moment g c told told_disk =
+    let read : c.in-Ok.word ≡ Some Run = search rules in
     moments_of _ (Some To_run) (g.S.Source.left c.args.script.now) (g.D.Disk.view c.args.disk) (g.D.Disk.view c.run_script.result.disk)
-    (words_are c.in-Some-Run.field-0 Run _ c.in-Some-Run.ensures c.in-Some-Run.field-0-is) (c.run_script.ensures.any_moment told_disk)
+    (words_named c.in-Ok.word Run _ read c.in-Ok.ensures.named) (c.run_script.ensures.any_moment told_disk)
 
 pub returns-in-Some-Run-clause-damage : goal.returns-in-Some-Run-clause-damage
 returns-in-Some-Run-clause-damage g c told_disk word damage names right damaged =
+    let read : c.in-Ok.word ≡ Some Run = search rules in
     run_reported word c.run_script.result.status (IsTrue g.S.Source.told) (g.S.Source.left c.args.script.now) (g.D.Disk.view c.args.disk).files damage
-    (word_is c.in-Some-Run.field-0 Run _ word c.in-Some-Run.ensures c.in-Some-Run.field-0-is names) right damaged
+    (word_named c.in-Ok.word Run _ word read c.in-Ok.ensures.named names) right damaged
     (λ told rights. c.run_script.ensures.damaged told told_disk damage rights)
 
 pub returns-in-Some-Run-clause-complete : goal.returns-in-Some-Run-clause-complete
 returns-in-Some-Run-clause-complete g c told told_disk word names ready no_source no_disk no_sink =
-    run_complete word c.run_script.result.status (g.S.Source.left c.args.script.now) (g.D.Disk.view c.args.disk).files
-    (word_is c.in-Some-Run.field-0 Run _ word c.in-Some-Run.ensures c.in-Some-Run.field-0-is names) ready
+    let read : c.in-Ok.word ≡ Some Run = search rules in
+    run_complete word c.run_script.result.status (g.S.Source.left c.args.script.now) (g.D.Disk.view c.args.disk).files (g.D.Disk.view c.run_script.result.disk).files
+    (word_named c.in-Ok.word Run _ word read c.in-Ok.ensures.named names) ready
     (λ right sound sized. c.run_script.ensures.complete told told_disk right sound sized no_source no_disk no_sink)
 
 pub returns-in-None-clause-usage : goal.returns-in-None-clause-usage
-returns-in-None-clause-usage g c none = inl c.refuse.ensures.status
+returns-in-None-clause-usage g c none = inl c.refuse-in-None.ensures.status
+
+-- ---- load
+
+pub returns-in-Some-Load-clause-moments : goal.returns-in-Some-Load-clause-moments
+returns-in-Some-Load-clause-moments g c told =
+    time_of (MayKeep (g.D.Disk.view c.args.disk)) (g.D.Disk.view c.args.disk) (g.D.Disk.view c.load.result.disk) (c.load.ensures.any_moment told)
+
+pub returns-in-Some-Load-clause-any_moment : goal.returns-in-Some-Load-clause-any_moment
+returns-in-Some-Load-clause-any_moment g c told told_disk =
+    let read : c.in-Ok.word ≡ Some (Load c.in-Some-Load.options) = search rules in
+    moments_of _ (Some (To_load c.in-Some-Load.options)) (g.S.Source.left c.args.script.now) (g.D.Disk.view c.args.disk) (g.D.Disk.view c.load.result.disk)
+    (words_named c.in-Ok.word (Load c.in-Some-Load.options) _ read c.in-Ok.ensures.named) (c.load.ensures.any_moment told_disk)
+
+pub returns-in-Some-Load-clause-not_empty : goal.returns-in-Some-Load-clause-not_empty
+returns-in-Some-Load-clause-not_empty g c told word name rest names wants right is = load_full c.load.result.status name (c.load.ensures.full told name rest is)
+
+-- ---- words that weren't read
+
+pub returns-in_default-clause-ends : goal.returns-in_default-clause-ends
+returns-in_default-clause-ends g c told told_disk told_sink word names =
+    unread_ends word c.refuse.result (g.S.Source.left c.args.script.now) (g.K.Sink.taken c.args.out.now) (g.K.Sink.taken c.refuse.new.sink) (g.D.Disk.view c.args.disk) _ _
+    c.refuse.ensures.status (c.refuse.ensures.prints told_sink refused_memory refl)
+
+pub returns-in_default-clause-any_moment : goal.returns-in_default-clause-any_moment
+returns-in_default-clause-any_moment g c told told_disk =
+    no_moment (MayLeave _ (g.S.Source.left c.args.script.now) (g.D.Disk.view c.args.disk)) (g.D.Disk.view c.args.disk)
+    (unread_leaves _ (g.S.Source.left c.args.script.now) (g.D.Disk.view c.args.disk))

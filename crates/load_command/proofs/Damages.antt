@@ -1,0 +1,57 @@
+-- Damage that is told is of the files that were left.
+use Rattle.std.proofs.Common.{Err, ◌≡◌, List, sym, subst, inl, inr}
+use Rattle.log_model.specs.Files.{Files}
+use Rattle.log_model.specs.Damage.{IsDamage}
+use Rattle.log_model.specs.declared.damage.Damage.{Damage}
+use Rattle.found_files.specs.Refusal.{IfDamage}
+use Rattle.found_files.specs.declared.refusal.SplitRefusal.{SplitRefusal}
+use Rattle.found_files.specs.declared.refusal.SplitRefusal.TheVariants as refusals
+use Rattle.region_replay.specs.Ready.{Found}
+use Rattle.region_calls.specs.declared.refusal.StartWhy.{StartWhy}
+use Rattle.region_calls.specs.declared.refusal.StartWhy.TheVariants as whys
+use Rattle.command_ends.specs.Status.{IsDamageOf, IsPrintEnd}
+use Rattle.command_ends.specs.declared.status.Status.{Status}
+use Rattle.command_ends.specs.declared.status.Status.TheVariants as ends
+use Rattle.recover_command.specs.Refusals.{refused_as}
+use Rattle.run_command.specs.Carried.{IfFoundDamaged}
+use Rattle.run_command.specs.Ends.{status_for}
+use Rattle.load_command.specs.Statuses.{IsDecided, IsPrintedAs, IsStoreRefusal}
+
+-- a status of which no damage is told
+pub other_status : (status it : Status) (P : Damage → Type 0) → status ≡ it → IsDamageOf it P → IsDamageOf status P
+other_status status it P is told = subst (λ (s : Status). IsDamageOf s P) (sym is) told
+
+pub print_damage : (status : Status) (P : Damage → Type 0) → IsPrintEnd status → IsDamageOf status P
+print_damage (ends.Damaged damage) P may = absurd may
+print_damage _ P may = tt
+
+pub first_damage : (status : Status) (P : Damage → Type 0) → IsStoreRefusal status → IsDamageOf status P
+first_damage (ends.Damaged damage) P may = absurd may
+first_damage _ P may = tt
+
+decided_damage : (status : Status) (P : Damage → Type 0) → IsDecided status → IsDamageOf status P
+decided_damage (ends.Damaged damage) P may = absurd may
+decided_damage _ P may = tt
+
+pub printed_damage : (status result : Status) (P : Damage → Type 0) → IsDecided status → IsPrintedAs status result → IsDamageOf result P
+printed_damage status result P may printed = elim printed [
+  | inl same ↦ other_status result status P same (decided_damage status P may)
+  | inr either ↦ elim either [
+    | inl memory ↦ other_status result ends.Memory P memory tt
+    | inr sink ↦ other_status result ends.SinkFault P sink tt
+  ]
+]
+
+-- what was found is what is left
+here : (damage : Damage) (old new : Files) → IsDamage old damage × (new ≡ old) → IsDamage new damage
+here damage old new told = subst (λ (f : Files). IsDamage f damage) (sym told.1) told.0
+
+pub refused_damage : (refusal : SplitRefusal) (old new : Files) → IfDamage {T = List Found} (Err refusal) (λ damage. IsDamage old damage × (new ≡ old)) → IsDamageOf (refused_as refusal) (IsDamage new)
+refused_damage refusals.Memory old new told = tt
+refused_damage refusals.DiskFault old new told = tt
+refused_damage (refusals.Damaged damage) old new told = here damage old new told
+
+pub opened_damage : (why : StartWhy) (old new : Files) → IfFoundDamaged why (λ damage. IsDamage old damage × (new ≡ old)) → IsDamageOf (status_for why) (IsDamage new)
+opened_damage whys.Memory old new told = tt
+opened_damage whys.DiskFault old new told = tt
+opened_damage (whys.Damaged damage) old new told = here damage old new told

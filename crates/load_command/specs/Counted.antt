@@ -1,0 +1,7 @@
+-- Cells of regions that were recovered.
+use Rattle.std.specs.Prelude.{ℕ}
+use Rattle.std.specs.FinMap.{len}
+use Rattle.region_replay.specs.Ready.{Found}
+
+abbrev pub cells_of : Found → ℕ
+cells_of x = len x.base.content

@@ -1,0 +1,51 @@
+-- How the top call ends for a load whose store isn't empty, and where no memory was found to read the words.
+use Rattle.std.proofs.Common.{◌≡◌, ℕ, zero, suc, List, [], ◌∷◌, Contains, Option, Some, None, inl, inr, sym, subst, arith}
+use Rattle.log_model.specs.declared.name.Name.{Name}
+use Rattle.log_model.specs.Files.{Files}
+use Rattle.disk_images.specs.Crash.{DiskView, IsImageNow}
+use Rattle.script_model.specs.Outputs.{refused_memory}
+use Rattle.run_model.specs.Headline.{KeepsFound}
+use Rattle.command_ends.specs.Invocation.{invocation}
+use Rattle.command_ends.specs.Prints.{Prints}
+use Rattle.command_ends.specs.Status.{IsOrEarlier}
+use Rattle.command_ends.specs.declared.status.Status.{Status}
+use Rattle.command_ends.specs.declared.status.Status.TheVariants as ends
+use Rattle.command_ends.proofs.Endings.{refused_so, same_disk}
+use Rattle.load_run.specs.Words.{Word, To_log, To_show, To_dump, To_recover, To_run, To_load}
+use Rattle.load_run.specs.Top.{Ends, MayLeave}
+
+-- the same, where a fault of the source is allowed for too
+pub load_full : (status : Status) (name : Name) → IsOrEarlier status (ends.NotEmpty name) (ends.DiskFault ∷ []) → IsOrEarlier status (ends.NotEmpty name) (ends.SourceFault ∷ ends.DiskFault ∷ [])
+load_full status name (inl is) = inl is
+load_full status name (inr earlier) = inr (wider earlier)
+  where
+    wider : Contains (ends.Memory ∷ ends.DiskFault ∷ []) status → Contains (ends.Memory ∷ ends.SourceFault ∷ ends.DiskFault ∷ []) status
+    wider (zero, low, is) = (0, omega arith, is)
+    wider (suc zero, low, is) = (2, omega arith, is)
+    wider (suc (suc i), low, is) = absurd (omega (arith, low))
+
+-- ---- words that weren't read
+
+untouched : (v : DiskView) → KeepsFound v v
+untouched v J image = ∣ inl image ∣₁
+
+pub unread_ends : (word : Word) (status : Status) (script had has : List ℕ) (v : DiskView) (rose sank : Type 0) → status ≡ ends.Memory → Prints had has refused_memory sank
+    → Ends word status (invocation script v v had has) rose sank
+unread_ends word status script had has v rose sank is printed = subst (λ (s : Status). Ends word s (invocation script v v had has) rose sank) (sym is) (go word)
+  where
+    go : (w : Word) → Ends w ends.Memory (invocation script v v had has) rose sank
+    go To_log = (refused_so had has refused_memory sank printed, same_disk v)
+    go To_show = (refused_so had has refused_memory sank printed, same_disk v)
+    go (To_dump n) = (refused_so had has refused_memory sank printed, same_disk v)
+    go To_recover = (refused_so had has refused_memory sank printed, λ J image. inl image)
+    go To_run = inr (refused_so had has refused_memory sank printed, same_disk v)
+    go (To_load options) = (refused_so had has refused_memory sank printed, untouched v)
+
+pub unread_leaves : (words : Option Word) (script : List ℕ) (v : DiskView) (J : Files) → IsImageNow v J → MayLeave words script v J
+unread_leaves None script v J image = image
+unread_leaves (Some To_log) script v J image = inl image
+unread_leaves (Some To_show) script v J image = image
+unread_leaves (Some (To_dump n)) script v J image = image
+unread_leaves (Some To_recover) script v J image = inl image
+unread_leaves (Some To_run) script v J image = ∣ inl image ∣₁
+unread_leaves (Some (To_load options)) script v J image = ∣ inl image ∣₁
