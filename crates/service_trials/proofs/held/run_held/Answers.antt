@@ -21,7 +21,7 @@ start-requires-clause-opened g c told =
     ∣ (λ r. 0, subst (λ x. IsOpened (view_of x) (one ∷ []) (λ r. 0)) (sym c.new-disk.ensures) (opened_empty (view_of c.in_ok-mem.mem) (one ∷ []) c.in_ok-mem.ensures.empty c.in_ok-mem.ensures.none_gone c.in_ok-mem.ensures.quiet (λ m has. ap (λ (b : RegionBase). b.flushed) (is_one m has)))) ∣₁
 
 pub over_held-ended-requires-clause-device : goal.over_held-ended-requires-clause-device
-over_held-ended-requires-clause-device g c =
+over_held-ended-requires-clause-device g c κs within =
     let d = c.in-Ok-start.device in
     record {
       unbroken = c.in-Ok-start.ensures.unbroken;
@@ -34,7 +34,7 @@ over_held-ended-requires-clause-device g c =
     }
 
 pub over_held-ended-requires-clause-whole : goal.over_held-ended-requires-clause-whole
-over_held-ended-requires-clause-whole g c =
+over_held-ended-requires-clause-whole g c κs within =
     let d = c.in-Ok-start.device in
     let v = view_of (watched c.new-disk.result) in
     let opened = subst (λ x. IsOpened (view_of x) (one ∷ []) (λ r. 0)) (sym c.new-disk.ensures) (opened_empty (view_of c.in_ok-mem.mem) (one ∷ []) c.in_ok-mem.ensures.empty c.in_ok-mem.ensures.none_gone c.in_ok-mem.ensures.quiet (λ m has. ap (λ (b : RegionBase). b.flushed) (is_one m has))) in
