@@ -1,1 +1,3 @@
+pub mod Captured
 pub mod Empty
+pub mod Sent

@@ -24,7 +24,7 @@ use std::test::Fail as TestFail;
 pub(crate) type TestDisk = MemDisk;
 
 /// Region 1, of which nothing is stored.
-const ONE_REGION: [RegionBase; 1] = [RegionBase {
+pub(crate) const ONE_REGION: [RegionBase; 1] = [RegionBase {
     region: 1,
     flushed: 0,
     next_store: 1,

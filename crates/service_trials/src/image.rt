@@ -123,3 +123,30 @@ pub(crate) fn left_by_crashes(alloc: Global, disk: &MemDisk) -> Result<(u64, u64
     }
     Ok((fewest, most))
 }
+
+/// Whether the entries of a region in a log are those of the numbers `from` to `to`, without `to`, in their order.
+pub(crate) fn has_numbers(
+    alloc: Global,
+    disk: &mut MemDisk,
+    log: u64,
+    region: u32,
+    from: u64,
+    to: u64,
+) -> Result<bool, TestFail> {
+    let name = Name {
+        kind: NameKind::Log,
+        region: 0,
+        number: log,
+    };
+    let text = log_text(alloc, disk, name)?;
+    let mut next = from;
+    for entry in text.entries.as_slice() {
+        if entry.region == region {
+            if entry.number != next {
+                return Ok(false);
+            }
+            next = next.wrapping_add(1);
+        }
+    }
+    Ok(next == to)
+}

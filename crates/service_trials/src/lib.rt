@@ -1,9 +1,12 @@
-//! Trials of the log service on a disk in memory that tells what it holds: what one commit costs, a flush whose stage
-//! fills, and a fault of each disk call with what a crash leaves then. A library of tests alone, at the top, so that no crate waits for it.
+//! Trials of the log service on a disk in memory that tells what it holds: what one commit costs, moves beside another thread's commit, a roll
+//! behind loads, a flush whose stage fills, and a fault of each disk call with what a crash leaves then. A library of tests alone, at the top,
+//! so that no crate waits for it.
 #![tactic(auto)]
 
 #[cfg(test)]
 mod bench;
+#[cfg(test)]
+mod beside;
 #[cfg(test)]
 mod entries;
 #[cfg(test)]
@@ -11,10 +14,18 @@ mod faults;
 #[cfg(test)]
 mod filling;
 #[cfg(test)]
+mod held;
+#[cfg(test)]
 mod image;
 #[cfg(test)]
+mod overlap;
+#[cfg(test)]
 mod puts;
+#[cfg(test)]
+mod rolls;
 #[cfg(test)]
 mod trial;
 #[cfg(test)]
 mod turns;
+#[cfg(test)]
+mod watch;

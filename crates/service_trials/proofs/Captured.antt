@@ -1,0 +1,21 @@
+-- A closure may go to another thread where each thing that it captures may.
+use denote.Exit.{Kept}
+use denote.Param.{arg, param}
+use denote.Param.Send.{AllSend, IsSend, arg_send, param_send}
+use denote.Param.SendFields.{FieldsHave, as_row_send, declared_send}
+use denote.RattleType.{RattleType}
+use denote.Struct.Field.{row_field}
+use denote.Struct.Tuple.{TupleAt, parts, type_at}
+use mathlib.Core.List.{List, [], ◌∷◌}
+use mir.Syntax.{Sym, Ty}
+use Prim.Native.Nat.{ℕ}
+
+all_send : (Ts : List RattleType) → AllSend Ts → FieldsHave IsSend (parts Ts)
+all_send [] s = tt
+all_send (T ∷ Ts) s = (as_row_send (row_field T) s.0, all_send Ts s.1)
+
+module _ (i : ℕ) (δ : Ty) (k : Kept) (ν : Sym) where
+  pub four_send : (A B C D : RattleType) → IsSend A → IsSend B → IsSend C → IsSend D → IsSend (param i (arg δ k (TupleAt ν (A ∷ B ∷ C ∷ D ∷ []))))
+  four_send A B C D a b c d =
+      let Ts = A ∷ B ∷ C ∷ D ∷ [] in
+      param_send i (arg δ k (TupleAt ν Ts)) (arg_send δ k (TupleAt ν Ts) (declared_send (type_at ν Ts) (all_send Ts (a, (b, (c, (d, tt)))))))

@@ -1,0 +1,16 @@
+use Rattle.std.proofs.Common.{[], ◌∷◌}
+use Rattle.log_device.specs.Whole.{disk_of}
+use Rattle.disk_fakes.specs.Watch.{watched}
+use Rattle.disk_fakes.specs.Views.{view_of, faults_of}
+use Rattle.service_trials.proofs.held.run_held.Given as goal
+
+abbrev pub ghosts-over_held : goal.ghosts-over_held
+ghosts-over_held g a = record {
+  ring = a.rings.items.ring.id;
+  hand = a.rings.loads.ring.id;
+  lasts = 0 ∷ [];
+  base = (view_of (watched a._found.value)).files;
+  start = (view_of (watched (disk_of a.device))).clock;
+  faults = faults_of (watched (disk_of a.device));
+  past = (view_of (watched (disk_of a.device))).image;
+}
