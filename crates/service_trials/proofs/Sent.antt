@@ -1,6 +1,6 @@
--- A service on a watched disk may be shared by threads, and a seat of it may go to another thread.
+-- A watched disk, and a seat of a service, may go to another thread.
 use denote.RattleType.{RattleType}
-use denote.Param.Send.{IsSend, IsSync, sendable}
+use denote.Param.Send.{IsSend, sendable}
 use denote.Param.SendFields.{as_row_send, declared_send}
 use denote.Struct.Field.{row_field}
 use Rattle.std.proofs.Crossing.{crosses, Vec-send}
@@ -13,13 +13,9 @@ use Rattle.disk_fakes.specs.contracts.table.FileTable as tables
 use Rattle.disk_fakes.specs.contracts.watch_disk.WatchDisk as watch
 use Rattle.log_berth.proofs.seats.LogSeat.TheSendSync as berth_seat
 use Rattle.log_service.specs.contracts.seats.LogSeat as seats
-use Rattle.service_trials.specs.contracts.watch.Watch as watching
 
 pub log_seat_send : IsSend seats.the_row
 log_seat_send = search (berth_seat.the_send, sendable, crosses) fits 5000 depth 30
-
-pub watch_sync : IsSync watching.the_row
-watch_sync = search (sendable, crosses) fits 5000 depth 30
 
 op_send : IsSend ops.the_row
 op_send = search (sendable, crosses) fits 5000 depth 30

@@ -1,10 +1,16 @@
 use denote.Exit.{no}
 use denote.Param.{param}
-use denote.Param.Send.{shr_send, mut_send}
+use denote.Param.Send.{IsSync, sendable, shr_send, mut_send}
+use Rattle.std.proofs.Crossing.{crosses}
 use Rattle.log_service.proofs.Crossing.{service_sync}
 use Rattle.service_trials.proofs.Captured.{four_send}
-use Rattle.service_trials.proofs.Sent.{disk_send, log_seat_send, watch_sync}
+use Rattle.service_trials.proofs.Sent.{disk_send, log_seat_send}
+use Rattle.service_trials.specs.contracts.watch.Watch as watching
 use Rattle.service_trials.proofs.beside.while_held.Goals as goal
+
+-- what two threads look at may be shared
+watch_sync : IsSync watching.the_row
+watch_sync = search (sendable, crosses) fits 5000 depth 30
 
 pub join_mut-commit-requires-send-F : goal.join_mut-commit-requires-send-F
 join_mut-commit-requires-send-F g c κs within =
