@@ -21,7 +21,9 @@ impl<T: OfRegion> Ring<T> {
         requires order { T.in_order (view pass.old.pass).lasts ((view pass.old.pass).pushed ++ item ∷ []) }
         requires follows { Follows T.number (last_pushed T.number pass.old) item }
         ensures same { (pass.new.pass.table_id ≡ pass.old.pass.table_id) × (pass.new.region ≡ pass.old.region) }
-        ensures pushed { MatchResult result (λ _. HasPushed (view pass.old.pass) item (view pass.new.pass)) (λ full. (full.item ≡ item) × (view pass.new.pass ≡ view pass.old.pass) × Held self.now.capacity (Possible T.place T.number T.is_whole T.in_order (view pass.old.pass))) }
+        ensures pushed { MatchResult result (λ _. HasPushed (view pass.old.pass) item (view pass.new.pass))
+            (λ full. (full.item ≡ item) × (view pass.new.pass ≡ view pass.old.pass)
+            × Held self.now.capacity (Possible T.place T.number T.is_whole T.in_order (view pass.old.pass))) }
     {
         match self.queue.push_as::<Push<T>, R>(rt, &mut pass.pass, item) {
             Ok(()) => {
@@ -36,7 +38,9 @@ impl<T: OfRegion> Ring<T> {
     pub fn pop<R: Wait>(&self, rt: &R, pass: &mut ConsumerPass<T>) -> Option<T>
         requires ring { pass.old.pass.table_id ≡ self.now.id }
         ensures same { pass.new.pass.table_id ≡ pass.old.pass.table_id }
-        ensures popped { MatchOption result ((view pass.new.pass ≡ view pass.old.pass) × Held 0 (Possible T.place T.number T.is_whole T.in_order (view pass.old.pass))) (λ item. HasPopped T.place T.number T.is_whole T.in_order (view pass.old.pass) item (view pass.new.pass)) }
+        ensures popped { MatchOption result ((view pass.new.pass ≡ view pass.old.pass)
+            × Held 0 (Possible T.place T.number T.is_whole T.in_order (view pass.old.pass)))
+            (λ item. HasPopped T.place T.number T.is_whole T.in_order (view pass.old.pass) item (view pass.new.pass)) }
     {
         let item = self.queue.pop_as::<Pop<T>, R>(rt, &mut pass.pass)?;
         let at = item.region() as usize - 1;

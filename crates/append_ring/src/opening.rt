@@ -46,7 +46,8 @@ fn next_pass<T: OfRegion>(
     requires pass { IsPassOf queue.now pass.old × (view pass.old ≡ knows 0 true made lasts.now [] []) }
     requires room { (made < length lasts.now) × (length lasts.now ≤ 64) }
     ensures pass { IsPassOf queue.now pass.new × (view pass.new ≡ knows 0 true (made + 1) lasts.now [] []) }
-    ensures new { (result.pass.table_id ≡ queue.now.table.shared.table_id) × (result.region ≡ made + 1) × (view result.pass ≡ knows (made + 1) false 0 lasts.now [] []) }
+    ensures new { (result.pass.table_id ≡ queue.now.table.shared.table_id) × (result.region ≡ made + 1)
+        × (view result.pass ≡ knows (made + 1) false 0 lasts.now [] []) }
 {
     let _ = lasts;
     let region = queue.another::<NextRegion>(pass);
@@ -62,7 +63,9 @@ impl<T: OfRegion> Ring<T> {
     pub fn new(alloc: Global, lasts: &[u64]) -> Result<RingParts<T>, NoMemory>
         requires regions { (0 < length lasts.now) × (length lasts.now ≤ 64) }
         ensures ring { IfOk result (λ parts. parts.ring.capacity ≡ 1024) }
-        ensures consumer { IfOk result (λ parts. (parts.consumer.pass.table_id ≡ parts.ring.id) × (view parts.consumer.pass ≡ knows 0 true (length lasts.now) lasts.now [] [])) }
+        ensures consumer { IfOk result
+            (λ parts. (parts.consumer.pass.table_id ≡ parts.ring.id)
+            × (view parts.consumer.pass ≡ knows 0 true (length lasts.now) lasts.now [] [])) }
         ensures passes { IfOk result (λ parts. (length parts.passes ≡ length lasts.now) × AreNew parts.ring.id lasts.now 0 parts.passes) }
     {
         Ring::of_capacity(alloc, lasts, CAPACITY)
@@ -77,7 +80,9 @@ impl<T: OfRegion> Ring<T> {
         requires regions { (0 < length lasts.now) × (length lasts.now ≤ 64) }
         requires capacity { (0 < capacity) × (capacity ≤ 1024) }
         ensures ring { IfOk result (λ parts. parts.ring.capacity ≡ capacity) }
-        ensures consumer { IfOk result (λ parts. (parts.consumer.pass.table_id ≡ parts.ring.id) × (view parts.consumer.pass ≡ knows 0 true (length lasts.now) lasts.now [] [])) }
+        ensures consumer { IfOk result
+            (λ parts. (parts.consumer.pass.table_id ≡ parts.ring.id)
+            × (view parts.consumer.pass ≡ knows 0 true (length lasts.now) lasts.now [] [])) }
         ensures passes { IfOk result (λ parts. (length parts.passes ≡ length lasts.now) × AreNew parts.ring.id lasts.now 0 parts.passes) }
     {
         let counts = Vec::from_elem(alloc, 0, lasts.len())?;

@@ -25,7 +25,8 @@ impl<T> Model for RingPasses<T> {
 
 // The first place whose pass is not handed out.
 fn first_place<T>(places: &[Option<RingPass<T>>]) -> Option<usize>
-    ensures { MatchOption result (AreOut (length places.now) places.now) (λ place. AreOut place places.now × IsSomeAnd (slice_get places.now place) (λ o. IsSome o)) }
+    ensures { MatchOption result (AreOut (length places.now) places.now)
+        (λ place. AreOut place places.now × IsSomeAnd (slice_get places.now place) (λ o. IsSome o)) }
 {
     for place in 0..places.len() {
         if places[place].is_some() {

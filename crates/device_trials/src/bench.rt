@@ -41,7 +41,8 @@ impl<D: Disk> Bench<D> {
     pub(crate) fn stage(&mut self, truck: Box<Truck>) -> Result<(), StageFull>
         requires served { IsServed (books_of self.old.device) truck.value.region }
         requires alone { truck.value.behind ≡ [] }
-        requires entry { ∥ ((e : Entry) × IsEntry e × (truck.value.bytes ≡ entry_frame e) × (e.region ≡ truck.value.region) × (e.number ≡ truck.value.number)) ∥₁ }
+        requires entry { ∥ ((e : Entry) × IsEntry e × (truck.value.bytes ≡ entry_frame e) × (e.region ≡ truck.value.region)
+            × (e.number ≡ truck.value.number)) ∥₁ }
         requires above { get_or (books_of self.old.device).drawn truck.value.region 0 < truck.value.number }
     {
         self.device.stage(truck)

@@ -94,7 +94,9 @@ pub(crate) fn truck(
     ensures region { IfOk result (λ t. t.value.region ≡ region) }
     ensures number { IfOk result (λ t. t.value.number ≡ number) }
     ensures alone { IfOk result (λ t. t.value.behind ≡ []) }
-    ensures entry { IfOk result (λ t. ∥ ((e : Entry) × IsEntry e × (t.value.bytes ≡ entry_frame e) × (e.region ≡ t.value.region) × (e.number ≡ t.value.number)) ∥₁) }
+    ensures entry { IfOk result
+        (λ t. ∥ ((e : Entry) × IsEntry e × (t.value.bytes ≡ entry_frame e) × (e.region ≡ t.value.region)
+        × (e.number ≡ t.value.number)) ∥₁) }
 {
     let bytes = encode_entry(alloc, region, number, 1000, batch)?;
     let truck = Truck {

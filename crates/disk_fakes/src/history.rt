@@ -218,7 +218,8 @@ impl History {
         is_torn: bool,
     ) -> Result<(), AllocError>
         requires { ∥ ((c : List ℕ) × Reads (history_view self.old).files name c × (at ≤ length c)) ∥₁ }
-        ensures did { OnOk result ((v : _) × (length v.items ≡ length bytes.now) × (is_torn ≡ false → v.items ≡ bytes.now) × Did (Write name at v) self.old self.new) }
+        ensures did { OnOk result ((v : _) × (length v.items ≡ length bytes.now) × (is_torn ≡ false → v.items ≡ bytes.now)
+            × Did (Write name at v) self.old self.new) }
         ensures stays { OnErr result (Stays self.old self.new) }
     {
         let copy = carried(self.alloc, bytes, is_torn)?;

@@ -79,7 +79,8 @@ pub fn size_step(call: SafeCall, name: Name, reach: u64) -> SizeStep
 
 /// Where a byte of a file comes from.
 pub fn byte_step(call: SafeCall, name: Name, place: u64) -> ByteStep
-    ensures { (arena : List ℕ) (files : Files) (text : List ℕ) → Met arena files call → Reads (applied arena files call) name text → place < length text → IsByteStep arena files text place result }
+    ensures { (arena : List ℕ) (files : Files) (text : List ℕ) → Met arena files call → Reads (applied arena files call) name text
+        → place < length text → IsByteStep arena files text place result }
 {
     match call {
         SafeCall::Write(written, at, start, len) => {

@@ -70,7 +70,8 @@ fn single(kind: NameKind, number: &str) -> Option<Name>
 /// The name of a file that belongs to a region.
 fn placed(kind: NameKind, numbers: &str) -> Option<Name>
     ensures spelled { IfSome result (λ name. (name.kind ≡ kind) × (numbers.now ≡ decimal name.region ++ (45 ∷ decimal name.number))) }
-    ensures every { (r n : ℕ) → r < 2 ^ 32 → n < 2 ^ 64 → numbers.now ≡ decimal r ++ (45 ∷ decimal n) → result ≡ Some (record { kind = kind; region = r; number = n }) }
+    ensures every { (r n : ℕ) → r < 2 ^ 32 → n < 2 ^ 64 → numbers.now ≡ decimal r ++ (45 ∷ decimal n)
+        → result ≡ Some (record { kind = kind; region = r; number = n }) }
 {
     let (region, number) = pair_of(numbers)?;
     match u32::try_from(region) {

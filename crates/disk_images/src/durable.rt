@@ -15,7 +15,8 @@ pub fn write_durably<D: Disk>(disk: &mut D, name: Name, at: u64, bytes: &[u8]) -
     requires unmoved { IsTrue D.told → IsUnmoved (D.view disk.old) name }
 
     ensures fits { OnOk result (at + length bytes.now < 2 ^ 63) }
-    ensures durable { IsTrue D.told → (c : List ℕ) → Reads (D.view disk.old).files name c → OnOk result (IsDurableFile (D.view disk.new) name (overwritten c at bytes.now)) }
+    ensures durable { IsTrue D.told → (c : List ℕ) → Reads (D.view disk.old).files name c
+        → OnOk result (IsDurableFile (D.view disk.new) name (overwritten c at bytes.now)) }
     ensures any_moment { IsTrue D.told → Throughout (TornAt name at (length bytes.now) (D.view disk.old)) 2 (D.view disk.old) (D.view disk.new) }
     ensures touches { IsTrue D.told → Touches name (D.view disk.old) (D.view disk.new) }
     ensures cause { HasCause (D.faults disk.old) (D.faults disk.new) (IsErr result) }

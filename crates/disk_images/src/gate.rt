@@ -12,10 +12,15 @@ const OPEN: u8 = 0xA5;
 
 /// Opens a closed gate, behind which these bytes are durable.
 pub fn open_gate<D: Disk>(disk: &mut D, name: Name, gate: u64) -> Result<(), Failed>
-    requires { IsTrue D.told → ∥ ((front : List ℕ) × (closed : ℕ) × (behind : List ℕ) × IsDurableFile (D.view disk.old) name (front ++ closed ∷ behind) × (gate ≡ length front)) ∥₁ }
+    requires { IsTrue D.told
+        → ∥ ((front : List ℕ) × (closed : ℕ) × (behind : List ℕ) × IsDurableFile (D.view disk.old) name (front ++ closed ∷ behind)
+        × (gate ≡ length front)) ∥₁ }
 
-    ensures opened { IsTrue D.told → (front behind : List ℕ) (closed : ℕ) → IsDurableFile (D.view disk.old) name (front ++ closed ∷ behind) → gate ≡ length front → OnOk result (IsDurableFile (D.view disk.new) name (front ++ 165 ∷ behind)) }
-    ensures any_moment { IsTrue D.told → (front behind : List ℕ) (closed : ℕ) → IsDurableFile (D.view disk.old) name (front ++ closed ∷ behind) → gate ≡ length front → Throughout (OnlyAt name (ClosedOrOpen front behind) (D.view disk.old)) 2 (D.view disk.old) (D.view disk.new) }
+    ensures opened { IsTrue D.told → (front behind : List ℕ) (closed : ℕ) → IsDurableFile (D.view disk.old) name (front ++ closed ∷ behind)
+        → gate ≡ length front → OnOk result (IsDurableFile (D.view disk.new) name (front ++ 165 ∷ behind)) }
+    ensures any_moment { IsTrue D.told → (front behind : List ℕ) (closed : ℕ)
+        → IsDurableFile (D.view disk.old) name (front ++ closed ∷ behind) → gate ≡ length front
+        → Throughout (OnlyAt name (ClosedOrOpen front behind) (D.view disk.old)) 2 (D.view disk.old) (D.view disk.new) }
     ensures touches { IsTrue D.told → Touches name (D.view disk.old) (D.view disk.new) }
     ensures cause { HasCause (D.faults disk.old) (D.faults disk.new) (IsErr result) }
 {
@@ -34,8 +39,10 @@ pub fn commit_behind_gate<D: Disk>(
     requires some { 0 < length bytes.now }
 
     ensures fits { OnOk result (gate + 1 + length bytes.now < 2 ^ 63) }
-    ensures committed { IsTrue D.told → (front : List ℕ) → IsDurableFile (D.view disk.old) name (front ++ 0 ∷ []) → gate ≡ length front → OnOk result (IsDurableFile (D.view disk.new) name (front ++ 165 ∷ bytes.now)) }
-    ensures any_moment { IsTrue D.told → (front : List ℕ) → IsDurableFile (D.view disk.old) name (front ++ 0 ∷ []) → gate ≡ length front → Throughout (OnlyAt name (ClosedOrOpen front bytes.now) (D.view disk.old)) 4 (D.view disk.old) (D.view disk.new) }
+    ensures committed { IsTrue D.told → (front : List ℕ) → IsDurableFile (D.view disk.old) name (front ++ 0 ∷ []) → gate ≡ length front
+        → OnOk result (IsDurableFile (D.view disk.new) name (front ++ 165 ∷ bytes.now)) }
+    ensures any_moment { IsTrue D.told → (front : List ℕ) → IsDurableFile (D.view disk.old) name (front ++ 0 ∷ []) → gate ≡ length front
+        → Throughout (OnlyAt name (ClosedOrOpen front bytes.now) (D.view disk.old)) 4 (D.view disk.old) (D.view disk.new) }
     ensures touches { IsTrue D.told → Touches name (D.view disk.old) (D.view disk.new) }
     ensures cause { HasCause (D.faults disk.old) (D.faults disk.new) (IsErr result) }
 {

@@ -42,7 +42,9 @@ fn sync_files<D: Disk>(disk: &mut D, names: &[Name]) -> Result<(), Failed>
 /// Syncs a file, unless it is an old log.
 fn sync_file<D: Disk>(disk: &mut D, name: Name) -> Result<(), Failed>
     requires { IsTrue D.told → ∥ ((c : List ℕ) × Reads (D.view disk.old).files name c) ∥₁ }
-    ensures standing { IsTrue D.told → OnOk result (name.kind ≢ kinds.Old → (J : Files) → IsImageNow (D.view disk.new) J → content J name ≡ content (D.view disk.new).files name) }
+    ensures standing { IsTrue D.told
+        → OnOk result (name.kind ≢ kinds.Old → (J : Files) → IsImageNow (D.view disk.new) J
+        → content J name ≡ content (D.view disk.new).files name) }
     ensures watches { IsTrue D.told → Watches 1 (D.view disk.old) (D.view disk.new) }
     ensures cause { HasCause (D.faults disk.old) (D.faults disk.new) (IsErr result) }
 {

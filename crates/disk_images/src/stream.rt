@@ -16,7 +16,9 @@ pub trait Source {
     /// Reads some bytes into the front of a slice: 0 of them, where the slice isn't empty, exactly at the end of input.
     fn read(&mut self, into: &mut [u8]) -> Result<usize, Failed>
         ensures within { IfOk result (λ n. n ≤ length into.old) }
-        ensures bytes { IsTrue told → IfOk result (λ n. (n ≤ length (left self.old)) × (into.new ≡ take n (left self.old) ++ drop n into.old) × (left self.new ≡ drop n (left self.old))) }
+        ensures bytes { IsTrue told
+            → IfOk result (λ n. (n ≤ length (left self.old)) × (into.new ≡ take n (left self.old) ++ drop n into.old)
+            × (left self.new ≡ drop n (left self.old))) }
         ensures end { IsTrue told → 0 < length into.old → IfOk result (λ n. n ≡ 0 → left self.old ≡ []) }
         ensures failed { IsTrue told → OnErr result (left self.new ≡ left self.old) }
         ensures cause { HasCause (faults self.old) (faults self.new) (IsErr result) };

@@ -82,7 +82,8 @@ impl Feed {
     pub fn take(&mut self, alloc: Global) -> Result<Option<Entry>, FeedRefusal>
         ensures key { self.new.key ≡ self.old.key }
         ensures taken { (given : List ℕ) (taken : List TheEntry) → IsFed self.old given taken → IsFed self.new given (taken ++ entry_given result) }
-        ensures whole { (given : List ℕ) (taken : List TheEntry) → IsFed self.old given taken → IfOk result (λ entry. IfSome entry (λ e. HasNext self.old.key given taken e)) }
+        ensures whole { (given : List ℕ) (taken : List TheEntry) → IsFed self.old given taken
+            → IfOk result (λ entry. IfSome entry (λ e. HasNext self.old.key given taken e)) }
         ensures drained { IfOk result (λ entry. IfNone entry (IsDrained self.new)) }
         ensures memory { result ≡ Err refusals.Memory → self.new ≡ self.old }
         ensures damaged { IfErr result (λ refusal. IsOfPhase refusal self.new.phase) }

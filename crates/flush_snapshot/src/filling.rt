@@ -26,7 +26,9 @@ pub(crate) fn write_rows<D: Disk>(
     requires count { store.count ≡ length rows.now }
 
     ensures stored { IsTrue D.told → OnOk result (IsDurableFile (D.view disk.new) store.name (store_text (store_of store rows.now))) }
-    ensures any_moment { IsTrue D.told → Throughout (OnlyAt store.name (IsWholeOrNot (store_text (store_of store rows.now))) (D.view disk.old)) (length rows.now + 4) (D.view disk.old) (D.view disk.new) }
+    ensures any_moment { IsTrue D.told
+        → Throughout (OnlyAt store.name (IsWholeOrNot (store_text (store_of store rows.now))) (D.view disk.old)) (length rows.now + 4)
+        (D.view disk.old) (D.view disk.new) }
     ensures touches { IsTrue D.told → Touches store.name (D.view disk.old) (D.view disk.new) }
     ensures cause { HasCause (D.faults disk.old) (D.faults disk.new) (IsErr result) }
 {
@@ -41,7 +43,8 @@ fn fill_rows<D: Disk>(disk: &mut D, store: &mut StoreFile, rows: &[Row]) -> Resu
 
     ensures filled { IsTrue D.told → OnOk result (IsFilling store.new (D.view disk.new) rows.now) }
     ensures any_moment { IsTrue D.told → Throughout (OnlyAt store.old.name IsNotThere (D.view disk.old)) (length rows.now) (D.view disk.old) (D.view disk.new) }
-    ensures shape { (store.new.name ≡ store.old.name) × (store.new.from ≡ store.old.from) × (store.new.to ≡ store.old.to) × (store.new.count ≡ store.old.count) }
+    ensures shape { (store.new.name ≡ store.old.name) × (store.new.from ≡ store.old.from) × (store.new.to ≡ store.old.to)
+        × (store.new.count ≡ store.old.count) }
     ensures counted { OnOk result (store.new.filled ≡ store.old.filled + length rows.now) }
     ensures touches { IsTrue D.told → Touches store.old.name (D.view disk.old) (D.view disk.new) }
     ensures cause { HasCause (D.faults disk.old) (D.faults disk.new) (IsErr result) }

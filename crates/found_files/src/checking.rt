@@ -51,7 +51,8 @@ fn read_one<D: Disk>(
 ) -> Result<(), SplitRefusal>
     requires there { IsTrue D.told → ∥ ((c : List ℕ) × Reads (D.view disk.old).files name c) ∥₁ }
 
-    ensures read { (names : List TheName) → AreOldNumbers names olds.now → OnOk result (ReadsOne (IsTrue D.told) (D.view disk.old).files names name found.old found.new) }
+    ensures read { (names : List TheName) → AreOldNumbers names olds.now
+        → OnOk result (ReadsOne (IsTrue D.told) (D.view disk.old).files names name found.old found.new) }
     ensures damaged { IsTrue D.told → (names : List TheName) → AreOldNumbers names olds.now → IfDamage result (TellsOne (D.view disk.old).files names name) }
     ensures watches { IsTrue D.told → OnlyWatches (D.view disk.old) (D.view disk.new) }
     ensures cause { HasCause (D.faults disk.old) (D.faults disk.new) (IsErrOf result SplitRefusal.DiskFault) }

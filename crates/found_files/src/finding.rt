@@ -24,7 +24,8 @@ use std::alloc::Global;
 pub fn find_files<D: Disk>(alloc: Global, disk: &mut D) -> Result<Finding, SplitRefusal>
     ensures settled { IsTrue D.told → OnOk result (IsSettled (D.view disk.new)) }
     ensures names { IsTrue D.told → IfOk result (λ found. found.names ≡ keys (D.view disk.old).files) }
-    ensures read { IfOk result (λ found. AreRead (IsTrue D.told) (D.view disk.old).files found.names found.names found.files.entries.items found.files.stores.items) }
+    ensures read { IfOk result
+        (λ found. AreRead (IsTrue D.told) (D.view disk.old).files found.names found.names found.files.entries.items found.files.stores.items) }
     ensures ordered { IfOk result (λ found. AreOrdered found.files.entries.items) }
     ensures agree { IfOk result (λ found. AllAgree found.files.entries.items) }
     ensures sound { IsTrue D.told → OnOk result (IsSound (D.view disk.old).files) }

@@ -34,7 +34,8 @@ fn collect_old(alloc: Global, names: &[Name]) -> Result<Vec<u64>, NoMemory>
 }
 
 fn add_old(numbers: &mut Vec<u64>, name: Name) -> Result<(), NoMemory>
-    ensures { OnOk result ((names : List TheName) → ((n : ℕ) → Contains numbers.old.items n ↔ HasOld names n) → (n : ℕ) → Contains numbers.new.items n ↔ HasOld (names ++ name ∷ []) n) }
+    ensures { OnOk result ((names : List TheName) → ((n : ℕ) → Contains numbers.old.items n ↔ HasOld names n) → (n : ℕ)
+        → Contains numbers.new.items n ↔ HasOld (names ++ name ∷ []) n) }
 {
     match name.kind {
         NameKind::Old => {

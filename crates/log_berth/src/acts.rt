@@ -42,7 +42,8 @@ impl<W: Ware> Berth<W> {
     /// the turn knows the answer.
     pub fn broken(&self, seat: &mut LogSeat) -> bool
         requires { seat.old.berth ≡ self.now.id }
-        ensures same { (seat.new.berth ≡ seat.old.berth) × (seat.new.knows.parts ≡ seat.old.knows.parts) × (seat.new.knows.turn ≡ seat.old.knows.turn) × (seat.new.knows.seen ≡ seat.old.knows.seen) }
+        ensures same { (seat.new.berth ≡ seat.old.berth) × (seat.new.knows.parts ≡ seat.old.knows.parts)
+            × (seat.new.knows.turn ≡ seat.old.knows.turn) × (seat.new.knows.seen ≡ seat.old.knows.seen) }
         ensures known { (seat.new.knows.broken ≡ result) × (seat.new.knows.tally ≡ looked seat.old.knows.tally) }
         ensures stays { seat.old.knows.broken ≡ true → (result ≡ true) × (seat.new.knows.last ≡ seat.old.knows.last) }
         ensures last { result ≡ true → NoMore seat.old.knows.seen seat.new.knows.last }

@@ -31,7 +31,8 @@ fn joined<W: Ware>(
 ) -> Seat<Option<W>, Known>
     requires me { (me.table_id ≡ shared.now.table_id) × (me.me.1 ≡ []) × (me.me.0.turn ≡ false) × (0 < shared.now.table_id.words) }
     requires back { AreBack shared.now.table_id seats.items }
-    ensures seat { (result.table_id ≡ shared.now.table_id) × (result.me.1 ≡ []) × (result.me.0.turn ≡ false) × (result.me.0.parts ≡ me.me.0.parts + length seats.items) }
+    ensures seat { (result.table_id ≡ shared.now.table_id) × (result.me.1 ≡ []) × (result.me.0.turn ≡ false)
+        × (result.me.0.parts ≡ me.me.0.parts + length seats.items) }
     ensures first { Informs me.me.0 result.me.0 }
     ensures saw { InformAll seats.items result.me.0 }
 {

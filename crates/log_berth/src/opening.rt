@@ -26,7 +26,9 @@ pub struct BerthRefusal<W> {
 
 // The words at the start: the ware's durable numbers, no fault and no turn.
 fn words_of<W: Ware>(alloc: Global, ware: &W, regions: u32) -> Result<Vec<u64>, AllocError>
-    ensures { IfOk result (λ v. (length v.items ≡ regions + 2) × (take regions v.items ≡ starts regions (W.numbers ware.now)) × (slice_index v.items regions ≡ 0) × (slice_index v.items (regions + 1) ≡ 0)) }
+    ensures { IfOk result
+        (λ v. (length v.items ≡ regions + 2) × (take regions v.items ≡ starts regions (W.numbers ware.now))
+        × (slice_index v.items regions ≡ 0) × (slice_index v.items (regions + 1) ≡ 0)) }
 {
     let count = regions as usize;
     let mut words = Vec::from_elem(alloc, 0, count + 2)?;
@@ -106,7 +108,9 @@ impl<W: Ware> Berth<W> {
         requires seats { 0 < seats }
         requires whole { W.is_broken ware ≡ false }
         ensures berth { IfOk result (λ parts. (parts.berth.regions ≡ regions) × (parts.berth.seats ≡ seats)) }
-        ensures seats { IfOk result (λ parts. (parts.seats.seats ≡ replicate seats (fresh parts.berth.id (starts regions (W.numbers ware)))) × (seats ≤ parts.seats.room)) }
+        ensures seats { IfOk result
+            (λ parts. (parts.seats.seats ≡ replicate seats (fresh parts.berth.id (starts regions (W.numbers ware))))
+            × (seats ≤ parts.seats.room)) }
         ensures refused { IfErr result (λ refusal. refusal.ware ≡ ware) }
     {
         let Ok(words) = words_of(alloc, &ware, regions) else {

@@ -56,7 +56,8 @@ impl Model for LogSeats {
 impl LogSeats {
     /// A seat, or None exactly after the last.
     pub fn next(&mut self) -> Option<LogSeat>
-        ensures { MatchOption result ((self.old.seats ≡ []) × (self.new ≡ self.old)) (λ seat. (self.old.seats ≡ self.new.seats ++ seat ∷ []) × (self.new.room ≡ self.old.room)) }
+        ensures { MatchOption result ((self.old.seats ≡ []) × (self.new ≡ self.old))
+            (λ seat. (self.old.seats ≡ self.new.seats ++ seat ∷ []) × (self.new.room ≡ self.old.room)) }
     {
         self.seats.pop()
     }

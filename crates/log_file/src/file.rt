@@ -96,7 +96,8 @@ impl LogFile {
     pub fn stage(&mut self, bytes: &EntryBytes) -> Result<(), StageFull>
         requires { ∥ ((e : Entry) × (bytes.now ≡ entry_frame e) × IsEntryOf (key_of self.old.name) e) ∥₁ }
 
-        ensures staged { (batch : List Entry) (e : Entry) → IsStaged self.old batch → bytes.now ≡ entry_frame e → IsEntryOf (key_of self.old.name) e → OnOk result (IsStaged self.new (batch ++ e ∷ [])) }
+        ensures staged { (batch : List Entry) (e : Entry) → IsStaged self.old batch → bytes.now ≡ entry_frame e
+            → IsEntryOf (key_of self.old.name) e → OnOk result (IsStaged self.new (batch ++ e ∷ [])) }
         ensures counted { OnOk result (self.new.staged ≡ self.old.staged + 1) }
         ensures len { OnOk result (length self.new.bytes ≡ length self.old.bytes + length bytes.now + 1) }
         ensures full { IsErr result ↔ (4194304 < length self.old.bytes + length bytes.now + 1) }
@@ -118,10 +119,13 @@ impl LogFile {
     pub fn commit<D: Disk>(&mut self, disk: &mut D) -> Result<u64, DiskFault>
         requires { IsTrue D.told → ∥ ((entries : List Entry) × (batch : List Entry) × IsOpen self.old (D.view disk.old) entries × IsStaged self.old batch) ∥₁ }
 
-        ensures committed { IsTrue D.told → (entries batch : List Entry) → IsOpen self.old (D.view disk.old) entries → IsStaged self.old batch → OnOk result (IsOpen self.new (D.view disk.new) (entries ++ batch)) }
+        ensures committed { IsTrue D.told → (entries batch : List Entry) → IsOpen self.old (D.view disk.old) entries
+            → IsStaged self.old batch → OnOk result (IsOpen self.new (D.view disk.new) (entries ++ batch)) }
 
         // At each moment each image of the file has the entries before, or these and the whole batch.
-        ensures any_moment { IsTrue D.told → (entries batch : List Entry) → IsOpen self.old (D.view disk.old) entries → IsStaged self.old batch → Throughout (OnlyAt self.old.name (HasEither self.old.name entries (entries ++ batch)) (D.view disk.old)) 4 (D.view disk.old) (D.view disk.new) }
+        ensures any_moment { IsTrue D.told → (entries batch : List Entry) → IsOpen self.old (D.view disk.old) entries
+            → IsStaged self.old batch
+            → Throughout (OnlyAt self.old.name (HasEither self.old.name entries (entries ++ batch)) (D.view disk.old)) 4 (D.view disk.old) (D.view disk.new) }
         ensures emptied { OnOk result (IsStaged self.new []) }
         ensures counted { OnOk result (self.new.entries ≡ self.old.entries + self.old.staged) }
         ensures count { IfOk result (λ n. n ≡ self.old.staged) }
@@ -152,11 +156,14 @@ impl LogFile {
         requires open { IsTrue D.told → ∥ ((entries : List Entry) × IsOpen self (D.view disk.old) entries) ∥₁ }
         requires idle { self.staged ≡ 0 }
 
-        ensures finished { IsTrue D.told → (entries : List Entry) → IsOpen self (D.view disk.old) entries → OnOk result (IsDurableFile (D.view disk.new) self.name (ended_text self.name.number entries)) }
-        ensures ended { IsTrue D.told → (entries : List Entry) → IsOpen self (D.view disk.old) entries → IfOk result (λ n. HasText self.name entries (Some n) (content (D.view disk.new).files self.name)) }
+        ensures finished { IsTrue D.told → (entries : List Entry) → IsOpen self (D.view disk.old) entries
+            → OnOk result (IsDurableFile (D.view disk.new) self.name (ended_text self.name.number entries)) }
+        ensures ended { IsTrue D.told → (entries : List Entry) → IsOpen self (D.view disk.old) entries
+            → IfOk result (λ n. HasText self.name entries (Some n) (content (D.view disk.new).files self.name)) }
 
         // At each moment each image of the file has the entries, with or without the end frame.
-        ensures any_moment { IsTrue D.told → (entries : List Entry) → IsOpen self (D.view disk.old) entries → Throughout (OnlyAt self.name (HasEnding self.name entries) (D.view disk.old)) 4 (D.view disk.old) (D.view disk.new) }
+        ensures any_moment { IsTrue D.told → (entries : List Entry) → IsOpen self (D.view disk.old) entries
+            → Throughout (OnlyAt self.name (HasEnding self.name entries) (D.view disk.old)) 4 (D.view disk.old) (D.view disk.new) }
         ensures count { IfOk result (λ n. n ≡ self.entries) }
         ensures touches { IsTrue D.told → Touches self.name (D.view disk.old) (D.view disk.new) }
         ensures cause { HasCause (D.faults disk.old) (D.faults disk.new) (IsErr result) }

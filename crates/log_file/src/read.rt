@@ -27,7 +27,8 @@ pub fn read_log<D: Disk>(alloc: Global, disk: &mut D, name: Name) -> Result<LogT
     requires { IsTrue D.told → ∥ ((c : List ℕ) × Reads (D.view disk.old).files name c) ∥₁ }
 
     // What is read stands there, and what is refused as damaged is damaged there.
-    ensures text { IsTrue D.told → (c : List ℕ) → Reads (D.view disk.old).files name c → IfOk result (λ text. IsLogText (key_of name) c text.entries text.ended) }
+    ensures text { IsTrue D.told → (c : List ℕ) → Reads (D.view disk.old).files name c
+        → IfOk result (λ text. IsLogText (key_of name) c text.entries text.ended) }
     ensures damaged { IsTrue D.told → (c : List ℕ) → Reads (D.view disk.old).files name c → IfDamaged result (λ at. IsDamaged (key_of name) c at) }
     ensures looks { IsTrue D.told → (c : List ℕ) → Reads (D.view disk.old).files name c → OnlyLooks (length c + 1) (D.view disk.old) (D.view disk.new) }
     ensures cause { HasCause (D.faults disk.old) (D.faults disk.new) (IsErrOf result ReadRefusal.DiskFault) }
@@ -76,7 +77,8 @@ impl Reading {
         ensures key { self.new.feed.key ≡ self.old.feed.key }
         ensures fed { (given : List ℕ) → IsFed self.old.feed given self.old.entries.items → OnOk result (IsFed self.new.feed given self.new.entries.items) }
         ensures drained { OnOk result (IsDrained self.new.feed) }
-        ensures damaged { (given : List ℕ) → IsFed self.old.feed given self.old.entries.items → IfDamaged result (λ at. (more : List ℕ) → IsDamaged self.old.feed.key (given ++ more) at) }
+        ensures damaged { (given : List ℕ) → IsFed self.old.feed given self.old.entries.items
+            → IfDamaged result (λ at. (more : List ℕ) → IsDamaged self.old.feed.key (given ++ more) at) }
         ensures no_fault { result ≢ Err ReadRefusal.DiskFault }
     {
         while let Some(entry) = self.feed.take(alloc)? {
@@ -99,10 +101,12 @@ impl Reading {
 
         ensures key { self.new.feed.key ≡ self.old.feed.key }
         ensures within { IfOk result (λ n. n ≤ length into.old) }
-        ensures fed { (given : List ℕ) → IsFed self.old.feed given self.old.entries.items → IfOk result (λ n. IsFed self.new.feed (given ++ take n into.new) self.new.entries.items) }
+        ensures fed { (given : List ℕ) → IsFed self.old.feed given self.old.entries.items
+            → IfOk result (λ n. IsFed self.new.feed (given ++ take n into.new) self.new.entries.items) }
         ensures count { IsTrue D.told → (c : List ℕ) → Reads (D.view disk.old).files name c → IfOk result (λ n. n ≡ min (length into.old) (length c - at)) }
         ensures bytes { IsTrue D.told → (c : List ℕ) → Reads (D.view disk.old).files name c → IfOk result (λ n. take n into.new ≡ take n (drop at c)) }
-        ensures damaged { IsTrue D.told → (c : List ℕ) → Reads (D.view disk.old).files name c → IsFed self.old.feed (take at c) self.old.entries.items → IfDamaged result (λ place. IsDamaged self.old.feed.key c place) }
+        ensures damaged { IsTrue D.told → (c : List ℕ) → Reads (D.view disk.old).files name c
+            → IsFed self.old.feed (take at c) self.old.entries.items → IfDamaged result (λ place. IsDamaged self.old.feed.key c place) }
         ensures looks { IsTrue D.told → OnlyLooks 1 (D.view disk.old) (D.view disk.new) }
         ensures cause { HasCause (D.faults disk.old) (D.faults disk.new) (IsErrOf result ReadRefusal.DiskFault) }
     {
@@ -151,7 +155,8 @@ impl Reading {
 
     /// The text that all that came is.
     fn finish(self, alloc: Global) -> Result<LogText, ReadRefusal>
-        ensures text { (given : List ℕ) → IsFed self.feed given self.entries.items → IfOk result (λ text. IsLogText self.feed.key given text.entries text.ended) }
+        ensures text { (given : List ℕ) → IsFed self.feed given self.entries.items
+            → IfOk result (λ text. IsLogText self.feed.key given text.entries text.ended) }
         ensures damaged { (given : List ℕ) → IsFed self.feed given self.entries.items → IfDamaged result (λ at. IsDamaged self.feed.key given at) }
         ensures no_fault { result ≢ Err ReadRefusal.DiskFault }
     {

@@ -18,8 +18,10 @@ impl Ledger {
         requires { IsServed self.now region }
         ensures order { AreInOrder self.now }
         ensures above { IsTrue result ↔ (get_or self.now.accounts.flushed region 0 < get_or self.now.drawn region 0) }
-        ensures none { (h : History) → IsCounted self.now h → result ≡ false → (e : Entry) → Contains (h.kept.durable ++ h.kept.staged) e → e.region ≡ region → e.number ≤ h.kept.flushed region }
-        ensures highest { (h : History) → IsCounted self.now h → h.kept.staged ≡ [] → result ≡ true → IsHighestKept h.kept region (get_or self.now.drawn region 0) }
+        ensures none { (h : History) → IsCounted self.now h → result ≡ false → (e : Entry) → Contains (h.kept.durable ++ h.kept.staged) e
+            → e.region ≡ region → e.number ≤ h.kept.flushed region }
+        ensures highest { (h : History) → IsCounted self.now h → h.kept.staged ≡ [] → result ≡ true
+            → IsHighestKept h.kept region (get_or self.now.drawn region 0) }
     {
         self.accounts.flushed(region) < self.drawn[region as usize]
     }
@@ -27,7 +29,9 @@ impl Ledger {
     /// The cells of the region's entries that aren't flushed, newest entry first.
     pub fn cells(&self, alloc: Global, region: u32) -> Result<NumberedCells, NoMemory>
         requires { IsServed self.now region }
-        ensures within { IfOk result (λ cells. AllByRecursion (λ x. (get_or self.now.accounts.flushed region 0 + 1 ≤ x.0) × (x.0 ≤ get_or self.now.drawn region 0)) cells) }
+        ensures within { IfOk result
+            (λ cells. AllByRecursion
+            (λ x. (get_or self.now.accounts.flushed region 0 + 1 ≤ x.0) × (x.0 ≤ get_or self.now.drawn region 0)) cells) }
         ensures cut { (h : History) → IsCounted self.now h → h.kept.staged ≡ [] → IfOk result (PutsCut h.kept region (get_or self.now.drawn region 0)) }
     {
         self.chains.cells(alloc, region)
@@ -39,7 +43,8 @@ impl Ledger {
         requires served { IsServed self.old region }
         requires some { get_or self.old.accounts.flushed region 0 < get_or self.old.drawn region 0 }
         requires committed { get_or self.old.drawn region 0 ≤ get_or self.old.synced region 0 }
-        ensures counted { (h : History) → IsCounted self.old h → h.kept.staged ≡ [] → IsCounted self.new (flushed_in h region (get_or self.old.drawn region 0)) }
+        ensures counted { (h : History) → IsCounted self.old h → h.kept.staged ≡ []
+            → IsCounted self.new (flushed_in h region (get_or self.old.drawn region 0)) }
         ensures stored { self.new.stored ≡ slice_set self.old.stored region (get_or self.old.drawn region 0) }
         ensures next_store { self.new.next_store ≡ slice_set self.old.next_store region (get_or self.old.next_store region 0 + 1) }
         ensures flushed { self.new.accounts.flushed ≡ slice_set self.old.accounts.flushed region (get_or self.old.drawn region 0) }

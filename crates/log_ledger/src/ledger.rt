@@ -43,7 +43,8 @@ impl Ledger {
     /// The ledger of a device that serves these regions, before anything is staged.
     pub fn new(alloc: Global, regions: &[RegionBase]) -> Result<Ledger, NoMemory>
         requires { AreRegions regions.now }
-        ensures counted { (F : Files) (flushed : ℕ → ℕ) → ((m : RegionBase) → Contains regions.now m → flushed m.region ≡ m.flushed) → HasNoLogs F → ((r : ℕ) → IsFlushed F r (flushed r)) → IfOk result (λ l. IsCounted l (started_in F flushed)) }
+        ensures counted { (F : Files) (flushed : ℕ → ℕ) → ((m : RegionBase) → Contains regions.now m → flushed m.region ≡ m.flushed)
+            → HasNoLogs F → ((r : ℕ) → IsFlushed F r (flushed r)) → IfOk result (λ l. IsCounted l (started_in F flushed)) }
         ensures served { IfOk result (λ l. (r : ℕ) → IsServed l r ↔ IsAmong regions.now r) }
         ensures drawn { IfOk result (λ l. AreNumbersOf (λ m. m.flushed) regions.now l.drawn) }
         ensures synced { IfOk result (λ l. l.synced ≡ l.drawn) }

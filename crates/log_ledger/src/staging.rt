@@ -15,9 +15,11 @@ impl Ledger {
     pub fn stage(&mut self, truck: Box<Truck>)
         requires served { IsServed self.old truck.value.region }
         requires alone { truck.value.behind ≡ [] }
-        requires entry { ∥ ((e : Entry) × IsEntry e × (truck.value.bytes ≡ entry_frame e) × (e.region ≡ truck.value.region) × (e.number ≡ truck.value.number)) ∥₁ }
+        requires entry { ∥ ((e : Entry) × IsEntry e × (truck.value.bytes ≡ entry_frame e) × (e.region ≡ truck.value.region)
+            × (e.number ≡ truck.value.number)) ∥₁ }
         requires above { get_or self.old.drawn truck.value.region 0 < truck.value.number }
-        ensures counted { (h : History) (e : Entry) → IsCounted self.old h → IsEntry e → truck.value.bytes ≡ entry_frame e → e.region ≡ truck.value.region → e.number ≡ truck.value.number → IsCounted self.new (staged_in h e) }
+        ensures counted { (h : History) (e : Entry) → IsCounted self.old h → IsEntry e → truck.value.bytes ≡ entry_frame e
+            → e.region ≡ truck.value.region → e.number ≡ truck.value.number → IsCounted self.new (staged_in h e) }
         ensures drawn { self.new.drawn ≡ slice_set self.old.drawn truck.value.region truck.value.number }
         ensures grows { sum self.old.drawn + 1 ≤ sum self.new.drawn }
         ensures synced { self.new.synced ≡ self.old.synced }

@@ -26,7 +26,9 @@ fn truck(alloc: Global, region: u32, number: u64, row: u8) -> Result<Box<Truck>,
     requires number { number < 2 ^ 48 }
     ensures named { IfOk result (λ t. (t.value.region ≡ region) × (t.value.number ≡ number)) }
     ensures alone { IfOk result (λ t. t.value.behind ≡ []) }
-    ensures entry { IfOk result (λ t. ∥ ((e : Entry) × IsEntry e × (t.value.bytes ≡ entry_frame e) × (e.region ≡ t.value.region) × (e.number ≡ t.value.number)) ∥₁) }
+    ensures entry { IfOk result
+        (λ t. ∥ ((e : Entry) × IsEntry e × (t.value.bytes ≡ entry_frame e) × (e.region ≡ t.value.region)
+        × (e.number ≡ t.value.number)) ∥₁) }
 {
     let batch = batch(alloc, row)?;
     let bytes = encode_entry(alloc, region, number, 1000, &batch)?;

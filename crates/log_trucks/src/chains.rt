@@ -69,7 +69,8 @@ impl Chains {
     /// The cells of the region's trucks, newest truck first and each truck's cells in the order of its batch, each with
     /// its truck's number.
     pub fn cells(&self, alloc: Global, region: u32) -> Result<NumberedCells, NoMemory>
-        ensures { (es : List Entry) → AreHeld (slice_index_or self.now region []) es → IfOk result (λ cells. cells ≡ flat_map (λ e. at_number e.number e.cells) es) }
+        ensures { (es : List Entry) → AreHeld (slice_index_or self.now region []) es
+            → IfOk result (λ cells. cells ≡ flat_map (λ e. at_number e.number e.cells) es) }
     {
         match self.chains.get(region as usize) {
             Some(chain) => chain.cells(alloc),

@@ -100,7 +100,9 @@ fn rests_of<'a>(
     from: &[u8],
     to: &[u8],
 ) -> Result<Vec<Rest<'a>>, NoMemory>
-    ensures { IfOk result (λ rests. rests.items ≡ map (λ part. to_come cursor.now (filter (is_in_range from.now to.now) (cells_of (arc_value part)))) parts.now) }
+    ensures { IfOk result
+        (λ rests. rests.items ≡ map
+        (λ part. to_come cursor.now (filter (is_in_range from.now to.now) (cells_of (arc_value part)))) parts.now) }
 {
     let mut rests = Vec::with_capacity(alloc, parts.len())?;
     for part in parts {

@@ -85,10 +85,18 @@ pub(crate) struct Sown {
 pub(crate) fn sow(alloc: Global, found: Vec<Replayed>, handlers: u32) -> Result<Sown, NoMemory>
     requires count { (0 < length found.items) × (length found.items ≤ 64) }
     requires handlers { 1 ≤ handlers }
-    ensures marks { IfOk result (λ s. (s.marks.items ≡ marks_from 1 found.items) × AreRegions s.marks.items × (flushed_of s.marks.items ≡ lasts_of (bases_found found.items))) }
+    ensures marks { IfOk result
+        (λ s. (s.marks.items ≡ marks_from 1 found.items) × AreRegions s.marks.items
+        × (flushed_of s.marks.items ≡ lasts_of (bases_found found.items))) }
     ensures seeds { IfOk result (λ s. AreSeeds handlers 1 s.seeds.items × (map base_of s.seeds.items ≡ bases_found found.items)) }
-    ensures items { IfOk result (λ s. (s.rings.items.ring.capacity ≡ 1024) × AreNewParts s.rings.items.ring.id (lasts_of (bases_found found.items)) s.rings.items.consumer.pass.table_id (view s.rings.items.consumer.pass) s.rings.items.passes) }
-    ensures loads { IfOk result (λ s. (s.rings.loads.ring.capacity ≡ 2) × AreNewParts s.rings.loads.ring.id (lasts_of (bases_found found.items)) s.rings.loads.consumer.pass.table_id (view s.rings.loads.consumer.pass) s.rings.loads.passes) }
+    ensures items { IfOk result
+        (λ s. (s.rings.items.ring.capacity ≡ 1024)
+        × AreNewParts s.rings.items.ring.id (lasts_of (bases_found found.items))
+        s.rings.items.consumer.pass.table_id (view s.rings.items.consumer.pass) s.rings.items.passes) }
+    ensures loads { IfOk result
+        (λ s. (s.rings.loads.ring.capacity ≡ 2)
+        × AreNewParts s.rings.loads.ring.id (lasts_of (bases_found found.items))
+        s.rings.loads.consumer.pass.table_id (view s.rings.loads.consumer.pass) s.rings.loads.passes) }
 {
     let marks = marks_of(alloc, &found)?;
     let lasts = lasts_found(alloc, &found)?;

@@ -72,7 +72,9 @@ fn make_room<
     requires seeds { AreSeeds handlers 1 seeds.items }
     requires handlers { (1 ≤ handlers) × (handlers ≤ 16) × (handlers ≡ N.handlers) }
     requires named { AreNamedSeeds N.desk N.spent N.book N.Naming-4.base N.lasts seeds.items }
-    ensures regions { IfOk result (λ r. AreFrom 1 r.unlocked.items × (length r.unlocked.items ≡ length seeds.items) × AreDeals 1 handlers r.hands.items × (length r.hands.items ≡ length seeds.items)) }
+    ensures regions { IfOk result
+        (λ r. AreFrom 1 r.unlocked.items × (length r.unlocked.items ≡ length seeds.items) × AreDeals 1 handlers r.hands.items
+        × (length r.hands.items ≡ length seeds.items)) }
     ensures rooms { IfOk result (λ r. AreRooms (length seeds.items) r.rooms.items × (length r.rooms.items ≡ handlers)) }
     ensures locks { IfOk result (λ r. (r.locks.items ≡ []) × (length seeds.items ≤ vec_capacity r.locks)) }
     ensures back { IfOk result (λ r. (r.back.items ≡ []) × (handlers ≤ vec_capacity r.back)) }
@@ -127,7 +129,8 @@ fn join<
     requires served { IsBegun D.told N.name N.found N.handlers N.flushes N.ring N.lasts N.Naming-3.base N.Naming-4.base parts.service }
     requires passes { AreNew N.ring N.lasts 0 parts.passes × (length parts.passes ≡ parts.service.regions) }
     requires seats { AreNewSeats parts.service (handlers + 2) parts.seats }
-    requires regions { AreFrom 1 room.unlocked.items × (length room.unlocked.items ≡ parts.service.regions) × AreDeals 1 handlers room.hands.items × (length room.hands.items ≡ parts.service.regions) }
+    requires regions { AreFrom 1 room.unlocked.items × (length room.unlocked.items ≡ parts.service.regions)
+        × AreDeals 1 handlers room.hands.items × (length room.hands.items ≡ parts.service.regions) }
     requires rooms { AreRooms parts.service.regions room.rooms.items × (length room.rooms.items ≡ handlers) }
     requires locks { (room.locks.items ≡ []) × (parts.service.regions ≤ vec_capacity room.locks) }
     requires back { (room.back.items ≡ []) × (handlers ≤ vec_capacity room.back) }
@@ -190,7 +193,8 @@ impl<D: Disk> Opened<D> {
         requires lasts { N.lasts ≡ lasts_of (bases_of self) }
         requires rings { (N.ring ≡ ring_of self) × (N.hand ≡ hand_of self) }
         requires regions { (r : ℕ) → 1 ≤ r → r ≤ regions_of self → AreTablesOf N.desk N.spent N.book N.Naming-4.base self r }
-        requires begun { (N.Naming-3.base ≡ (D.view (disk_begun self)).files) × (N.start ≡ (D.view (disk_now self)).clock) × (N.faults ≡ D.faults (disk_now self)) }
+        requires begun { (N.Naming-3.base ≡ (D.view (disk_begun self)).files) × (N.start ≡ (D.view (disk_now self)).clock)
+            × (N.faults ≡ D.faults (disk_now self)) }
         requires past { (t : ℕ) (J : Files) → t ≤ N.start
             → ((D.view (disk_now self)).image t J → N.past t J) × (N.past t J → (D.view (disk_now self)).image t J) }
         requires found { (N.found ≡ (D.view (disk_found self)).files) × (N.found_faults ≡ D.faults (disk_found self)) }

@@ -14,10 +14,13 @@ impl<N: region_lock::Naming + region_versions::Naming> Passes<N> {
     /// The pass of the next handler, from 1 on, and None exactly after the last. It takes no memory.
     pub fn next(&mut self) -> Option<Pass<N>>
         requires of { (place : Place) × ArePassesOf place N.handlers self.old }
-        ensures some { IfSome result (λ pass. (passes_out self.old < N.handlers) × (passes_out self.new ≡ passes_out self.old + 1) × IsFresh (passes_out self.old + 1) (knows pass)) }
+        ensures some { IfSome result
+            (λ pass. (passes_out self.old < N.handlers) × (passes_out self.new ≡ passes_out self.old + 1)
+            × IsFresh (passes_out self.old + 1) (knows pass)) }
         ensures none { IfNone result ((passes_out self.old ≡ N.handlers) × (passes_out self.new ≡ N.handlers)) }
         ensures back { passes_back self.new ≡ passes_back self.old }
-        ensures of { (place : Place) → ArePassesOf place N.handlers self.old → ArePassesOf place N.handlers self.new × IfSome result (λ pass. IsPassOf place pass) }
+        ensures of { (place : Place) → ArePassesOf place N.handlers self.old
+            → ArePassesOf place N.handlers self.new × IfSome result (λ pass. IsPassOf place pass) }
     {
         let seat = self.seats.next()?;
         let Some(room) = self.rooms.pop() else {

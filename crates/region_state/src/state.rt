@@ -139,7 +139,10 @@ impl RegionState {
         requires draft { IsDraftOf draft (arc_value batch) }
         requires call { IsNextCall caller self.old.lines }
         ensures number { result ≡ write_point self.old + 1 }
-        ensures lines { self.new ≡ record self.old { lines = self.old.lines ++ pending (write_point self.old + 1) caller time (arc_value batch) ∷ []; room = self.old.room - 1 } }
+        ensures lines { self.new ≡ record self.old {
+          lines = self.old.lines ++ pending (write_point self.old + 1) caller time (arc_value batch) ∷ [];
+          room = self.old.room - 1;
+        } }
     {
         let cells = batch.as_slice();
         prove!(!cells.is_empty());
@@ -169,7 +172,8 @@ impl RegionState {
         ensures cut { IfOk result (λ v. arc_value v ≡ shown_at self.old.base (arc_value v).point self.old.lines) }
         ensures completed { IfOk result (λ v. AllPass is_completed_line (arc_value v).cut) }
         ensures end { IfOk result (λ v. (arc_value v).point ≡ last_in (arc_value v).base (arc_value v).cut) }
-        ensures cells { IfOk result (λ v. cells_of (content_of (arc_value v)) ≡ visible self.old.base.content (edits_in self.old.region self.old.lines) (arc_value v).point [] []) }
+        ensures cells { IfOk result
+            (λ v. cells_of (content_of (arc_value v)) ≡ visible self.old.base.content (edits_in self.old.region self.old.lines) (arc_value v).point [] []) }
         ensures same { self.new ≡ record self.old { room = self.new.room } }
         ensures room { self.old.room ≤ self.new.room }
     {
@@ -248,7 +252,8 @@ fn catch_up(
     requires within { length layers.old.waiting ≤ length lines.now }
     ensures ok { OnOk result (taken lines.now layers.new.waiting ≡ count) }
     ensures before { taken lines.now layers.new.waiting ≤ count }
-    ensures layers { (base : Content) → AreLayers base lines.now layers.old.merged layers.old.waiting → AreLayers base lines.now layers.new.merged layers.new.waiting }
+    ensures layers { (base : Content) → AreLayers base lines.now layers.old.merged layers.old.waiting
+        → AreLayers base lines.now layers.new.merged layers.new.waiting }
     ensures room { layers.old.room ≤ layers.new.room }
 {
     'taking: while lines.len() - layers.waiting() < count {

@@ -46,7 +46,8 @@ pub fn serve<N: ServerName + Send + Sync, R: Threads + Wait + Sync, D: Disk + Se
     requires lasts { N.lasts ≡ lasts_of (bases_of opened) }
     requires rings { (N.ring ≡ ring_of opened) × (N.hand ≡ hand_of opened) }
     requires regions { (r : ℕ) → 1 ≤ r → r ≤ regions_of opened → AreTablesOf N.desk N.spent N.book N.Naming-4.base opened r }
-    requires begun { (N.Naming-3.base ≡ (D.view (disk_begun opened)).files) × (N.start ≡ (D.view (disk_now opened)).clock) × (N.faults ≡ D.faults (disk_now opened)) }
+    requires begun { (N.Naming-3.base ≡ (D.view (disk_begun opened)).files) × (N.start ≡ (D.view (disk_now opened)).clock)
+        × (N.faults ≡ D.faults (disk_now opened)) }
     requires past { (t : ℕ) (J : Files) → t ≤ N.start
         → ((D.view (disk_now opened)).image t J → N.past t J) × (N.past t J → (D.view (disk_now opened)).image t J) }
     requires found { (N.found ≡ (D.view (disk_found opened)).files) × (N.found_faults ≡ D.faults (disk_found opened)) }

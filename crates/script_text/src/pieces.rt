@@ -22,7 +22,8 @@ fn find(bytes: &[u8], byte: u8) -> usize
 
 /// The bytes in front of the first such byte, and those behind it.
 fn cut(bytes: &[u8], byte: u8) -> (&[u8], &[u8])
-    ensures at { (length result.0.now ≤ length bytes.now) × ((result.0.now ≡ take (length result.0.now) bytes.now) × (result.1.now ≡ drop (length result.0.now + 1) bytes.now)) }
+    ensures at { (length result.0.now ≤ length bytes.now)
+        × ((result.0.now ≡ take (length result.0.now) bytes.now) × (result.1.now ≡ drop (length result.0.now + 1) bytes.now)) }
     ensures before { (k : ℕ) → k < length result.0.now → slice_index bytes.now k ≢ byte }
     ensures found { length result.0.now < length bytes.now → slice_index bytes.now (length result.0.now) ≡ byte }
 {

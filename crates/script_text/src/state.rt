@@ -231,7 +231,8 @@ fn make_script(
     requires handlers { (1 ≤ handlers) × (handlers ≤ 16) }
     requires calls { All (λ c. IsCallOf handlers regions c.0 c.1) (map handler_call calls.items) }
     requires few { length (map handler_call calls.items) ≤ 16777216 }
-    ensures value { IfOk result (λ script. script ≡ record { time = time; regions = regions; handlers = by_handler handlers 1 (map handler_call calls.items) }) }
+    ensures value { IfOk result
+        (λ script. script ≡ record { time = time; regions = regions; handlers = by_handler handlers 1 (map handler_call calls.items) }) }
     ensures within { IfOk result (λ script. IsScript script) }
 {
     let handlers = group(alloc, handlers as usize, calls)?;

@@ -179,7 +179,9 @@ impl Accounting {
     /// The least noted number above the flushed one. It takes constant time.
     pub fn oldest_unflushed(&self, region: u32) -> Option<u64>
         requires { region ≤ 64 }
-        ensures least { (notes : List Note) → HasNoted self.now notes → MatchOption result (NoneAbove notes region (get_or self.now.flushed region 0)) (λ n. IsLeastAbove notes region (get_or self.now.flushed region 0) n) }
+        ensures least { (notes : List Note) → HasNoted self.now notes
+            → MatchOption result (NoneAbove notes region (get_or self.now.flushed region 0))
+            (λ n. IsLeastAbove notes region (get_or self.now.flushed region 0) n) }
         ensures none_noted { IsNone result ↔ (get_or self.now.noted region 0 ≤ get_or self.now.flushed region 0) }
     {
         match self.oldest[region as usize] {

@@ -13,8 +13,10 @@ use disk_images::{Disk, Failed, Name, open_gate, sync_filled};
 pub(crate) fn commit_filled<D: Disk>(disk: &mut D, name: Name) -> Result<(), Failed>
     requires { IsTrue D.told → ∥ ((behind : List ℕ) × IsFilled (D.view disk.old) name (0 ∷ []) (0 ∷ behind)) ∥₁ }
 
-    ensures stored { IsTrue D.told → (behind : List ℕ) → IsFilled (D.view disk.old) name (0 ∷ []) (0 ∷ behind) → OnOk result (IsDurableFile (D.view disk.new) name (165 ∷ behind)) }
-    ensures any_moment { IsTrue D.told → (behind : List ℕ) → IsFilled (D.view disk.old) name (0 ∷ []) (0 ∷ behind) → Throughout (OnlyAt name (IsWholeOrNot (165 ∷ behind)) (D.view disk.old)) 3 (D.view disk.old) (D.view disk.new) }
+    ensures stored { IsTrue D.told → (behind : List ℕ) → IsFilled (D.view disk.old) name (0 ∷ []) (0 ∷ behind)
+        → OnOk result (IsDurableFile (D.view disk.new) name (165 ∷ behind)) }
+    ensures any_moment { IsTrue D.told → (behind : List ℕ) → IsFilled (D.view disk.old) name (0 ∷ []) (0 ∷ behind)
+        → Throughout (OnlyAt name (IsWholeOrNot (165 ∷ behind)) (D.view disk.old)) 3 (D.view disk.old) (D.view disk.new) }
     ensures touches { IsTrue D.told → Touches name (D.view disk.old) (D.view disk.new) }
     ensures cause { HasCause (D.faults disk.old) (D.faults disk.new) (IsErr result) }
 {

@@ -112,10 +112,12 @@ impl StoreFile {
     pub fn fill<D: Disk>(&mut self, disk: &mut D, number: u64, cell: &Cell) -> Result<(), DiskFault>
         requires { IsTrue D.told → ∥ ((cells : List NumberedCell) × IsFilling self.old (D.view disk.old) cells) ∥₁ }
 
-        ensures filled { IsTrue D.told → (cells : List NumberedCell) → IsFilling self.old (D.view disk.old) cells → OnOk result (IsFilling self.new (D.view disk.new) (cells ++ (number, cell.now) ∷ [])) }
+        ensures filled { IsTrue D.told → (cells : List NumberedCell) → IsFilling self.old (D.view disk.old) cells
+            → OnOk result (IsFilling self.new (D.view disk.new) (cells ++ (number, cell.now) ∷ [])) }
 
         // At each moment each image of the file isn't there.
-        ensures any_moment { IsTrue D.told → (cells : List NumberedCell) → IsFilling self.old (D.view disk.old) cells → Throughout (OnlyAt self.old.name IsNotThere (D.view disk.old)) 1 (D.view disk.old) (D.view disk.new) }
+        ensures any_moment { IsTrue D.told → (cells : List NumberedCell) → IsFilling self.old (D.view disk.old) cells
+            → Throughout (OnlyAt self.old.name IsNotThere (D.view disk.old)) 1 (D.view disk.old) (D.view disk.new) }
         ensures shape { (self.new.name ≡ self.old.name) × (self.new.from ≡ self.old.from) × (self.new.to ≡ self.old.to) × (self.new.count ≡ self.old.count) }
         ensures counted { OnOk result (self.new.filled ≡ self.old.filled + 1) }
         ensures touches { IsTrue D.told → Touches self.old.name (D.view disk.old) (D.view disk.new) }
@@ -132,10 +134,13 @@ impl StoreFile {
         requires filling { IsTrue D.told → ∥ ((cells : List NumberedCell) × IsFilling self.old (D.view disk.old) cells) ∥₁ }
         requires within { len ≤ 262144 }
 
-        ensures filled { IsTrue D.told → (cells : List NumberedCell) → IsFilling self.old (D.view disk.old) cells → OnOk result (IsFilling self.new (D.view disk.new) cells) }
+        ensures filled { IsTrue D.told → (cells : List NumberedCell) → IsFilling self.old (D.view disk.old) cells
+            → OnOk result (IsFilling self.new (D.view disk.new) cells) }
         ensures room { OnOk result (length self.new.bytes + len ≤ 262144) }
-        ensures any_moment { IsTrue D.told → (cells : List NumberedCell) → IsFilling self.old (D.view disk.old) cells → Throughout (OnlyAt self.old.name IsNotThere (D.view disk.old)) 1 (D.view disk.old) (D.view disk.new) }
-        ensures shape { (self.new.name ≡ self.old.name) × (self.new.from ≡ self.old.from) × (self.new.to ≡ self.old.to) × (self.new.count ≡ self.old.count) × (self.new.filled ≡ self.old.filled) }
+        ensures any_moment { IsTrue D.told → (cells : List NumberedCell) → IsFilling self.old (D.view disk.old) cells
+            → Throughout (OnlyAt self.old.name IsNotThere (D.view disk.old)) 1 (D.view disk.old) (D.view disk.new) }
+        ensures shape { (self.new.name ≡ self.old.name) × (self.new.from ≡ self.old.from) × (self.new.to ≡ self.old.to)
+            × (self.new.count ≡ self.old.count) × (self.new.filled ≡ self.old.filled) }
         ensures touches { IsTrue D.told → Touches self.old.name (D.view disk.old) (D.view disk.new) }
         ensures cause { HasCause (D.faults disk.old) (D.faults disk.new) (IsErr result) }
     {
@@ -150,10 +155,13 @@ impl StoreFile {
     fn write_out<D: Disk>(&mut self, disk: &mut D) -> Result<(), DiskFault>
         requires { IsTrue D.told → ∥ ((cells : List NumberedCell) × IsFilling self.old (D.view disk.old) cells) ∥₁ }
 
-        ensures filled { IsTrue D.told → (cells : List NumberedCell) → IsFilling self.old (D.view disk.old) cells → OnOk result (IsFilling self.new (D.view disk.new) cells) }
+        ensures filled { IsTrue D.told → (cells : List NumberedCell) → IsFilling self.old (D.view disk.old) cells
+            → OnOk result (IsFilling self.new (D.view disk.new) cells) }
         ensures empty { OnOk result (self.new.bytes ≡ []) }
-        ensures any_moment { IsTrue D.told → (cells : List NumberedCell) → IsFilling self.old (D.view disk.old) cells → Throughout (OnlyAt self.old.name IsNotThere (D.view disk.old)) 1 (D.view disk.old) (D.view disk.new) }
-        ensures shape { (self.new.name ≡ self.old.name) × (self.new.from ≡ self.old.from) × (self.new.to ≡ self.old.to) × (self.new.count ≡ self.old.count) × (self.new.filled ≡ self.old.filled) }
+        ensures any_moment { IsTrue D.told → (cells : List NumberedCell) → IsFilling self.old (D.view disk.old) cells
+            → Throughout (OnlyAt self.old.name IsNotThere (D.view disk.old)) 1 (D.view disk.old) (D.view disk.new) }
+        ensures shape { (self.new.name ≡ self.old.name) × (self.new.from ≡ self.old.from) × (self.new.to ≡ self.old.to)
+            × (self.new.count ≡ self.old.count) × (self.new.filled ≡ self.old.filled) }
         ensures touches { IsTrue D.told → Touches self.old.name (D.view disk.old) (D.view disk.new) }
         ensures cause { HasCause (D.faults disk.old) (D.faults disk.new) (IsErr result) }
     {
@@ -182,10 +190,12 @@ impl StoreFile {
         requires full { self.filled ≡ self.count }
         requires store { IsTrue D.told → ∥ ((cells : List NumberedCell) × IsFilling self (D.view disk.old) cells × IsStore (store_of self cells)) ∥₁ }
 
-        ensures stored { IsTrue D.told → (cells : List NumberedCell) → IsFilling self (D.view disk.old) cells → OnOk result (IsDurableFile (D.view disk.new) self.name (store_text (store_of self cells))) }
+        ensures stored { IsTrue D.told → (cells : List NumberedCell) → IsFilling self (D.view disk.old) cells
+            → OnOk result (IsDurableFile (D.view disk.new) self.name (store_text (store_of self cells))) }
 
         // At each moment each image of the file isn't there, or is the whole store.
-        ensures any_moment { IsTrue D.told → (cells : List NumberedCell) → IsFilling self (D.view disk.old) cells → Throughout (OnlyAt self.name (IsWholeOrNot (store_text (store_of self cells))) (D.view disk.old)) 4 (D.view disk.old) (D.view disk.new) }
+        ensures any_moment { IsTrue D.told → (cells : List NumberedCell) → IsFilling self (D.view disk.old) cells
+            → Throughout (OnlyAt self.name (IsWholeOrNot (store_text (store_of self cells))) (D.view disk.old)) 4 (D.view disk.old) (D.view disk.new) }
         ensures touches { IsTrue D.told → Touches self.name (D.view disk.old) (D.view disk.new) }
         ensures cause { HasCause (D.faults disk.old) (D.faults disk.new) (IsErr result) }
     {

@@ -31,9 +31,11 @@ pub fn write_edits<D: Disk>(
     requires kind { name.kind ≡ kinds.Edits }
     requires of { AreEntriesOf name entries.now }
 
-    ensures any_moment { IsTrue D.told → (base : Files) → IsHeld base (D.view disk.old) → ((e : TheEntry) → Contains entries.now e → IsLogged (D.view disk.old).files e)
+    ensures any_moment { IsTrue D.told → (base : Files) → IsHeld base (D.view disk.old)
+        → ((e : TheEntry) → Contains entries.now e → IsLogged (D.view disk.old).files e)
         → Throughout (AllAlike base) (7 + 4 * length entries.now) (D.view disk.old) (D.view disk.new) }
-    ensures held { IsTrue D.told → (base : Files) → IsHeld base (D.view disk.old) → ((e : TheEntry) → Contains entries.now e → IsLogged (D.view disk.old).files e) → OnOk result (IsHeld base (D.view disk.new)) }
+    ensures held { IsTrue D.told → (base : Files) → IsHeld base (D.view disk.old)
+        → ((e : TheEntry) → Contains entries.now e → IsLogged (D.view disk.old).files e) → OnOk result (IsHeld base (D.view disk.new)) }
     ensures written { IsTrue D.told → OnOk result (HasText name entries.now None (content (D.view disk.new).files name)) }
     ensures touches { IsTrue D.told → Touches name (D.view disk.old) (D.view disk.new) }
     ensures cause { HasCause (D.faults disk.old) (D.faults disk.new) (IsErrOf result FileRefusal.DiskFault) }
@@ -56,7 +58,8 @@ fn add_entries<D: Disk>(
     requires open { IsTrue D.told → IsOpen log.old (D.view disk.old) [] }
 
     ensures added { IsTrue D.told → OnOk result (AreIn log.new (D.view disk.new) entries.now) }
-    ensures any_moment { IsTrue D.told → Throughout (OnlyAt log.old.name (HasSome log.old.name entries.now) (D.view disk.old)) (4 * length entries.now) (D.view disk.old) (D.view disk.new) }
+    ensures any_moment { IsTrue D.told
+        → Throughout (OnlyAt log.old.name (HasSome log.old.name entries.now) (D.view disk.old)) (4 * length entries.now) (D.view disk.old) (D.view disk.new) }
     ensures name { log.new.name ≡ log.old.name }
     ensures touches { IsTrue D.told → Touches log.old.name (D.view disk.old) (D.view disk.new) }
     ensures cause { HasCause (D.faults disk.old) (D.faults disk.new) (IsErrOf result FileRefusal.DiskFault) }
@@ -77,8 +80,10 @@ fn add_entry<D: Disk>(
     requires of { IsEntryOf (key_of log.old.name) entry.now }
     requires open { IsTrue D.told → ∥ ((entries : List TheEntry) × AreIn log.old (D.view disk.old) entries) ∥₁ }
 
-    ensures added { IsTrue D.told → (entries : List TheEntry) → AreIn log.old (D.view disk.old) entries → OnOk result (AreIn log.new (D.view disk.new) (entries ++ entry.now ∷ [])) }
-    ensures any_moment { IsTrue D.told → (entries : List TheEntry) → AreIn log.old (D.view disk.old) entries → Throughout (OnlyAt log.old.name (HasSome log.old.name entries) (D.view disk.old)) 4 (D.view disk.old) (D.view disk.new) }
+    ensures added { IsTrue D.told → (entries : List TheEntry) → AreIn log.old (D.view disk.old) entries
+        → OnOk result (AreIn log.new (D.view disk.new) (entries ++ entry.now ∷ [])) }
+    ensures any_moment { IsTrue D.told → (entries : List TheEntry) → AreIn log.old (D.view disk.old) entries
+        → Throughout (OnlyAt log.old.name (HasSome log.old.name entries) (D.view disk.old)) 4 (D.view disk.old) (D.view disk.new) }
     ensures name { log.new.name ≡ log.old.name }
     ensures touches { IsTrue D.told → Touches log.old.name (D.view disk.old) (D.view disk.new) }
     ensures cause { HasCause (D.faults disk.old) (D.faults disk.new) (IsErrOf result FileRefusal.DiskFault) }
@@ -93,8 +98,11 @@ fn add_bytes<D: Disk>(disk: &mut D, log: &mut LogFile, bytes: &EntryBytes) -> Re
     requires of { ∥ ((e : TheEntry) × (bytes.now ≡ entry_frame e) × IsEntryOf (key_of log.old.name) e) ∥₁ }
     requires open { IsTrue D.told → ∥ ((entries : List TheEntry) × AreIn log.old (D.view disk.old) entries) ∥₁ }
 
-    ensures added { IsTrue D.told → (entries : List TheEntry) (e : TheEntry) → AreIn log.old (D.view disk.old) entries → bytes.now ≡ entry_frame e → IsEntryOf (key_of log.old.name) e → OnOk result (AreIn log.new (D.view disk.new) (entries ++ e ∷ [])) }
-    ensures any_moment { IsTrue D.told → (entries : List TheEntry) → AreIn log.old (D.view disk.old) entries → Throughout (OnlyAt log.old.name (HasSome log.old.name entries) (D.view disk.old)) 4 (D.view disk.old) (D.view disk.new) }
+    ensures added { IsTrue D.told → (entries : List TheEntry) (e : TheEntry) → AreIn log.old (D.view disk.old) entries
+        → bytes.now ≡ entry_frame e → IsEntryOf (key_of log.old.name) e
+        → OnOk result (AreIn log.new (D.view disk.new) (entries ++ e ∷ [])) }
+    ensures any_moment { IsTrue D.told → (entries : List TheEntry) → AreIn log.old (D.view disk.old) entries
+        → Throughout (OnlyAt log.old.name (HasSome log.old.name entries) (D.view disk.old)) 4 (D.view disk.old) (D.view disk.new) }
     ensures name { log.new.name ≡ log.old.name }
     ensures touches { IsTrue D.told → Touches log.old.name (D.view disk.old) (D.view disk.new) }
     ensures cause { HasCause (D.faults disk.old) (D.faults disk.new) (IsErr result) }
@@ -110,8 +118,11 @@ fn add_behind<D: Disk>(disk: &mut D, log: &mut LogFile, bytes: &EntryBytes) -> R
     requires of { ∥ ((e : TheEntry) × (bytes.now ≡ entry_frame e) × IsEntryOf (key_of log.old.name) e) ∥₁ }
     requires open { IsTrue D.told → ∥ ((entries : List TheEntry) × AreIn log.old (D.view disk.old) entries) ∥₁ }
 
-    ensures added { IsTrue D.told → (entries : List TheEntry) (e : TheEntry) → AreIn log.old (D.view disk.old) entries → bytes.now ≡ entry_frame e → IsEntryOf (key_of log.old.name) e → OnOk result (AreIn log.new (D.view disk.new) (entries ++ e ∷ [])) }
-    ensures any_moment { IsTrue D.told → (entries : List TheEntry) → AreIn log.old (D.view disk.old) entries → Throughout (OnlyAt log.old.name (HasSome log.old.name entries) (D.view disk.old)) 4 (D.view disk.old) (D.view disk.new) }
+    ensures added { IsTrue D.told → (entries : List TheEntry) (e : TheEntry) → AreIn log.old (D.view disk.old) entries
+        → bytes.now ≡ entry_frame e → IsEntryOf (key_of log.old.name) e
+        → OnOk result (AreIn log.new (D.view disk.new) (entries ++ e ∷ [])) }
+    ensures any_moment { IsTrue D.told → (entries : List TheEntry) → AreIn log.old (D.view disk.old) entries
+        → Throughout (OnlyAt log.old.name (HasSome log.old.name entries) (D.view disk.old)) 4 (D.view disk.old) (D.view disk.new) }
     ensures name { log.new.name ≡ log.old.name }
     ensures touches { IsTrue D.told → Touches log.old.name (D.view disk.old) (D.view disk.new) }
     ensures cause { HasCause (D.faults disk.old) (D.faults disk.new) (IsErr result) }

@@ -27,9 +27,13 @@ pub fn write_all<D: Disk>(alloc: Global, disk: &mut D, jobs: &[EditsJob]) -> Res
     requires jobs { AreJobs jobs.now }
     requires free { IsTrue D.told → AreFreeNames (D.view disk.old) jobs.now }
 
-    ensures any_moment { IsTrue D.told → (base : Files) → IsHeld base (D.view disk.old) → AllLogged (D.view disk.old).files jobs.now → (by : ℕ) × Throughout (AllAlike base) by (D.view disk.old) (D.view disk.new) }
-    ensures held { IsTrue D.told → (base : Files) → IsHeld base (D.view disk.old) → AllLogged (D.view disk.old).files jobs.now → OnOk result (IsHeld base (D.view disk.new)) }
-    ensures written { IsTrue D.told → OnOk result ((j : TheJob) (e : TheEntry) → Contains jobs.now j → Contains j.entries.items e → HasText j.name j.entries.items None (content (D.view disk.new).files j.name)) }
+    ensures any_moment { IsTrue D.told → (base : Files) → IsHeld base (D.view disk.old) → AllLogged (D.view disk.old).files jobs.now
+        → (by : ℕ) × Throughout (AllAlike base) by (D.view disk.old) (D.view disk.new) }
+    ensures held { IsTrue D.told → (base : Files) → IsHeld base (D.view disk.old) → AllLogged (D.view disk.old).files jobs.now
+        → OnOk result (IsHeld base (D.view disk.new)) }
+    ensures written { IsTrue D.told
+        → OnOk result ((j : TheJob) (e : TheEntry) → Contains jobs.now j → Contains j.entries.items e
+        → HasText j.name j.entries.items None (content (D.view disk.new).files j.name)) }
     ensures others { IsTrue D.told → OnOk result ((m : TheName) → IsNoJob jobs.now m → content (D.view disk.new).files m ≡ content (D.view disk.old).files m) }
     ensures gone { IsTrue D.told → OnOk result ((m : TheName) → (D.view disk.new).gone m → (D.view disk.old).gone m) }
     ensures cause { HasCause (D.faults disk.old) (D.faults disk.new) (IsErrOf result FileRefusal.DiskFault) }
@@ -51,10 +55,13 @@ fn write_some<D: Disk>(
     requires kind { name.kind ≡ kinds.Edits }
     requires of { AreEntriesOf name entries.now }
 
-    ensures any_moment { IsTrue D.told → (base : Files) → IsHeld base (D.view disk.old) → ((e : TheEntry) → Contains entries.now e → IsLogged (D.view disk.old).files e)
+    ensures any_moment { IsTrue D.told → (base : Files) → IsHeld base (D.view disk.old)
+        → ((e : TheEntry) → Contains entries.now e → IsLogged (D.view disk.old).files e)
         → Throughout (AllAlike base) (7 + 4 * length entries.now) (D.view disk.old) (D.view disk.new) }
-    ensures held { IsTrue D.told → (base : Files) → IsHeld base (D.view disk.old) → ((e : TheEntry) → Contains entries.now e → IsLogged (D.view disk.old).files e) → OnOk result (IsHeld base (D.view disk.new)) }
-    ensures written { IsTrue D.told → OnOk result ((e : TheEntry) → Contains entries.now e → HasText name entries.now None (content (D.view disk.new).files name)) }
+    ensures held { IsTrue D.told → (base : Files) → IsHeld base (D.view disk.old)
+        → ((e : TheEntry) → Contains entries.now e → IsLogged (D.view disk.old).files e) → OnOk result (IsHeld base (D.view disk.new)) }
+    ensures written { IsTrue D.told
+        → OnOk result ((e : TheEntry) → Contains entries.now e → HasText name entries.now None (content (D.view disk.new).files name)) }
     ensures none { IsTrue D.told → entries.now ≡ [] → (D.view disk.new).files ≡ (D.view disk.old).files }
     ensures touches { IsTrue D.told → Touches name (D.view disk.old) (D.view disk.new) }
     ensures cause { HasCause (D.faults disk.old) (D.faults disk.new) (IsErrOf result FileRefusal.DiskFault) }

@@ -16,8 +16,10 @@ pub fn rename_logs<D: Disk>(disk: &mut D, logs: &[u64]) -> Result<(), Failed>
     requires free { IsTrue D.told → ∥ AreFree (D.view disk.old) logs.now ∥₁ }
     requires rising { IsTrue D.told → AreRising logs.now }
 
-    ensures any_moment { IsTrue D.told → (base : Files) → IsHeld base (D.view disk.old) → LogsKept (D.view disk.old).files logs.now → Throughout (AllAlike base) (length logs.now) (D.view disk.old) (D.view disk.new) }
-    ensures held { IsTrue D.told → (base : Files) → IsHeld base (D.view disk.old) → LogsKept (D.view disk.old).files logs.now → OnOk result (IsHeld base (D.view disk.new)) }
+    ensures any_moment { IsTrue D.told → (base : Files) → IsHeld base (D.view disk.old) → LogsKept (D.view disk.old).files logs.now
+        → Throughout (AllAlike base) (length logs.now) (D.view disk.old) (D.view disk.new) }
+    ensures held { IsTrue D.told → (base : Files) → IsHeld base (D.view disk.old) → LogsKept (D.view disk.old).files logs.now
+        → OnOk result (IsHeld base (D.view disk.new)) }
     ensures gone { IsTrue D.told → OnOk result ((n : ℕ) → Contains logs.now n → IsAbsent (D.view disk.new).files (log_name n)) }
     ensures others { IsTrue D.told → OnOk result ((m : TheName) → IsOther logs.now m → content (D.view disk.new).files m ≡ content (D.view disk.old).files m) }
     ensures cause { HasCause (D.faults disk.old) (D.faults disk.new) (IsErr result) }

@@ -33,8 +33,11 @@ pub fn split_found<D: Disk>(
     requires logs { IsTrue D.told → ∥ AreFree (D.view disk.old) logs.now ∥₁ }
     requires rising { IsTrue D.told → AreRising logs.now }
 
-    ensures any_moment { IsTrue D.told → (base : Files) → IsHeld base (D.view disk.old) → AllLogged (D.view disk.old).files jobs.now → LogsCovered (D.view disk.old).files jobs.now logs.now → (by : ℕ) × Throughout (AllAlike base) by (D.view disk.old) (D.view disk.new) }
-    ensures held { IsTrue D.told → (base : Files) → IsHeld base (D.view disk.old) → AllLogged (D.view disk.old).files jobs.now → LogsCovered (D.view disk.old).files jobs.now logs.now → OnOk result (IsHeld base (D.view disk.new)) }
+    ensures any_moment { IsTrue D.told → (base : Files) → IsHeld base (D.view disk.old) → AllLogged (D.view disk.old).files jobs.now
+        → LogsCovered (D.view disk.old).files jobs.now logs.now
+        → (by : ℕ) × Throughout (AllAlike base) by (D.view disk.old) (D.view disk.new) }
+    ensures held { IsTrue D.told → (base : Files) → IsHeld base (D.view disk.old) → AllLogged (D.view disk.old).files jobs.now
+        → LogsCovered (D.view disk.old).files jobs.now logs.now → OnOk result (IsHeld base (D.view disk.new)) }
     ensures gone { IsTrue D.told → OnOk result ((n : ℕ) → Contains logs.now n → IsAbsent (D.view disk.new).files (log_name n)) }
     ensures written { IsTrue D.told → OnOk result ((j : TheJob) (e : TheEntry) → Contains jobs.now j → Contains j.entries.items e
         → HasText j.name j.entries.items None (content (D.view disk.new).files j.name)) }

@@ -45,7 +45,8 @@ pub fn split<D: Disk>(alloc: Global, disk: &mut D) -> Result<SplitReport, SplitR
     ensures report { IsTrue D.told → IfOk result (λ report. (report.logs ≡ log_count (D.view disk.old).files) × Counts (D.view disk.old).files report.entries) }
     // Damage is told exactly where the files aren't sound.
     ensures sound { IsTrue D.told → OnOk result (IsSound (D.view disk.old).files) }
-    ensures damaged { IsTrue D.told → IfDamage result (λ damage. IsDamage (D.view disk.old).files damage × ((D.view disk.new).files ≡ (D.view disk.old).files)) }
+    ensures damaged { IsTrue D.told
+        → IfDamage result (λ damage. IsDamage (D.view disk.old).files damage × ((D.view disk.new).files ≡ (D.view disk.old).files)) }
     ensures cause { HasCause (D.faults disk.old) (D.faults disk.new) (IsErrOf result SplitRefusal.DiskFault) }
 {
     match split_read(alloc, disk) {
@@ -70,7 +71,8 @@ pub fn split_read<D: Disk>(alloc: Global, disk: &mut D) -> Result<SplitFiles, Sp
     ensures found { IsTrue D.told → IfOk result (λ x. x.names ≡ keys (D.view disk.old).files) }
     ensures names { IsTrue D.told → OnOk result (AtMostOneHigher (D.view disk.old).files (D.view disk.new).files) }
     ensures sound { IsTrue D.told → OnOk result (IsSound (D.view disk.old).files) }
-    ensures damaged { IsTrue D.told → IfDamage result (λ damage. IsDamage (D.view disk.old).files damage × ((D.view disk.new).files ≡ (D.view disk.old).files)) }
+    ensures damaged { IsTrue D.told
+        → IfDamage result (λ damage. IsDamage (D.view disk.old).files damage × ((D.view disk.new).files ≡ (D.view disk.old).files)) }
     ensures cause { HasCause (D.faults disk.old) (D.faults disk.new) (IsErrOf result SplitRefusal.DiskFault) }
 {
     match find_files(alloc, disk) {
