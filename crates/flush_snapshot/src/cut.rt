@@ -1,6 +1,8 @@
 //! Writing a cut of cells as a store file.
 
 ghost use Rattle.std.specs.Prelude.{◌≡◌, ◌≤◌, ◌<◌, ◌+◌, ◌^◌, ℕ, length, IsTrue, IfOk, OnOk, IsErrOf};
+ghost use Rattle.std.specs.FinMap.{empty};
+ghost use Rattle.cell_model.specs.Merge.{put_numbered};
 ghost use Rattle.log_model.specs.declared.name.NameKind.TheVariants as kinds;
 ghost use Rattle.log_model.specs.Files.{IsAbsent};
 ghost use Rattle.log_model.specs.StoreText.{IsStore, store_text};
@@ -45,10 +47,38 @@ pub fn write_cut<D: Disk>(
     ensures memory { IsErrOf result FileRefusal.Memory → disk.new ≡ disk.old }
     ensures cause { HasCause (D.faults disk.old) (D.faults disk.new) (IsErrOf result FileRefusal.DiskFault) }
 {
+    let segment = store_cut(alloc, disk, name, from, to, cut)?;
+    Ok(segment.rows().len() as u64)
+}
+
+/// The same, and it hands the cells back in order, so that who goes on with them needn't order them again.
+pub fn store_cut<D: Disk>(
+    alloc: Global,
+    disk: &mut D,
+    name: Name,
+    from: u64,
+    to: u64,
+    cut: NumberedCells,
+) -> Result<Segment, FileRefusal>
+    requires absent { IsTrue D.told → IsAbsent (D.view disk.old).files name × (¬ (D.view disk.old).gone name) }
+    requires kind { name.kind ≡ kinds.Store }
+    requires range { (1 ≤ from) × (from ≤ to) × (to < 2 ^ 48) }
+    requires within { IsWithin from to cut }
+
+    ensures stored { IsTrue D.told → OnOk result (IsDurableFile (D.view disk.new) name (store_text (cut_store name from to cut))) }
+    ensures store { ¬ IsErrOf result FileRefusal.Memory → IsStore (cut_store name from to cut) }
+    ensures cells { IfOk result (λ segment. segment ≡ put_numbered empty cut) }
+
+    // At each moment each image of the file isn't there, or is the whole store.
+    ensures any_moment { IsTrue D.told → Throughout (OnlyAt name (IsWholeOrNot (store_text (cut_store name from to cut))) (D.view disk.old)) (7 + length (ordered_cells cut)) (D.view disk.old) (D.view disk.new) }
+    ensures touches { IsTrue D.told → Touches name (D.view disk.old) (D.view disk.new) }
+    ensures memory { IsErrOf result FileRefusal.Memory → disk.new ≡ disk.old }
+    ensures cause { HasCause (D.faults disk.old) (D.faults disk.new) (IsErrOf result FileRefusal.DiskFault) }
+{
     let segment = Segment::of_cells(alloc, cut)?;
     let rows = segment.rows();
     let count = rows.len() as u64;
     let store = StoreFile::begin(alloc, disk, name, from, to, count)?;
     write_rows(disk, store, rows)?;
-    Ok(count)
+    Ok(segment)
 }

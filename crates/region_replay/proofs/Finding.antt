@@ -3,6 +3,7 @@ use Rattle.std.proofs.Common.{◌≡◌, ◌≢◌, ◌⊎◌, inl, inr, ℕ, �
 use Rattle.std.specs.FinMap.{get, empty}
 use Rattle.std.specs.List.{AllByRecursion}
 use Rattle.std.proofs.lemmas.Bool.{cases_lt}
+use Rattle.std.proofs.lemmas.List.{append-nil}
 use Rattle.std.proofs.lemmas.List.Elements.{Contains-append_left, Contains-push, Contains-push_cases}
 use Rattle.cell_model.specs.Cell.{Cell}
 use Rattle.cell_model.specs.Order.{VersionKey, Payload, Content, NumberedCell}
@@ -254,8 +255,8 @@ last_more es none n e top above = elim (cases_lt n e.number) as (λ _. IsTop (es
 ]
 
 -- where nothing is unflushed the stores are all there is
-pub no_cells : (x : RegionFiles) (cut : List NumberedCell) (c : Content) → x.unflushed.items ≡ [] → cut ≡ [] → c ≡ put_numbered empty (x.stored ++ cut) → c ≡ put_numbered empty (x.stored ++ entries_cells x.unflushed.items)
-no_cells x cut c none empty_cut is = is ∙ ap (λ (cs : List NumberedCell). put_numbered empty (x.stored ++ cs)) (empty_cut ∙ sym (ap entries_cells none))
+pub no_cells : (x : RegionFiles) (c : Content) → x.unflushed.items ≡ [] → c ≡ put_numbered empty x.stored → c ≡ put_numbered empty (x.stored ++ entries_cells x.unflushed.items)
+no_cells x c none is = is ∙ ap (put_numbered empty) (sym (append-nil x.stored)) ∙ ap (λ (cs : List NumberedCell). put_numbered empty (x.stored ++ cs)) (sym (ap entries_cells none))
 
 pub dropped_of : (base : Files) (u w : DiskView) → IsTrueDisk u → IsTrueDisk w → IsHeld base u → IsHeld base w → {told : Type 0} (x : RegionFiles) (order : IsInOrder told x) (found : IsFound u.files x) → x.unflushed.items ≡ []
     → ((m : Name) → ((n : Name) → Contains x.edits.items n → m ≢ n) → content w.files m ≡ content u.files m)

@@ -1,3 +1,4 @@
+pub mod BaseLaws
 pub mod Cutting
 pub mod Sorting
 pub mod Cleaning

@@ -1,7 +1,8 @@
 //! The cells of a region.
 
-ghost use Rattle.std.specs.Prelude.{◌≡◌, ◌++◌, ◌<◌, Contains, IfOk, OnOk};
+ghost use Rattle.std.specs.Prelude.{◌≡◌, [], ◌∷◌, ◌++◌, ◌<◌, Contains, IfOk, OnOk};
 ghost use Rattle.std.specs.FinMap.{empty};
+ghost use Rattle.cell_model.specs.Join.{joined};
 ghost use Rattle.cell_model.specs.Merge.{at_number, put_numbered};
 ghost use Rattle.log_model.specs.Entry.{Entry as TheEntry};
 ghost use Rattle.region_replay.specs.Bases.{entries_cells};
@@ -9,7 +10,7 @@ ghost use Rattle.region_replay.specs.Regions.{IsTop};
 
 use entry_frame::Entry;
 use kv_cell::{Cell, NoMemory, NumberedCells};
-use mem_segments::{Base, Segment};
+use mem_segments::{Base, Segment, merge};
 use std::alloc::Global;
 use std::sync::Arc;
 
@@ -42,32 +43,29 @@ fn push_all(cells: &mut NumberedCells, number: u64, more: Vec<Cell>) -> Result<(
     Ok(())
 }
 
-/// Adds copies of these cells.
-fn append_copies(
-    alloc: Global,
-    cells: &mut NumberedCells,
-    more: &[(u64, Cell)],
-) -> Result<(), NoMemory>
-    ensures { OnOk result (cells.new ≡ cells.old ++ more.now) }
+/// What a region is opened with where nothing is unflushed: the stored cells.
+pub(crate) fn base_of(alloc: Global, stored: NumberedCells, last: u64) -> Result<Base, NoMemory>
+    ensures { IfOk result (λ base. (base.content ≡ put_numbered empty stored) × (base.last ≡ last)) }
 {
-    for x in more {
-        cells.push(x.0, x.1.copy(alloc)?)?;
-    }
-    Ok(())
+    let cells = Arc::new(alloc, Segment::of_cells(alloc, stored)?)?;
+    Ok(Base { cells, last })
 }
 
-/// What a region is opened with: the stored cells with these behind them, the later of two equal ones kept.
-pub(crate) fn base_of(
+/// What a region is opened with: the stored cells and the unflushed ones, the later of two equal ones kept. No cell is
+/// ordered again, and none is copied.
+pub(crate) fn base_with(
     alloc: Global,
-    stored: NumberedCells,
-    cut: &NumberedCells,
+    stored: Segment,
+    unflushed: Segment,
     last: u64,
 ) -> Result<Base, NoMemory>
-    ensures { IfOk result (λ base. (base.content ≡ put_numbered empty (stored ++ cut.now)) × (base.last ≡ last)) }
+    ensures { IfOk result (λ base. (base.content ≡ joined (stored ∷ unflushed ∷ [])) × (base.last ≡ last)) }
 {
-    let mut cells = stored;
-    append_copies(alloc, &mut cells, cut.as_slice())?;
-    let cells = Arc::new(alloc, Segment::of_cells(alloc, cells)?)?;
+    if stored.is_empty() {
+        let cells = Arc::new(alloc, unflushed)?;
+        return Ok(Base { cells, last });
+    }
+    let cells = Arc::new(alloc, merge(alloc, &stored, &unflushed)?)?;
     Ok(Base { cells, last })
 }
 

@@ -13,16 +13,17 @@ ghost use Rattle.region_replay.specs.Ready.{IsOf};
 ghost use Rattle.region_replay.specs.Regions.{IsInOrder, IsFound};
 
 use crate::found::{RegionFiles, Replayed};
-use crate::gathering::{base_of, entry_cells, last_number};
+use crate::gathering::{base_of, base_with, entry_cells, last_number};
 use crate::removing::remove_all;
 use crate::replaying::replay_found;
 use disk_images::{Disk, Name, NameKind};
-use kv_cell::NumberedCells;
 use log_file::FileRefusal;
+use mem_segments::Segment;
 use std::alloc::Global;
 
 /// Writes what is unflushed of a region as its next store, and removes its edits files. Where nothing is unflushed, no store
-/// is written. Memory for the region's cells is taken before anything is written.
+/// is written. Out of memory may come before anything is written, or when the files are as they are after Ok: then too each
+/// image recovers as before.
 pub fn replay_region<D: Disk>(
     alloc: Global,
     disk: &mut D,
@@ -79,8 +80,7 @@ fn drop_edits<D: Disk>(
         → content (D.view disk.new).files m ≡ content (D.view disk.old).files m) }
     ensures cause { HasCause (D.faults disk.old) (D.faults disk.new) (IsErrOf result FileRefusal.DiskFault) }
 {
-    let cut = NumberedCells::new(alloc);
-    let base = base_of(alloc, found.stored, &cut, found.flushed)?;
+    let base = base_of(alloc, found.stored, found.flushed)?;
     let replayed = Replayed {
         base,
         flushed: found.flushed,
@@ -122,17 +122,17 @@ fn store_region<D: Disk>(
     let from = found.flushed + 1;
     let to = last_number(&found.unflushed, found.flushed);
     let cut = entry_cells(alloc, found.unflushed)?;
-    let base = base_of(alloc, found.stored, &cut, to)?;
-    let replayed = Replayed {
-        base,
-        flushed: to,
-        next_store: found.next_store + 1,
-    };
+    let stored = Segment::of_cells(alloc, found.stored)?;
     let name = Name {
         kind: NameKind::Store,
         region: found.region,
         number: found.next_store,
     };
-    replay_found(alloc, disk, name, from, to, cut, &found.edits)?;
-    Ok(replayed)
+    let unflushed = replay_found(alloc, disk, name, from, to, cut, &found.edits)?;
+    let base = base_with(alloc, stored, unflushed, to)?;
+    Ok(Replayed {
+        base,
+        flushed: to,
+        next_store: found.next_store + 1,
+    })
 }

@@ -1,6 +1,8 @@
 //! The steps of a replay that change files.
 
-ghost use Rattle.std.specs.Prelude.{◌≡◌, ◌≢◌, ◌≤◌, ◌<◌, ◌+◌, ◌^◌, ℕ, List, Contains, IsTrue, OnOk, IsErrOf};
+ghost use Rattle.std.specs.Prelude.{◌≡◌, ◌≢◌, ◌≤◌, ◌<◌, ◌+◌, ◌^◌, ℕ, List, Contains, IsTrue, IfOk, OnOk, IsErrOf};
+ghost use Rattle.std.specs.FinMap.{empty};
+ghost use Rattle.cell_model.specs.Merge.{put_numbered};
 ghost use Rattle.log_model.specs.declared.name.Name.{Name as TheName};
 ghost use Rattle.log_model.specs.declared.name.NameKind.TheVariants as kinds;
 ghost use Rattle.log_model.specs.Files.{Files, Reads, IsAbsent, content};
@@ -17,9 +19,10 @@ use crate::storing::store_unflushed;
 use disk_images::{Disk, Name};
 use kv_cell::NumberedCells;
 use log_file::FileRefusal;
+use mem_segments::Segment;
 use std::alloc::Global;
 
-/// Writes the region's unflushed cells as a store, and removes its edits files.
+/// Writes the region's unflushed cells as a store, removes its edits files, and hands the cells back in order.
 pub fn replay_found<D: Disk>(
     alloc: Global,
     disk: &mut D,
@@ -28,7 +31,7 @@ pub fn replay_found<D: Disk>(
     to: u64,
     cut: NumberedCells,
     names: &[Name],
-) -> Result<(), FileRefusal>
+) -> Result<Segment, FileRefusal>
     requires absent { IsTrue D.told → IsAbsent (D.view disk.old).files name × (¬ (D.view disk.old).gone name) }
     requires kind { name.kind ≡ kinds.Store }
     requires range { (1 ≤ from) × (from ≤ to) × (to < 2 ^ 48) }
@@ -49,11 +52,12 @@ pub fn replay_found<D: Disk>(
         → IsAbsent (D.view disk.new).files m) }
     ensures others { IsTrue D.told → OnOk result ((m : TheName) → m ≢ name → ((n : TheName) → Contains names.now n
         → m ≢ n) → content (D.view disk.new).files m ≡ content (D.view disk.old).files m) }
+    ensures cells { IfOk result (λ segment. segment ≡ put_numbered empty cut) }
     ensures cause { HasCause (D.faults disk.old) (D.faults disk.new) (IsErrOf result FileRefusal.DiskFault) }
 {
-    store_unflushed(alloc, disk, name, from, to, cut)?;
+    let segment = store_unflushed(alloc, disk, name, from, to, cut)?;
     match remove_all(disk, names) {
-        Ok(()) => Ok(()),
+        Ok(()) => Ok(segment),
         Err(_) => Err(FileRefusal::DiskFault),
     }
 }

@@ -1,6 +1,8 @@
 //! What is unflushed of a region goes into a store file.
 
 ghost use Rattle.std.specs.Prelude.{◌≡◌, ◌≤◌, ◌<◌, ◌+◌, ◌^◌, ℕ, length, IsTrue, IfOk, OnOk, IsErrOf};
+ghost use Rattle.std.specs.FinMap.{empty};
+ghost use Rattle.cell_model.specs.Merge.{put_numbered};
 ghost use Rattle.log_model.specs.declared.name.NameKind.TheVariants as kinds;
 ghost use Rattle.log_model.specs.Files.{Files, IsAbsent};
 ghost use Rattle.log_model.specs.Recovered.{FlushesTo};
@@ -13,12 +15,13 @@ ghost use Rattle.wal_split.specs.Held.{IsHeld};
 ghost use Rattle.region_replay.specs.Cuts.{IsUnflushedCut};
 
 use disk_images::{Disk, Name};
-use flush_snapshot::write_cut;
+use flush_snapshot::store_cut;
 use kv_cell::NumberedCells;
 use log_file::FileRefusal;
+use mem_segments::Segment;
 use std::alloc::Global;
 
-/// Writes the region's unflushed cells as its next store file. Each image recovers as before.
+/// Writes the region's unflushed cells as its next store file, and hands them back in order. Each image recovers as before.
 pub fn store_unflushed<D: Disk>(
     alloc: Global,
     disk: &mut D,
@@ -26,7 +29,7 @@ pub fn store_unflushed<D: Disk>(
     from: u64,
     to: u64,
     cut: NumberedCells,
-) -> Result<u64, FileRefusal>
+) -> Result<Segment, FileRefusal>
     requires absent { IsTrue D.told → IsAbsent (D.view disk.old).files name × (¬ (D.view disk.old).gone name) }
     requires kind { name.kind ≡ kinds.Store }
     requires range { (1 ≤ from) × (from ≤ to) × (to < 2 ^ 48) }
@@ -38,12 +41,13 @@ pub fn store_unflushed<D: Disk>(
     ensures held { IsTrue D.told → (base : Files) → IsHeld base (D.view disk.old)
         → IsUnflushedCut (D.view disk.old).files name.region to cut → OnOk result (IsHeld base (D.view disk.new)) }
     ensures flushed { IsTrue D.told → OnOk result (FlushesTo (D.view disk.new).files name.region to) }
+    ensures cells { IfOk result (λ segment. segment ≡ put_numbered empty cut) }
     ensures memory { IsErrOf result FileRefusal.Memory → disk.new ≡ disk.old }
     ensures touches { IsTrue D.told → Touches name (D.view disk.old) (D.view disk.new) }
     ensures cause { HasCause (D.faults disk.old) (D.faults disk.new) (IsErrOf result FileRefusal.DiskFault) }
 {
-    match write_cut(alloc, disk, name, from, to, cut) {
-        Ok(count) => Ok(count),
+    match store_cut(alloc, disk, name, from, to, cut) {
+        Ok(segment) => Ok(segment),
         Err(FileRefusal::Memory) => Err(FileRefusal::Memory),
         Err(FileRefusal::DiskFault) => Err(FileRefusal::DiskFault),
     }

@@ -12,7 +12,7 @@ pub invariant_of-replayed : goal.invariant_of-replayed
 invariant_of-replayed g c =
     let x = c.args.found in
     within_of x c.requires.order x.flushed (none_top x.unflushed.items x.flushed c.requires.none) x.next_store c.in_ok-base.base c.requires.order.next_given (omega (arith, c.requires.order.next))
-    (no_cells x c.new-cut.result c.in_ok-base.base.content c.requires.none c.new-cut.ensures c.in_ok-base.ensures.0) c.in_ok-base.ensures.1
+    (no_cells x c.in_ok-base.base.content c.requires.none c.in_ok-base.ensures.0) c.in_ok-base.ensures.1
 
 pub returns-in-Ok-clause-any_moment : goal.returns-in-Ok-clause-any_moment
 returns-in-Ok-clause-any_moment g c told base held found =
@@ -37,7 +37,7 @@ returns-in-Ok-clause-replayed g c told base held found =
     let held_w = c.in-Ok.ensures.held told base held (subst (λ (ns : List Name). EditsFlushed u.files ns) (sym c.deref.ensures.value) (edits_flushed u.files x c.requires.order found c.requires.none)) in
     dropped_of base u w (g.met.D.Disk.is_true c.args.disk.now told) (g.met.D.Disk.is_true c.remove_all.new.disk told) held held_w x c.requires.order found c.requires.none
     (λ m other. c.in-Ok.ensures.others told m (λ n has. other n (subst (λ (ns : List Name). Contains ns n) c.deref.ensures.value has)))
-    c.in_ok-base.base (no_cells x c.new-cut.result c.in_ok-base.base.content c.requires.none c.new-cut.ensures c.in_ok-base.ensures.0) c.in_ok-base.ensures.1
+    c.in_ok-base.base (no_cells x c.in_ok-base.base.content c.requires.none c.in_ok-base.ensures.0) c.in_ok-base.ensures.1
 
 pub returns-in-Ok-clause-others : goal.returns-in-Ok-clause-others
 returns-in-Ok-clause-others g c told m not other = c.in-Ok.ensures.others told m (λ n has. other n (subst (λ (ns : List Name). Contains ns n) c.deref.ensures.value has))

@@ -4,7 +4,7 @@ use Rattle.log_model.specs.StoreText.{IsStore, store_text}
 use Rattle.flush_snapshot.specs.Cut.{ordered_cells, cut_store}
 use Rattle.flush_snapshot.proofs.Cuts.{cut_is_store}
 use Rattle.flush_snapshot.proofs.Moments.{IsOfCut, same_cut, none_begun, filled_moments, cut_moments}
-use Rattle.flush_snapshot.proofs.cut.write_cut.Goals as goal
+use Rattle.flush_snapshot.proofs.cut.store_cut.Goals as goal
 
 pub returns-in_err-segment-clause-any_moment : goal.returns-in_err-segment-clause-any_moment
 returns-in_err-segment-clause-any_moment g c told =
