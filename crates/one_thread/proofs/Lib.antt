@@ -1,4 +1,5 @@
 pub mod Rows
+pub mod NoHistory
 pub mod Lists
 pub mod Positions
 pub mod Views
