@@ -13,6 +13,7 @@ mod page;
 mod rest;
 mod row;
 mod segment;
+mod shared;
 mod sort_key;
 
 pub use cursor::Cursor;
@@ -23,6 +24,7 @@ pub use merging::merge;
 pub use page::Page;
 pub use row::Row;
 pub use segment::{Base, Segment};
+pub use shared::SharedCells;
 
 #[cfg(test)]
 mod tests;

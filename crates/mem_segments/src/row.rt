@@ -13,7 +13,7 @@ use std::marker::Model;
 use std::sync::Arc;
 
 /// A cell with the number of its edit. Contracts see the pair, number first.
-#[derive(Drop)]
+#[derive(Debug, Drop)]
 pub struct Row {
     number: u64,
     pub(crate) cell: Arc<Cell, Global>,

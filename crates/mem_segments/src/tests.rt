@@ -140,6 +140,24 @@ fn what_is_not_merged_is_shared(rt: HostRuntime) -> Result<(), Fail> {
 }
 
 #[test]
+fn list_of_a_walks_rows_shares_the_segments_cells(rt: HostRuntime) -> Result<(), Fail> {
+    let alloc = rt.alloc();
+    let mut parts = Vec::new(alloc);
+    parts.push(segment(alloc, &[(3, b'c'), (1, b'a'), (2, b'b')])?)?;
+    let mut cells = SharedCells::new(alloc);
+    let mut walk = MergeIter::new(alloc, &parts, b"", b"")?;
+    while let Some(row) = walk.next_row() {
+        cells.push(row.share()?)?;
+    }
+    cells.fit();
+    assert_eq!(rt; cells.len(), 3);
+    for row in parts[0].rows() {
+        assert_eq!(rt; Arc::strong_count(&row.cell), 2);
+    }
+    Ok(())
+}
+
+#[test]
 fn ten_thousand_edits_stand_in_few_segments(rt: HostRuntime) -> Result<(), Fail> {
     let alloc = rt.alloc();
     let mut list = SegmentList::new(alloc);

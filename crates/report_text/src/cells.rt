@@ -12,6 +12,7 @@ ghost use Rattle.report_text.specs.Texts.{columns_text, stamp_text};
 use crate::tokens::append_token;
 use crate::words::{append, append_number};
 use kv_cell::{Cell, Kind, NoMemory};
+use mem_segments::Row;
 
 fn kind_name(kind: Kind) -> &'static [u8]
     ensures { result.now ≡ name_of_code (code_of kind) }
@@ -77,12 +78,12 @@ pub fn append_cell(out: &mut Vec<u8>, number: u64, cell: &Cell) -> Result<(), No
 }
 
 /// Appends the lines of numbered cells in their order. After a refusal the vector begins with what it had.
-pub fn append_cells(out: &mut Vec<u8>, cells: &[(u64, Cell)]) -> Result<(), NoMemory>
-    ensures ok { OnOk result (out.new.items ≡ out.old.items ++ flat_map cell_line cells.now) }
+pub fn append_cells(out: &mut Vec<u8>, rows: &[Row]) -> Result<(), NoMemory>
+    ensures ok { OnOk result (out.new.items ≡ out.old.items ++ flat_map cell_line rows.now) }
     ensures kept { take (vec_len out.old) out.new.items ≡ out.old.items }
 {
-    for (number, cell) in cells {
-        append_cell(out, *number, cell)?;
+    for row in rows {
+        append_cell(out, row.number(), row.cell())?;
     }
     Ok(())
 }

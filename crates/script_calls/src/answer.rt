@@ -1,6 +1,6 @@
 //! What a call of a script is answered.
 
-use kv_cell::NumberedCells;
+use mem_segments::SharedCells;
 
 /// One variant for each form of answer that a reply line may have.
 #[derive(Debug, Drop)]
@@ -17,8 +17,8 @@ pub enum Answer {
     PutFaultAt { number: u64 },
     /// No number is left above the region's last one.
     PutSpent { last: u64 },
-    /// The cells that are seen at this point.
-    Scanned { point: u64, cells: NumberedCells },
+    /// The cells that are seen at this point, shared with the region's segments.
+    Scanned { point: u64, cells: SharedCells },
     ScanMemory,
     /// The region is flushed up to this number.
     FlushOk { number: u64 },

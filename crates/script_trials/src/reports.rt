@@ -1,5 +1,6 @@
-use kv_cell::{Cell, NumberedCells};
+use kv_cell::Cell;
 use log_model::{Name, NameKind};
+use mem_segments::{Row, SharedCells};
 use report_text::*;
 use script_model::{CellField, ScriptWhy};
 use std::alloc::Global;
@@ -48,14 +49,18 @@ fn scanned(alloc: Global) -> Result<Answer, Fail> {
     )?;
     Ok(Answer::Scanned {
         point: 1,
-        cells: NumberedCells::of(vec![in alloc; (1, mail), (1, name)]?),
+        cells: SharedCells::of(vec![in alloc;
+            Row::new(alloc, 1, mail)?,
+            Row::new(alloc, 1, name)?,
+        ]?),
     })
 }
 
 fn replies(alloc: Global) -> Result<ReplyLines, Fail> {
+    let cell = put(alloc, [b"k1", b"f", b"q"], 5, b"v")?;
     let one = Answer::Scanned {
         point: 1,
-        cells: NumberedCells::of(vec![in alloc; (1, put(alloc, [b"k1", b"f", b"q"], 5, b"v")?)]?),
+        cells: SharedCells::of(vec![in alloc; Row::new(alloc, 1, cell)?]?),
     };
     Ok(ReplyLines::of(vec![in alloc;
         reply(1, 1, Answer::PutOk { number: 1 }),
@@ -118,7 +123,7 @@ fn each_answer_once(rt: HostRuntime) -> Result<(), Fail> {
             1,
             Answer::Scanned {
                 point: 3,
-                cells: NumberedCells::new(alloc)
+                cells: SharedCells::new(alloc)
             }
         ),
         reply(2, 2, Answer::ScanMemory),
