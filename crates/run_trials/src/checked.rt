@@ -136,15 +136,15 @@ fn assert_cells<R: Abort>(rt: &R, cells: &[String], lines: &[&str]) {
     }
 }
 
-/// For each region the greatest number that a handler has seen in it.
+/// For each region, of up to 64, the greatest number that a handler has seen in it.
 #[derive(Clone, Copy)]
 struct Places {
-    seen: [u64; 5],
+    seen: [u64; 65],
 }
 
 impl Places {
     fn none() -> Places {
-        Places { seen: [0; 5] }
+        Places { seen: [0; 65] }
     }
 
     fn of(&self, region: u64) -> u64 {

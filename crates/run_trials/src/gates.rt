@@ -122,3 +122,52 @@ impl Gate for TurnGate {
 
     fn logged<R: Wait>(&self, _rt: &R, _handler: u32, _call: u32) {}
 }
+
+/// Holds the disk's syncs from the first handler's call on, the second handler's first call until so many syncs were begun,
+/// and lets the disk go on at the second handler's next call.
+#[derive(Drop)]
+pub(crate) struct DiskGate {
+    seen: Arc<AtomicU64>,
+    held: Arc<AtomicU64>,
+    call: u32,
+    wanted: u64,
+    vain: AtomicU64,
+}
+
+impl DiskGate {
+    pub(crate) fn new(
+        seen: Arc<AtomicU64>,
+        held: Arc<AtomicU64>,
+        call: u32,
+        wanted: u64,
+    ) -> DiskGate {
+        DiskGate {
+            seen,
+            held,
+            call,
+            wanted,
+            vain: AtomicU64::new(0),
+        }
+    }
+
+    /// How many waits were in vain.
+    pub(crate) fn vain(&self) -> u64 {
+        self.vain.load(Ordering::SeqCst)
+    }
+}
+
+impl Gate for DiskGate {
+    fn before<R: Wait>(&self, _rt: &R, handler: u32, call: u32) {
+        if handler == 1 {
+            if call == self.call {
+                self.held.store(1, Ordering::SeqCst);
+            }
+        } else if call == 1 {
+            hold(&self.seen, self.wanted, &self.vain);
+        } else {
+            self.held.store(0, Ordering::SeqCst);
+        }
+    }
+
+    fn logged<R: Wait>(&self, _rt: &R, _handler: u32, _call: u32) {}
+}

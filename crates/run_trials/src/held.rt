@@ -2,7 +2,7 @@
 
 use crate::bench::{assert_lines, has_line, run_past};
 use crate::disks::empty_disk;
-use crate::gates::{MeetingGate, SyncGate};
+use crate::gates::{DiskGate, MeetingGate, SyncGate};
 use disk_fakes::WatchDisk;
 use load_run::Status;
 use std::sync::Arc;
@@ -65,5 +65,32 @@ fn second_put_passes_first(rt: HostRuntime) -> Result<(), TestFail> {
         let text = ran.text.as_str();
         assert!(rt; has_both(text, &one) || has_both(text, &other), "{text}");
     }
+    Ok(())
+}
+
+const TWO_FLUSHES: &str = "time 1000
+regions 1
+handlers 2
+put 1 1 sync 1
+cell r f q 1 put v
+flush 1 1
+flush 2 1
+roll 2
+";
+
+// The first flush is held in the fourth sync, that of its store's bytes: a sync of the new log and two of the put's batch are
+// behind it. Meanwhile the second one comes, and is back before the first may go on.
+#[test]
+fn second_flush_meets_first(rt: HostRuntime) -> Result<(), TestFail> {
+    let alloc = rt.alloc();
+    let seen = Arc::new(alloc, AtomicU64::new(0))?;
+    let held = Arc::new(alloc, AtomicU64::new(0))?;
+    let gate = DiskGate::new(Arc::try_clone(&seen)?, Arc::try_clone(&held)?, 2, 4);
+    let disk = WatchDisk::new(empty_disk(alloc, &[])?, seen, held);
+    let ran = run_past(&rt, TWO_FLUSHES, disk, &gate)?;
+    assert_eq!(rt; gate.vain(), 0);
+    assert_eq!(rt; ran.status, Status::Done);
+    let lines = ["reply 1 2 flush ok 1", "reply 2 1 flush busy 1 2", "end 0"];
+    assert_lines(&rt, ran.text.as_str(), &lines);
     Ok(())
 }

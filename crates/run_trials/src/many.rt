@@ -1,4 +1,4 @@
-//! Twenty scripts of 1 to 16 handlers, each run twenty times, and each report judged.
+//! Scripts of 1 to 16 handlers on up to 64 regions, each run twenty times, and each report judged.
 
 use crate::bench::{Ended, recover, run_free};
 use crate::checked::{Edit, assert_journals, assert_replies, count_of, read_edits};
@@ -17,10 +17,12 @@ fn assert_kept<R: Threads + Wait + Sync + AllocGlobal + Abort>(
     rt: &R,
     ran: Ended<MemDisk>,
     edits: &[Edit],
+    regions: u64,
 ) -> Result<(), TestFail> {
     let again = recover(rt, ran.disk)?;
     assert_eq!(rt; again.status, Status::Done);
-    for region in 1..5 {
+    for before in 0..regions {
+        let region = before.wrapping_add(1);
         let count = count_of(edits, region);
         assert_eq!(rt; recovered(again.text.as_str(), region), (count, count));
     }
@@ -40,7 +42,7 @@ fn run_once<R: Threads + Wait + Sync + AllocGlobal + Abort>(
     let edits = read_edits(rt, &steps, ran.text.as_str())?;
     assert_journals(rt, &steps, &edits);
     assert_replies(rt, &steps, &edits, ran.text.as_str())?;
-    assert_kept(rt, ran, &edits)
+    assert_kept(rt, ran, &edits, plan.regions)
 }
 
 /// How often each script is run, since threads take turns in many orders.
@@ -75,6 +77,9 @@ const SIXTEEN_HANDLERS: [Row; 5] = [
     (19, 16, 4, 8),
     (20, 16, 3, 12),
 ];
+
+/// Calls on all regions that there may be.
+const ALL_REGIONS: [Row; 1] = [(21, 16, 64, 24)];
 
 /// Runs each script of a table, again and again.
 fn run_all<R: Threads + Wait + Sync + AllocGlobal + Abort>(
@@ -113,4 +118,9 @@ fn eight_handlers(rt: HostRuntime) -> Result<(), TestFail> {
 #[test]
 fn sixteen_handlers(rt: HostRuntime) -> Result<(), TestFail> {
     run_all(&rt, &SIXTEEN_HANDLERS)
+}
+
+#[test]
+fn sixteen_handlers_on_64_regions(rt: HostRuntime) -> Result<(), TestFail> {
+    run_all(&rt, &ALL_REGIONS)
 }

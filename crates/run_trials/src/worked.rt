@@ -129,3 +129,33 @@ fn two_handlers_two_regions(rt: HostRuntime) -> Result<(), TestFail> {
     );
     Ok(())
 }
+
+const NO_CALLS: &str = "time 1000
+regions 2
+handlers 2
+";
+
+// A server that is closed with nothing done, over no files and over those of a run.
+#[test]
+fn closed_with_nothing_done(rt: HostRuntime) -> Result<(), TestFail> {
+    let alloc = rt.alloc();
+    let ran = run_free(&rt, NO_CALLS, empty_disk(alloc, &[])?)?;
+    assert_eq!(rt; ran.status, Status::Done);
+    assert_eq!(rt;
+        ran.text.as_str(),
+        "hwal 1\nregion 1 base 0 0\nregion 2 base 0 0\nend 0\n"
+    );
+    let ran = run_free(&rt, TWO_HANDLERS, ran.disk)?;
+    let ran = run_free(&rt, NO_CALLS, ran.disk)?;
+    assert_eq!(rt; ran.status, Status::Done);
+    assert_eq!(rt;
+        ran.text.as_str(),
+        "hwal 1\nregion 1 base 1 2\nregion 2 base 1 1\nend 0\n"
+    );
+    let recovered = recover(&rt, ran.disk)?;
+    assert_eq!(rt;
+        recovered.text.as_str(),
+        "recovered 1 1 2\nrecovered 2 1 1\nend 0\n"
+    );
+    Ok(())
+}
