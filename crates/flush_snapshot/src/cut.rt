@@ -70,7 +70,9 @@ pub fn store_cut<D: Disk>(
     ensures cells { IfOk result (λ segment. segment ≡ put_numbered empty cut) }
 
     // At each moment each image of the file isn't there, or is the whole store.
-    ensures any_moment { IsTrue D.told → Throughout (OnlyAt name (IsWholeOrNot (store_text (cut_store name from to cut))) (D.view disk.old)) (7 + length (ordered_cells cut)) (D.view disk.old) (D.view disk.new) }
+    ensures any_moment { IsTrue D.told
+        → Throughout (OnlyAt name (IsWholeOrNot (store_text (cut_store name from to cut))) (D.view disk.old)) (7 + length (ordered_cells cut))
+        (D.view disk.old) (D.view disk.new) }
     ensures touches { IsTrue D.told → Touches name (D.view disk.old) (D.view disk.new) }
     ensures memory { IsErrOf result FileRefusal.Memory → disk.new ≡ disk.old }
     ensures cause { HasCause (D.faults disk.old) (D.faults disk.new) (IsErrOf result FileRefusal.DiskFault) }
