@@ -144,6 +144,7 @@ headline_before {script} {status} {text} u v w looks goes h = record {
   report = subst (λ (f : Files). IsOneReport script f h.histories h.replies) looks.files h.report;
   journals = h.journals;
   lawful = h.lawful;
+  one_thread = h.one_thread;
   endures = h.endures;
   others = λ J r image above. subst (λ (f : Files). RecoversAlike f J r) looks.files (h.others J r image above);
   images_sound = λ low J image. h.images_sound (subst (λ (f : Files). (name : Name) → IsPresent f name → name.number ≤ 2 ^ 61) (sym looks.files) low) J image;

@@ -26,6 +26,8 @@ use Rattle.run_model.specs.Spent.{IsSpent, OnlyPuts, first_spent}
 use Rattle.run_model.specs.Headline.{IsSpentHeadline}
 use Rattle.run_model.proofs.SpentLaws.{found as found_first}
 use Rattle.std.proofs.Common.{Some}
+use Rattle.one_thread.specs.History.{IsHistory}
+use Rattle.one_thread.proofs.History.{history_of as in_one_thread}
 
 module _ {script : Script} {found : Files} {left : DiskView} {name : Naming} {hs : List Handled} {xs : List ClosedAt} {broken : Bool} (c : Closed script found left name hs xs broken)
     (kept : (x : ClosedAt) → Contains xs x → Survives left broken x.region x.it) (left_so : Leaves found left broken script.regions) where
@@ -73,6 +75,8 @@ module _ {script : Script} {found : Files} {left : DiskView} {name : Naming} {hs
     };
     journals = at_each c (IsOneJournal script) (one_journal c);
     lawful = at_each c (λ h. IsLawful h.region h.base h.edits (replies_of hs)) (lawful_at c);
+    one_thread = at_each c (λ h. (history : List Reply) × IsHistory h.region h.base h.edits (replies_of hs) history)
+        (λ x is. in_one_thread x.region x.it.base x.it.edits (replies_of hs) (one_journal c x is).journal (lawful_at c x is));
     endures = at_each c (Endures left status (replies_of hs)) (endures status whole);
     others = λ J r image above. subst (λ f. RecoversAlike f J r) (sym same) (left_so.others J r image above);
     images_sound = λ low J image. left_so.sound J image (subst (λ f. (name : Name) → IsPresent f name → name.number ≤ 2 ^ 61) same low);

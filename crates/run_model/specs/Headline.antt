@@ -19,6 +19,7 @@ use Rattle.server_model.specs.Steps.{IsRolled, IsFault}
 use Rattle.script_model.specs.Calls.{Script, asked, asked_by}
 use Rattle.run_model.specs.declared.spent.Spent.{Spent}
 use Rattle.run_model.specs.Spent.{IsSpent, IsFirstSpent}
+use Rattle.one_thread.specs.History.{IsHistory}
 
 -- one region's base and its one list of edits
 pub record History : Type 0 where
@@ -120,6 +121,8 @@ pub record IsHeadline (script : Script) (found left : DiskView) (status : ℕ) (
   pub report : IsOneReport script found.files histories replies
   pub journals : (h : History) → Contains histories h → IsOneJournal script h
   pub lawful : (h : History) → Contains histories h → IsLawful h.region h.base h.edits replies
+  -- so of each region the puts and scans of all handlers are a history of one thread
+  pub one_thread : (h : History) → Contains histories h → (history : List Reply) × IsHistory h.region h.base h.edits replies history
   pub endures : (h : History) → Contains histories h → Endures left status replies h
   pub others : (J : Files) (r : ℕ) → IsImageNow left J → script.regions < r → RecoversAlike found.files J r
   pub images_sound : ((name : Name) → IsPresent found.files name → name.number ≤ 2 ^ 61) → (J : Files) → IsImageNow left J → IsSound J
