@@ -109,11 +109,13 @@ fn load_empty<R: Threads + Wait + Sync, D: Disk + Send, K: Sink, G: Gate + Sync>
     match carry_out(rt, alloc, script, disk, gate) {
         Ran::Closed {
             disk,
-            regions: _regions,
+            regions,
             replies,
             spent,
             broken,
         } => {
+            // The journals go before the store is opened again, which needs as much.
+            drop(regions);
             let mut disk = disk;
             let status = decided_status(alloc, broken, spent, replies);
             let status = end_load(alloc, counts, status, &mut disk, out);

@@ -12,32 +12,34 @@ ghost use Rattle.region_lock.specs.Passes.{known_of};
 
 use crate::naming::Naming;
 use crate::pass::RegionPass;
-use kv_cell::{NoMemory, NumberedCells};
+use kv_cell::NoMemory;
+use mem_segments::SharedCells;
 use region_state::Version;
 use std::alloc::Global;
 use std::sync::Arc;
 
-/// A point, and the cells that a scan saw at it, in order.
+/// A point, and the cells that a scan saw at it, in order. They are shared with the region's segments.
 #[derive(Drop)]
 pub struct ScanReply {
     pub point: u64,
-    pub cells: NumberedCells,
+    pub cells: SharedCells,
 }
 
-/// The cells of a version in a range of rows, copied.
+/// The cells of a version in a range of rows, shared: no byte of them is copied.
 fn cells_of(
     alloc: Global,
     version: &Version,
     from: &[u8],
     to: &[u8],
-) -> Result<NumberedCells, NoMemory>
+) -> Result<SharedCells, NoMemory>
     ensures { IfOk result (λ cells. (region : ℕ) → cells ≡ seen_in region version.now from.now to.now) }
 {
-    let mut cells = NumberedCells::new(alloc);
+    let mut cells = SharedCells::new(alloc);
     let mut walk = version.scan(alloc, from, to)?;
-    'copying: while let Some((number, cell)) = walk.next() {
-        cells.push(number, cell.copy(alloc)?)?;
+    'sharing: while let Some(row) = walk.next_row() {
+        cells.push(row.share()?)?;
     }
+    cells.fit();
     Ok(cells)
 }
 

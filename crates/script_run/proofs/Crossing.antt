@@ -31,7 +31,7 @@ use Rattle.region_versions.proofs.history.History.TheSendSync as history
 use Rattle.region_versions.specs.contracts.history.History as histories
 use Rattle.region_versions.specs.declared.naming.Naming.{Ghosts as VersionGhosts}
 use Rattle.kv_cell.proofs.batch.Batch.TheSendSync as batch
-use Rattle.kv_cell.proofs.order.NumberedCells.TheSendSync as cells
+use Rattle.mem_segments.proofs.shared.SharedCells.TheSendSync as cells
 use Rattle.script_calls.specs.contracts.call.Call as call
 use Rattle.script_calls.specs.contracts.reply.ReplyLine as reply
 use Rattle.std.proofs.Crossing.{crosses, Vec-send, Vec-sync}

@@ -2,18 +2,16 @@
 
 ghost use Rattle.std.specs.Prelude.{◌≡◌, ◌++◌, IfOk, OnOk, length};
 ghost use Rattle.std.specs.FinMap.{empty};
-ghost use Rattle.std.specs.List.{flat_map};
 ghost use Rattle.cell_model.specs.Order.{cells_of};
 ghost use Rattle.cell_model.specs.Merge.{put_numbered};
 ghost use Rattle.script_model.specs.Outputs.{cells_text, show_text};
-ghost use Rattle.script_model.specs.Report.{cell_line};
 ghost use Rattle.show_command.specs.Regions.{parts_from};
 
 use crate::regions::cells_by_region;
 use entry_frame::Entry;
 use kv_cell::{NoMemory, NumberedCells};
 use mem_segments::{Row, Segment};
-use report_text::{append_cell, append_end, append_region};
+use report_text::{append_cells, append_end, append_region};
 use std::alloc::Global;
 
 /// The regions with cells, each with its cells in order, and the last line.
@@ -63,15 +61,6 @@ fn append_some(out: &mut Vec<u8>, region: u32, rows: &[Row]) -> Result<(), NoMem
         return Ok(());
     }
     append_region(out, region)?;
-    append_rows(out, rows)?;
-    Ok(())
-}
-
-fn append_rows(out: &mut Vec<u8>, rows: &[Row]) -> Result<(), NoMemory>
-    ensures { OnOk result (out.new.items ≡ out.old.items ++ flat_map cell_line rows.now) }
-{
-    for row in rows {
-        append_cell(out, row.number(), row.cell())?;
-    }
+    append_cells(out, rows)?;
     Ok(())
 }

@@ -33,13 +33,13 @@ pub returns-in-Closed-clause-any_moment : goal.returns-in-Closed-clause-any_mome
 returns-in-Closed-clause-any_moment g c told =
     each_on (MayKeep (g.D.Disk.view c.args.disk)) (g.D.Disk.view c.args.disk) (g.D.Disk.view c.in-Closed.disk) (g.D.Disk.view c.end_load-status.new.disk) (c.in-Closed.ensures.any_moment told)
     (c.end_load-status.ensures.any_moment told c.args.options c.args.disk
-    (ended_from c.args.options _ (g.D.Disk.view c.args.disk) (g.D.Disk.view c.in-Closed.disk) c.in-Closed._regions.items c.in-Closed.replies.items c.in-Closed.spent c.in-Closed.broken c.decided_status-status.result
+    (ended_from c.args.options _ (g.D.Disk.view c.args.disk) (g.D.Disk.view c.in-Closed.disk) c.in-Closed.regions.items c.in-Closed.replies.items c.in-Closed.spent c.in-Closed.broken c.decided_status-status.result
     c.requires.options (c.requires.empty told) c.in-Ok.ensures.made (c.in-Closed.ensures.ran told) c.decided_status-status.ensures.either))
 
 pub returns-in-Closed-clause-ends : goal.returns-in-Closed-clause-ends
 returns-in-Closed-clause-ends g c told sink script =
     c.end_load-status.ensures.ends told sink c.args.options c.args.disk script (c.count_calls-counts.ensures ∙ ap counts_of c.in-Ok.ensures.made)
-    (ended_from c.args.options _ (g.D.Disk.view c.args.disk) (g.D.Disk.view c.in-Closed.disk) c.in-Closed._regions.items c.in-Closed.replies.items c.in-Closed.spent c.in-Closed.broken c.decided_status-status.result
+    (ended_from c.args.options _ (g.D.Disk.view c.args.disk) (g.D.Disk.view c.in-Closed.disk) c.in-Closed.regions.items c.in-Closed.replies.items c.in-Closed.spent c.in-Closed.broken c.decided_status-status.result
     c.requires.options (c.requires.empty told) c.in-Ok.ensures.made (c.in-Closed.ensures.ran told) c.decided_status-status.ensures.either)
     (λ is. rose_later _ _ _ (c.in-Closed.ensures.cause (c.decided_status-status.ensures.cause is)) c.end_load-status.ensures.later.0)
 
@@ -55,7 +55,7 @@ returns-in-Closed-clause-disk_cause g c is = elim (fault_cases c.decided_status-
 pub returns-in-Closed-clause-complete : goal.returns-in-Closed-clause-complete
 returns-in-Closed-clause-complete g c told sized disk sink =
     c.end_load-status.ensures.complete told c.args.options c.args.disk
-    (ended_from c.args.options _ (g.D.Disk.view c.args.disk) (g.D.Disk.view c.in-Closed.disk) c.in-Closed._regions.items c.in-Closed.replies.items c.in-Closed.spent c.in-Closed.broken c.decided_status-status.result
+    (ended_from c.args.options _ (g.D.Disk.view c.args.disk) (g.D.Disk.view c.in-Closed.disk) c.in-Closed.regions.items c.in-Closed.replies.items c.in-Closed.spent c.in-Closed.broken c.decided_status-status.result
     c.requires.options (c.requires.empty told) c.in-Ok.ensures.made (c.in-Closed.ensures.ran told) c.decided_status-status.ensures.either)
     sized (λ is. disk (rose_later _ _ _ (c.in-Closed.ensures.cause (c.decided_status-status.ensures.cause is)) c.end_load-status.ensures.later.0)) (λ rose. disk (rose_then _ _ _ c.in-Closed.ensures.later rose)) sink
 
