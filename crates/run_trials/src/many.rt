@@ -1,4 +1,4 @@
-//! Scripts of 1 to 16 handlers on up to 64 regions, each run twenty times, and each report judged.
+//! Scripts of 1 to 16 handlers on up to 64 regions, each run many times, and each report judged.
 
 use crate::bench::{Ended, recover, run_free};
 use crate::checked::{Edit, assert_journals, assert_replies, count_of, read_edits};
@@ -45,8 +45,10 @@ fn run_once<R: Threads + Wait + Sync + AllocGlobal + Abort>(
     assert_kept(rt, ran, &edits, plan.regions)
 }
 
-/// How often each script is run, since threads take turns in many orders.
+/// How often each script is run, since threads take turns in many orders; and one on all regions.
 const TIMES: u64 = 20;
+
+const FEW_TIMES: u64 = 4;
 
 /// A script is made from its starting number, handlers, regions and calls of each handler.
 type Row = (u64, u64, u64, u64);
@@ -79,12 +81,13 @@ const SIXTEEN_HANDLERS: [Row; 5] = [
 ];
 
 /// Calls on all regions that there may be.
-const ALL_REGIONS: [Row; 1] = [(21, 16, 64, 24)];
+const ALL_REGIONS: [Row; 1] = [(21, 16, 64, 12)];
 
 /// Runs each script of a table, again and again.
 fn run_all<R: Threads + Wait + Sync + AllocGlobal + Abort>(
     rt: &R,
     rows: &[Row],
+    times: u64,
 ) -> Result<(), TestFail> {
     for (start, handlers, regions, calls) in rows {
         let plan = Plan {
@@ -93,7 +96,7 @@ fn run_all<R: Threads + Wait + Sync + AllocGlobal + Abort>(
             regions: *regions,
             calls: *calls,
         };
-        for _ in 0..TIMES {
+        for _ in 0..times {
             run_once(rt, plan)?;
         }
     }
@@ -102,25 +105,25 @@ fn run_all<R: Threads + Wait + Sync + AllocGlobal + Abort>(
 
 #[test]
 fn one_handler(rt: HostRuntime) -> Result<(), TestFail> {
-    run_all(&rt, &ONE_HANDLER)
+    run_all(&rt, &ONE_HANDLER, TIMES)
 }
 
 #[test]
 fn few_handlers(rt: HostRuntime) -> Result<(), TestFail> {
-    run_all(&rt, &FEW_HANDLERS)
+    run_all(&rt, &FEW_HANDLERS, TIMES)
 }
 
 #[test]
 fn eight_handlers(rt: HostRuntime) -> Result<(), TestFail> {
-    run_all(&rt, &EIGHT_HANDLERS)
+    run_all(&rt, &EIGHT_HANDLERS, TIMES)
 }
 
 #[test]
 fn sixteen_handlers(rt: HostRuntime) -> Result<(), TestFail> {
-    run_all(&rt, &SIXTEEN_HANDLERS)
+    run_all(&rt, &SIXTEEN_HANDLERS, TIMES)
 }
 
 #[test]
 fn sixteen_handlers_on_64_regions(rt: HostRuntime) -> Result<(), TestFail> {
-    run_all(&rt, &ALL_REGIONS)
+    run_all(&rt, &ALL_REGIONS, FEW_TIMES)
 }
