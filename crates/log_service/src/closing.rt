@@ -63,6 +63,7 @@ impl<D: Disk, N: Naming> LogService<D, N> {
             consumer,
             device,
             regions: _,
+            turns: _,
         } = self;
         let LogSeats { consumers, devices } = seats;
         let Berthed {

@@ -100,6 +100,7 @@ impl<D: Disk, N: Naming> LogService<D, N> {
         if turn.ware.broken() {
             self.device.give(&mut seat.device, turn);
             self.consumer.give(&mut seat.consumer, mover);
+            self.tell_turn();
             return Err(DeviceFlush::WriteFault);
         }
         let rings = (&self.ring, &self.hand);

@@ -73,5 +73,6 @@ impl<D: Disk, N: Naming> LogService<D, N> {
         tell_all(&self.device, &mut seat.device, &turn, 3 * self.regions);
         self.device.give(&mut seat.device, turn);
         self.consumer.give(&mut seat.consumer, mover);
+        self.tell_turn();
     }
 }

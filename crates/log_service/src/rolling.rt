@@ -90,6 +90,7 @@ impl<D: Disk, N: Naming> LogService<D, N> {
         if turn.ware.broken() {
             self.device.give(&mut seat.device, turn);
             self.consumer.give(&mut seat.consumer, mover);
+            self.tell_turn();
             return Err(RollRefusal::WriteFault);
         }
         let rolled = mover.ware.roll(rt, alloc, &self.hand, &mut turn.ware);

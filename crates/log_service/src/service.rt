@@ -11,19 +11,23 @@ use crate::consumer::ConsumerHalf;
 use crate::item::Item;
 use crate::load::Load;
 use crate::name::Naming;
+use crate::resting::EventCount;
 use append_ring::{Full, Ring, RingPass};
 use disk_images::Disk;
 use log_berth::Berth;
 use std::marker::Model;
 use std::sync::Wait;
 
-/// The ring of items and that of loads, and a berth for each half. Contracts see which they are.
+/// The ring of items and that of loads, a berth for each half, and the count on which threads sleep. Contracts see which rings and berths
+/// they are.
 pub struct LogService<D: Disk, N: Naming> {
     pub(crate) ring: Ring<Item>,
     pub(crate) hand: Ring<Load>,
     pub(crate) consumer: Berth<ConsumerHalf<N>>,
     pub(crate) device: Berth<DeviceHalf<D, N>>,
     pub(crate) regions: u32,
+    // How many turns of the device have ended.
+    pub(crate) turns: EventCount,
 }
 
 impl<D: Disk, N: Naming> Model for LogService<D, N> {

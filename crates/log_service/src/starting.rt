@@ -15,6 +15,7 @@ use crate::consumer::ConsumerHalf;
 use crate::item::Item;
 use crate::load::Load;
 use crate::name::Naming;
+use crate::resting::EventCount;
 use crate::seats::LogSeats;
 use crate::service::LogService;
 use append_ring::{ConsumerPass, NoMemory, Ring, RingParts, RingPass, RingPasses};
@@ -171,6 +172,7 @@ impl<D: Disk, N: Naming> LogService<D, N> {
                     consumer,
                     device: berth,
                     regions,
+                    turns: EventCount::new(),
                 },
                 passes: items.passes,
                 seats: LogSeats { consumers, devices },

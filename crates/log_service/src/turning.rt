@@ -1,7 +1,13 @@
 //! Turns.
-ghost use Rattle.std.specs.Prelude.{◌≡◌, ◌≤◌, ◌+◌, ◌⊎◌, ◌↔◌, ℕ, true, false};
+ghost use Rattle.std.specs.Prelude.{◌≡◌, ◌≤◌, ◌+◌, ◌⊎◌, ◌↔◌, ℕ, true, false, IsTrue, IsFalse};
+ghost use Rattle.log_berth.specs.Words.{NoMore};
+ghost use Rattle.log_berth.specs.Turns.{turn_id};
+ghost use Rattle.log_device.specs.Whole.{IsBroken, books_of};
+ghost use Rattle.log_service.specs.Halves.{broken_of};
+ghost use Rattle.log_service.specs.Numbers.{told_numbers};
 ghost use Rattle.log_service.specs.Places.{IsSeatOf, IsLaterSeat, FoundTaken, HadTurn};
 
+use crate::committer::DeviceHalf;
 use crate::committing::Commit;
 use crate::moving::Moves;
 use crate::name::Naming;
@@ -9,7 +15,7 @@ use crate::raising::raise_all;
 use crate::seats::LogSeat;
 use crate::service::LogService;
 use disk_images::Disk;
-use log_berth::Ware;
+use log_berth::{LogSeat as BerthSeat, Turn, Ware};
 use std::sync::Wait;
 
 /// What a consumer's turn did.
@@ -71,9 +77,10 @@ impl<D: Disk, N: Naming> LogService<D, N> {
         }
     }
 
-    /// Hands the load over where a sync request was moved since the last time or an item is held, and then commits one load, however
-    /// many entries it has, in four disk calls. `Synced` says how many entries, and the synced words are raised. Busy only where one of the
-    /// two turn words was found taken. Clean where no load was there. It takes no memory.
+    /// Takes the device's turn, hands the load over where a sync request was moved since the last time or an item is held, and then commits
+    /// one load, however many entries it has, in four disk calls. So a load has all that was moved while the last one was committed. `Synced`
+    /// says how many entries, and the synced words are raised. Busy only where one of the two turn words was found taken: then nothing is
+    /// handed over. Clean where no load was there. It takes no memory.
     pub fn sync_turn<R: Wait>(&self, rt: &R, seat: &mut LogSeat) -> SyncTurn
         requires seat { IsSeatOf self.now seat.old }
 
@@ -90,34 +97,75 @@ impl<D: Disk, N: Naming> LogService<D, N> {
         ensures whole { ((n : ℕ) → result ≡ SyncTurn.Synced n → seat.new.device.knows.broken ≡ false)
             × (result ≡ SyncTurn.Clean → seat.new.device.knows.broken ≡ false) }
     {
-        let Ok(mut turn) = self.consumer.take(&mut seat.consumer) else {
-            return SyncTurn::Busy;
-        };
-        turn.ware.hand_over(rt, &self.hand);
-        self.consumer.give(&mut seat.consumer, turn);
         let Ok(mut turn) = self.device.take(&mut seat.device) else {
             return SyncTurn::Busy;
         };
         if turn.ware.broken() {
-            self.device.give(&mut seat.device, turn);
+            self.end_turn(&mut seat.device, turn);
             return SyncTurn::Broken;
         }
+        if !self.hand_load(rt, &mut seat.consumer) {
+            self.end_turn(&mut seat.device, turn);
+            return SyncTurn::Busy;
+        }
+        let commit = self.commit_and_raise(rt, seat, &mut turn);
+        self.end_turn(&mut seat.device, turn);
+        match commit {
+            Commit::Committed(count) => SyncTurn::Synced(count),
+            Commit::Clean => SyncTurn::Clean,
+            Commit::WriteFault => SyncTurn::WriteFault,
+        }
+    }
+
+    /// Hands the load over where a sync request was moved since the last time or an item is held. False where another seat has the consumer's
+    /// turn.
+    fn hand_load<R: Wait>(&self, rt: &R, seat: &mut BerthSeat) -> bool
+        requires seat { seat.old.berth ≡ self.now.consumer }
+        requires no_turn { seat.old.knows.turn ≡ false }
+        ensures seat { (seat.new.berth ≡ seat.old.berth) × (seat.new.knows.turn ≡ false) }
+        ensures had { IsTrue result → HadTurn seat.old.knows seat.new.knows }
+        ensures busy { IsFalse result → FoundTaken seat.old.knows seat.new.knows }
+    {
+        let Ok(mut turn) = self.consumer.take(seat) else {
+            return false;
+        };
+        turn.ware.hand_over(rt, &self.hand);
+        self.consumer.give(seat, turn);
+        true
+    }
+
+    /// Commits a load with the device's turn, and raises the synced words or sets the fault word.
+    fn commit_and_raise<R: Wait>(
+        &self,
+        rt: &R,
+        seat: &mut LogSeat,
+        turn: &mut Turn<DeviceHalf<D, N>>,
+    ) -> Commit
+        requires seat { seat.old.device.berth ≡ self.now.device }
+        requires turn { (seat.old.device.knows.turn ≡ true) × (turn_id turn.old ≡ self.now.device) }
+        requires whole { seat.old.device.knows.broken ≡ false }
+        requires unbroken { IsBroken turn.old.ware.device → ⊥ }
+        requires below { NoMore seat.old.device.knows.seen (told_numbers turn.old.ware.regions (books_of turn.old.ware.device)) }
+        ensures seat { (seat.new.consumer ≡ seat.old.consumer) × (seat.new.device.berth ≡ seat.old.device.berth)
+            × (seat.new.device.knows.turn ≡ true) × (seat.new.device.knows.tally ≡ seat.old.device.knows.tally) }
+        ensures turn { turn_id turn.new ≡ turn_id turn.old }
+        ensures later { NoMore seat.old.device.knows.seen seat.new.device.knows.seen }
+        ensures below { NoMore seat.new.device.knows.seen (told_numbers turn.new.ware.regions (books_of turn.new.ware.device)) }
+        ensures broken { broken_of turn.new.ware.device ≡ seat.new.device.knows.broken }
+        ensures fault { result ≡ Commit.WriteFault → seat.new.device.knows.broken ≡ true }
+        ensures whole { ((n : ℕ) → result ≡ Commit.Committed n → seat.new.device.knows.broken ≡ false)
+            × (result ≡ Commit.Clean → seat.new.device.knows.broken ≡ false) }
+    {
         let commit = turn.ware.commit_one(rt, &self.hand);
         match commit {
-            Commit::Committed(count) => {
-                raise_all(&self.device, &mut seat.device, &turn, self.regions);
-                self.device.give(&mut seat.device, turn);
-                SyncTurn::Synced(count)
+            Commit::Committed(_) => {
+                raise_all(&self.device, &mut seat.device, turn, self.regions);
             }
-            Commit::Clean => {
-                self.device.give(&mut seat.device, turn);
-                SyncTurn::Clean
-            }
+            Commit::Clean => {}
             Commit::WriteFault => {
-                self.device.break_log(&mut seat.device, &turn);
-                self.device.give(&mut seat.device, turn);
-                SyncTurn::WriteFault
+                self.device.break_log(&mut seat.device, turn);
             }
         }
+        commit
     }
 }

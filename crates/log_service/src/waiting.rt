@@ -35,8 +35,8 @@ impl<D: Disk, N: Naming> LogService<D, N> {
         (broken, number)
     }
 
-    /// Waits until the region's synced word is at or above a number, or the log is broken below it. Meanwhile it takes turns, and gives
-    /// the processor away where nothing was committed.
+    /// Waits until the region's synced word is at or above a number, or the log is broken below it. Meanwhile it takes turns. Where another
+    /// seat has one it sleeps until a turn of the device has ended, and where nothing was there to commit it gives the processor away.
     #[tactic(auto, using(crate::proofs::SeatLaws::later_trans))]
     pub fn wait_synced<R: Wait>(
         &self,
@@ -53,6 +53,7 @@ impl<D: Disk, N: Naming> LogService<D, N> {
         ensures broken { result ≡ Waited.Broken → (seat.new.device.knows.broken ≡ true) × (seen_synced seat.new.device.knows region < number) }
     {
         for _turn in rt.forever() {
+            let turns = self.turns();
             let (broken, synced) = self.look(seat, region);
             if synced >= number {
                 return Waited::Synced;
@@ -63,6 +64,10 @@ impl<D: Disk, N: Naming> LogService<D, N> {
             let _moves = self.consumer_turn(rt, seat);
             match self.sync_turn(rt, seat) {
                 SyncTurn::Synced(_) => {}
+                // No wake-up is lost. A turn was found taken after the count was read, and who has the device's turn raises the count after
+                // giving it back. Who has the consumer's turn has the device's too, or tries for it next: then that thread raises the count,
+                // or the one that it finds with the device's turn.
+                SyncTurn::Busy => self.rest(rt, turns),
                 _ => thread::yield_now(),
             }
         }

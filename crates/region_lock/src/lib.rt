@@ -36,4 +36,3 @@ pub use pass::RegionPass;
 pub use put::put_in;
 pub use roll::roll_in;
 pub use scan::{ScanReply, point_in, scan_in, view_in};
-pub use waiting::help;

@@ -1,4 +1,4 @@
-//! A roll while loads stand in the ring of loads.
+//! A roll behind edits that were moved while a commit was under way.
 
 ghost use Rattle.std.specs.Prelude.{◌≡◌};
 ghost use Rattle.append_ring.specs.Parts.{last_pushed};
@@ -17,8 +17,8 @@ use std::alloc::Global;
 use std::sync::Wait;
 use std::test::*;
 
-/// Pushes four edits while another thread's commit is held back: two whose loads are handed over, one that is moved only, and one that
-/// is not moved. None where it couldn't.
+/// Pushes four edits while another thread's commit is held back: two that are moved with their wish, each before a sync turn that finds
+/// the device busy, one that is moved only, and one that is not moved. None where it couldn't.
 fn leave_four<N: Naming, R: Wait>(
     rt: &R,
     alloc: Global,
