@@ -1,8 +1,7 @@
 -- The files of one region, read alone.
-use Rattle.std.proofs.Common.{◌≡◌, ◌≢◌, ◌⊎◌, inl, inr, ℕ, Bool, true, false, ◌<◌, ◌≤◌, ◌==◌, ◌&&◌, List, [], filter, take, length, get_or, Contains, refl, sym, ap, ◌∙◌, subst, arith}
+use Rattle.std.proofs.Common.{◌≡◌, ◌≢◌, ◌⊎◌, inl, inr, ℕ, Bool, true, false, ◌<◌, ◌≤◌, ◌==◌, ◌&&◌, List, take, length, get_or, Contains, refl, sym, ap, ◌∙◌, subst, arith}
 use Rattle.std.specs.Prelude.{AllPairs}
-use Rattle.std.specs.FinMap.{get, keys}
-use Rattle.std.specs.declared.cmp.Ordering.{Ordering}
+use Rattle.std.specs.FinMap.{keys}
 use Rattle.std.specs.declared.cmp.Ordering.TheVariants.{Less}
 use Rattle.std.specs.Ordering.{ordering_reverse}
 use Rattle.std.proofs.lemmas.Bool.{cases_lt, eq-eqb, eqb-true}
@@ -18,7 +17,7 @@ use Rattle.log_model.specs.declared.damage.Damage.TheVariants as damages
 use Rattle.log_model.specs.Entry.{Entry}
 use Rattle.log_model.specs.LogText.{IsEntryOf, IsLogText}
 use Rattle.log_model.specs.Files.{Files, HoldsEntries, IsLogFile, IsPresent, Reads, content, key_of, name_cmp}
-use Rattle.log_model.specs.Damage.{HasDamage, Disagreement, IsDisagreement, IsFirstDamageOf}
+use Rattle.log_model.specs.Damage.{HasDamage, IsFirstDamageOf}
 use Rattle.log_model.specs.Damage.HasDamage.{Logged, Stored}
 use Rattle.log_model.proofs.NameLaws.{name_cmp_total}
 use Rattle.disk_images.proofs.Settled.{among_names, there_of, present_cases}

@@ -1,4 +1,4 @@
-use Rattle.std.proofs.Common.{◌≡◌, IsTrue, List, Contains, take, get_or, sym, subst, arith}
+use Rattle.std.proofs.Common.{◌≡◌, IsTrue, List, take, get_or, sym, subst, arith}
 use Rattle.std.proofs.lemmas.List.{take_more}
 use Rattle.std.proofs.lemmas.List.Elements.{Contains-get_or}
 use Rattle.log_model.specs.declared.name.Name.{Name}
