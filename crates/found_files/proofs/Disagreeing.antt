@@ -66,17 +66,12 @@ lower_not_up : (z x : FoundEntry) → (x.entry.region < z.entry.region) ⊎ ((x.
 lower_not_up z x (inl less) up = omega (arith, less, region_up z x up)
 lower_not_up z x (inr (region, less)) up = omega (arith, less, number_up z x up (sym region))
 
-module _ (told : Type 0) (is_told : told) (files : Files) (es : List FoundEntry) (ss : List FoundStore) (read : AreRead told files (keys files) (keys files) es ss) where
-  -- a logged entry stands among those that were read
-  pub among_read : (name : Name) (l : List Entry) (e : Entry) → IsLogFile files name l → Contains l e → Contains es (place_in name e)
-  among_read name l e file member =
-      let r = read.logs is_told name (among_names files name (λ none. absurd (cc (sym none ∙ file.there)))) file.kind in
-      r.2 e (subst (λ (k : List Entry). Contains k e) (one_list files name l r.0 file r.1) member)
-
-  pub all_agree : AllAgree es → (d e : Entry) → IsLogged files d → IsLogged files e → d.region ≡ e.region → d.number ≡ e.number → d ≡ e
-  all_agree agree d e hd he region number =
-      let p = at_from_Contains es (place_in hd.name d) (among_read hd.name hd.entries d hd.file hd.member) in
-      let q = at_from_Contains es (place_in he.name e) (among_read he.name he.entries e he.file he.member) in
+-- the files with these names, whose entries were read
+module _ (Own : Name → Type 0) (files : Files) (es : List FoundEntry) (among : (name : Name) (l : List Entry) (e : Entry) → Own name → IsLogFile files name l → Contains l e → Contains es (place_in name e)) where
+  pub agree_among : AllAgree es → (d e : Entry) → (hd : IsLogged files d) → (he : IsLogged files e) → Own hd.name → Own he.name → d.region ≡ e.region → d.number ≡ e.number → d ≡ e
+  agree_among agree d e hd he own_d own_e region number =
+      let p = at_from_Contains es (place_in hd.name d) (among hd.name hd.entries d own_d hd.file hd.member) in
+      let q = at_from_Contains es (place_in he.name e) (among he.name he.entries e own_e he.file he.member) in
       let here : (get_or es p.0 some_found).entry ≡ (get_or es q.0 some_found).entry =
       agree p.0 q.0 some_found p.1 q.1 (
         ap (λ (w : FoundEntry). w.entry.region) (p.2 some_found) ∙ region ∙ sym (ap (λ (w : FoundEntry). w.entry.region) (q.2 some_found)),
@@ -84,29 +79,29 @@ module _ (told : Type 0) (is_told : told) (files : Files) (es : List FoundEntry)
       ) in
       sym (ap (λ (w : FoundEntry). w.entry) (p.2 some_found)) ∙ here ∙ ap (λ (w : FoundEntry). w.entry) (q.2 some_found)
 
-  module _ (ordered : AreOrdered es) (damage : Damage) (pair : IsFirstPair es damage) where
-    abbrev f : FoundEntry
+  module _ (from : (x : FoundEntry) → Contains es x → (l : List Entry) × IsLogFile files x.name l × Contains l x.entry) (ordered : AreOrdered es) (damage : Damage) (pair : IsFirstPair es damage) where
+    abbrev pub f : FoundEntry
     f = get_or es pair.first some_found
 
-    abbrev s : FoundEntry
+    abbrev pub s : FoundEntry
     s = get_or es pair.at some_found
 
-    abbrev told_as : Disagreement
+    abbrev pub told_as : Disagreement
     told_as = record { region = f.entry.region; number = f.entry.number; first = f.name; second = s.name }
 
-    in_f : Contains es f
+    pub in_f : Contains es f
     in_f = Contains-get_or es pair.first some_found (omega (arith, pair.before, pair.within))
 
-    in_s : Contains es s
+    pub in_s : Contains es s
     in_s = Contains-get_or es pair.at some_found pair.within
 
     same : IsOfSame f s
     same = (pair.differ some_found).0
 
-    here : IsDisagreement files told_as
+    pub here : IsDisagreement files told_as
     here =
-        let of_f = read.from_logs is_told f in_f in
-        let of_s = read.from_logs is_told s in_s in record {
+        let of_f = from f in_f in
+        let of_s = from s in_s in record {
           order = λ lt. not_up f s same lt (ordered pair.first pair.at some_found (omega (arith, pair.before)) pair.within);
           d = f.entry;
           e = s.entry;
@@ -119,7 +114,7 @@ module _ (told : Type 0) (is_told : told) (files : Files) (es : List FoundEntry)
           differ = (pair.differ some_found).1;
         }
 
-    module _ (y : Disagreement) (h : IsDisagreement files y) where
+    module _ (y : Disagreement) (h : IsDisagreement files y) (own_d : Own y.first) (own_e : Own y.second) where
       abbrev yd : FoundEntry
       yd = place_in y.first h.d
 
@@ -127,10 +122,10 @@ module _ (told : Type 0) (is_told : told) (files : Files) (es : List FoundEntry)
       ye = place_in y.second h.e
 
       in_d : Contains es yd
-      in_d = among_read y.first h.ds h.d h.in_first.0 h.in_first.1
+      in_d = among y.first h.ds h.d own_d h.in_first.0 h.in_first.1
 
       in_e : Contains es ye
-      in_e = among_read y.second h.es h.e h.in_second.0 h.in_second.1
+      in_e = among y.second h.es h.e own_e h.in_second.0 h.in_second.1
 
       one_key : IsOfSame yd ye
       one_key = (h.regions.0 ∙ sym h.regions.1, h.numbers.0 ∙ sym h.numbers.1)
@@ -167,7 +162,7 @@ module _ (told : Type 0) (is_told : told) (files : Files) (es : List FoundEntry)
       names Equal is region number lt = second_name region number lt
       names Greater is region number lt = absurd (cc lt)
 
-      none_lower : disagreement_cmp y told_as ≡ Less → ⊥
+      pub none_lower : disagreement_cmp y told_as ≡ Less → ⊥
       none_lower lt = elim (rank_cases y.region f.entry.region) as (λ _. ⊥) [
         | inl less ↦ lower (inl less.0)
         | inr (inl one) ↦
@@ -181,11 +176,25 @@ module _ (told : Type 0) (is_told : told) (files : Files) (es : List FoundEntry)
         | inr (inr more) ↦ absurd (cc (sym (ap (λ (o : Ordering). ordering_then o (ordering_then (nat_cmp y.number f.entry.number) (ordering_then (name_cmp y.first f.name) (name_cmp y.second s.name)))) more.1) ∙ lt))
       ]
 
-    is_first : IsFirstDisagreement files told_as
+module _ (told : Type 0) (is_told : told) (files : Files) (es : List FoundEntry) (ss : List FoundStore) (read : AreRead told files (keys files) (keys files) es ss) where
+  abbrev Any : Name → Type 0
+  Any name = Unit {0}
+
+  -- a logged entry stands among those that were read
+  among_read : (name : Name) (l : List Entry) (e : Entry) → Any name → IsLogFile files name l → Contains l e → Contains es (place_in name e)
+  among_read name l e any file member =
+      let r = read.logs is_told name (among_names files name (λ none. absurd (cc (sym none ∙ file.there)))) file.kind in
+      r.2 e (subst (λ (k : List Entry). Contains k e) (one_list files name l r.0 file r.1) member)
+
+  pub all_agree : AllAgree es → (d e : Entry) → IsLogged files d → IsLogged files e → d.region ≡ e.region → d.number ≡ e.number → d ≡ e
+  all_agree agree d e hd he region number = agree_among Any files es among_read agree d e hd he tt tt region number
+
+  module _ (ordered : AreOrdered es) (damage : Damage) (pair : IsFirstPair es damage) where
+    is_first : IsFirstDisagreement files (told_as Any files es among_read (read.from_logs is_told) ordered damage pair)
     is_first = record {
       whole = λ name at hurt. read_whole told files (keys files) es ss is_told read name at (among_names files name (there files name at hurt)) hurt;
-      here = here;
-      first = λ y h. none_lower y h;
+      here = here Any files es among_read (read.from_logs is_told) ordered damage pair;
+      first = λ y h. none_lower Any files es among_read (read.from_logs is_told) ordered damage pair y h tt tt;
     }
 
     pub pair_told : IsDamage files damage

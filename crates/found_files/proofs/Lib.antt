@@ -11,3 +11,5 @@ pub mod Told
 pub mod Files
 pub mod Disagreeing
 pub mod Sound
+pub mod Filters
+pub mod InRegion

@@ -14,15 +14,43 @@ use Rattle.found_files.specs.declared.found.FoundEntry.{FoundEntry}
 use Rattle.found_files.specs.declared.found.FoundStore.{FoundStore}
 use Rattle.found_files.specs.declared.found.FoundFiles.{FoundFiles}
 use Rattle.found_files.specs.Names.{IsBadAmong}
-use Rattle.found_files.specs.Found.{place_in, placed, store_of, AreRead, AreInNameOrder}
-use Rattle.found_files.specs.Checked.{ReadsOne}
+use Rattle.found_files.specs.Found.{place_in, placed, store_of, AreContents, AreRead, AreInNameOrder}
+use Rattle.found_files.specs.Checked.{ReadsFile, ReadsOne}
 use Rattle.found_files.proofs.Placing.{none_in, is_placed, placed_is}
 
-pub none_read : (told : Type 0) (files : Files) (all : List Name) → AreRead told files all [] [] []
-none_read told files all = record {
-  good = λ m has. absurd (none_in m has);
+-- what was read, with names that are good and without
+pub contents_of : (told : Type 0) (files : Files) (all names : List Name) (es : List FoundEntry) (ss : List FoundStore) → AreRead told files all names es ss → AreContents told files names es ss
+contents_of told files all names es ss read = record {
+  logs = read.logs;
+  hold = read.hold;
+  among = read.among;
+  from_logs = read.from_logs;
+  stores = read.stores;
+  from_stores = read.from_stores;
+  small = read.small;
+  each = read.each;
+  rising = read.rising;
+}
+
+pub with_good : (told : Type 0) (files : Files) (all names : List Name) (es : List FoundEntry) (ss : List FoundStore) → ((m : Name) → Contains names m → ¬ IsBadAmong all m) → AreContents told files names es ss → AreRead told files all names es ss
+with_good told files all names es ss good read = record {
+  good = good;
+  logs = read.logs;
+  hold = read.hold;
+  among = read.among;
+  from_logs = read.from_logs;
+  stores = read.stores;
+  from_stores = read.from_stores;
+  small = read.small;
+  each = read.each;
+  rising = read.rising;
+}
+
+pub no_contents : (told : Type 0) (files : Files) → AreContents told files [] [] []
+no_contents told files = record {
   logs = λ is_told m has. absurd (none_in m has);
   hold = λ x has. absurd (none_in x has);
+  among = λ x has. absurd (none_in x has);
   from_logs = λ is_told x has. absurd (none_in x has);
   stores = λ is_told m bytes has. absurd (none_in m has);
   from_stores = λ is_told x has. absurd (none_in x has);
@@ -30,6 +58,9 @@ none_read told files all = record {
   each = λ x has. absurd (none_in x has);
   rising = λ is_told i j d less lt. absurd (omega (arith, lt));
 }
+
+pub none_read : (told : Type 0) (files : Files) (all : List Name) → AreRead told files all [] [] []
+none_read told files all = with_good told files all [] [] [] (λ m has. absurd (none_in m has)) (no_contents told files)
 
 entries_or_not : (k : NameKind) → HoldsEntries k ⊎ (HoldsEntries k → ⊥)
 entries_or_not kinds.Log = inl (inl refl)
@@ -43,7 +74,7 @@ store_or_not kinds.Edits = inr (λ is. absurd (cc is))
 store_or_not kinds.Old = inr (λ is. absurd (cc is))
 store_or_not kinds.Store = inl refl
 
-module _ (told : Type 0) (files g : Files) (same : told → g ≡ files) (all names : List Name) (name : Name) (old new : FoundFiles) (so_far : AreRead told files all names old.entries.items old.stores.items) (one : ReadsOne told g all name old new)
+module _ (told : Type 0) (files g : Files) (same : told → g ≡ files) (names : List Name) (name : Name) (old new : FoundFiles) (so_far : AreContents told files names old.entries.items old.stores.items) (one : ReadsFile told g name old new)
     (below : told → (m : Name) → Contains names m → name_cmp m name ≡ Less) where
   entry_kept : (x : FoundEntry) → Contains old.entries.items x → Contains new.entries.items x
   entry_kept x has = elim (entries_or_not name.kind) as (λ _. Contains new.entries.items x) [
@@ -101,12 +132,8 @@ module _ (told : Type 0) (files g : Files) (same : told → g ≡ files) (all na
     | inr not ↦ subst AreInNameOrder (sym (one.no_store not)) (so_far.rising is_told)
   ]
 
-  pub one_read : AreRead told files all (names ++ name ∷ []) new.entries.items new.stores.items
-  one_read = record {
-    good = λ m has. elim (Contains-push_cases names name m has) as (λ _. ¬ IsBadAmong all m) [
-      | inl before ↦ so_far.good m before
-      | inr is ↦ subst (λ (n : Name). ¬ IsBadAmong all n) is one.good
-    ];
+  pub one_more : AreContents told files (names ++ name ∷ []) new.entries.items new.stores.items
+  one_more = record {
     logs = λ is_told m has holds. elim (Contains-push_cases names name m has) as (λ _. (l : List Entry) × IsLogFile files m l × ((e : Entry) → Contains l e → Contains new.entries.items (place_in m e))) [
       | inl before ↦ (let r = so_far.logs is_told m before holds in (r.0, r.1, λ e member. entry_kept (place_in m e) (r.2 e member)))
       | inr is ↦ subst (λ (n : Name). (l : List Entry) × IsLogFile files n l × ((e : Entry) → Contains l e → Contains new.entries.items (place_in n e))) is (here_logs is_told (subst (λ (n : Name). HoldsEntries n.kind) (sym is) holds))
@@ -114,6 +141,10 @@ module _ (told : Type 0) (files g : Files) (same : told → g ≡ files) (all na
     hold = λ x has. elim (entry_cases x has) as (λ _. HoldsEntries x.name.kind) [
       | inl before ↦ so_far.hold x before
       | inr (l, holds, file, is, member) ↦ subst (λ (n : Name). HoldsEntries n.kind) is holds
+    ];
+    among = λ x has. elim (entry_cases x has) as (λ _. Contains (names ++ name ∷ []) x.name) [
+      | inl before ↦ Contains-append_left names (name ∷ []) x.name (so_far.among x before)
+      | inr (l, holds, file, is, member) ↦ subst (λ (n : Name). Contains (names ++ name ∷ []) n) is (Contains-push names name)
     ];
     from_logs = λ is_told x has. elim (entry_cases x has) as (λ _. (l : List Entry) × IsLogFile files x.name l × Contains l x.entry) [
       | inl before ↦ so_far.from_logs is_told x before
@@ -138,3 +169,12 @@ module _ (told : Type 0) (files g : Files) (same : told → g ≡ files) (all na
     ];
     rising = still_rising;
   }
+
+pub one_read : (told : Type 0) (files g : Files) (same : told → g ≡ files) (all names : List Name) (name : Name) (old new : FoundFiles) → AreRead told files all names old.entries.items old.stores.items → ReadsOne told g all name old new
+    → (told → (m : Name) → Contains names m → name_cmp m name ≡ Less) → AreRead told files all (names ++ name ∷ []) new.entries.items new.stores.items
+one_read told files g same all names name old new so_far one below =
+    with_good told files all (names ++ name ∷ []) new.entries.items new.stores.items (λ m has. elim (Contains-push_cases names name m has) as (λ _. ¬ IsBadAmong all m) [
+      | inl before ↦ so_far.good m before
+      | inr is ↦ subst (λ (n : Name). ¬ IsBadAmong all n) is one.good
+    ])
+    (one_more told files g same names name old new (contents_of told files all names old.entries.items old.stores.items so_far) one.file below)

@@ -11,17 +11,19 @@ use Rattle.log_model.specs.Damage.{IsBadName}
 use Rattle.disk_images.proofs.Settled.{among_names}
 use Rattle.found_files.specs.declared.found.FoundEntry.{FoundEntry}
 use Rattle.found_files.specs.declared.found.FoundStore.{FoundStore}
-use Rattle.found_files.specs.Found.{AreRead, store_of}
+use Rattle.found_files.specs.Found.{AreContents, AreRead, store_of}
 use Rattle.found_files.specs.Sorted.{AllAgree}
+use Rattle.found_files.specs.Names.{IsBadAmong}
+use Rattle.found_files.proofs.ReadSteps.{contents_of, with_good}
 use Rattle.found_files.proofs.Whole.{bad_among}
 use Rattle.found_files.proofs.Disagreeing.{all_agree}
 
 -- the same entries in another order
-pub reordered : (told : Type 0) (files : Files) (all names : List Name) (es ds : List FoundEntry) (ss ts : List FoundStore) → ((x : FoundEntry) → Contains ds x ↔ Contains es x) → ts ≡ ss → AreRead told files all names es ss → AreRead told files all names ds ts
-reordered told files all names es ds ss ts same is read = subst (λ (l : List FoundStore). AreRead told files all names ds l) (sym is) (record {
-  good = read.good;
+pub reordered : (told : Type 0) (files : Files) (names : List Name) (es ds : List FoundEntry) (ss ts : List FoundStore) → ((x : FoundEntry) → Contains ds x ↔ Contains es x) → ts ≡ ss → AreContents told files names es ss → AreContents told files names ds ts
+reordered told files names es ds ss ts same is read = subst (λ (l : List FoundStore). AreContents told files names ds l) (sym is) (record {
   logs = λ is_told m has holds. (let r = read.logs is_told m has holds in (r.0, r.1, λ e member. (same (record { name = m; entry = e })).1 (r.2 e member)));
   hold = λ x has. read.hold x ((same x).0 has);
+  among = λ x has. read.among x ((same x).0 has);
   from_logs = λ is_told x has. read.from_logs is_told x ((same x).0 has);
   stores = read.stores;
   from_stores = read.from_stores;
@@ -31,11 +33,11 @@ reordered told files all names es ds ss ts same is read = subst (λ (l : List Fo
 })
 
 -- the same of files that are the same
-pub of_same_files : (told : Type 0) (f g : Files) (same : told → f ≡ g) (all names : List Name) (es : List FoundEntry) (ss : List FoundStore) → AreRead told f all names es ss → AreRead told g all names es ss
-of_same_files told f g same all names es ss read = record {
-  good = read.good;
+pub of_same_files : (told : Type 0) (f g : Files) (same : told → f ≡ g) (names : List Name) (es : List FoundEntry) (ss : List FoundStore) → AreContents told f names es ss → AreContents told g names es ss
+of_same_files told f g same names es ss read = record {
   logs = λ is_told. subst (λ (k : Files). (m : Name) → Contains names m → HoldsEntries m.kind → (l : List Entry) × IsLogFile k m l × ((e : Entry) → Contains l e → Contains es (record { name = m; entry = e }))) (same is_told) (read.logs is_told);
   hold = read.hold;
+  among = read.among;
   from_logs = λ is_told. subst (λ (k : Files). (x : FoundEntry) → Contains es x → (l : List Entry) × IsLogFile k x.name l × Contains l x.entry) (same is_told) (read.from_logs is_told);
   stores = λ is_told. subst (λ (k : Files). (m : Name) (bytes : List ℕ) → Contains names m → m.kind ≡ kinds.Store → get k m ≡ Some bytes → IsThere bytes → (x : FoundStore) × Contains ss x × (x.name ≡ m) × IsStoreFile k m.region m (store_of x)) (same is_told) (read.stores is_told);
   from_stores = λ is_told. subst (λ (k : Files). (x : FoundStore) → Contains ss x → IsStoreFile k x.name.region x.name (store_of x)) (same is_told) (read.from_stores is_told);
@@ -46,7 +48,8 @@ of_same_files told f g same all names es ss read = record {
 
 pub found_read : (told : Type 0) (f g : Files) (same : told → f ≡ g) (names l : List Name) (is : l ≡ names) (es ds : List FoundEntry) (ss ts : List FoundStore) → ((x : FoundEntry) → Contains ds x ↔ Contains es x) → ts ≡ ss → AreRead told f l l es ss → AreRead told g names names ds ts
 found_read told f g same names l is es ds ss ts both stores read =
-    of_same_files told f g same names names ds ts (subst (λ (k : List Name). AreRead told f k k ds ts) is (reordered told f l l es ds ss ts both stores read))
+    with_good told g names names ds ts (subst (λ (k : List Name). (m : Name) → Contains k m → ¬ IsBadAmong k m) is read.good)
+    (subst (λ (k : List Name). AreContents told g k ds ts) is (of_same_files told f g same l ds ts (reordered told f l es ds ss ts both stores (contents_of told f l l es ss read))))
 
 module _ (told : Type 0) (is_told : told) (files : Files) (es : List FoundEntry) (ss : List FoundStore) (read : AreRead told files (keys files) (keys files) es ss) where
   good : (m : Name) → IsPresent files m → ¬ IsBadName files m

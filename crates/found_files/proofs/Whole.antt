@@ -15,9 +15,10 @@ use Rattle.disk_images.proofs.Settled.{among_names, there_of}
 use Rattle.found_files.specs.declared.found.FoundEntry.{FoundEntry}
 use Rattle.found_files.specs.declared.found.FoundStore.{FoundStore}
 use Rattle.found_files.specs.Names.{IsBadAmong}
-use Rattle.found_files.specs.Found.{AreRead, store_of}
+use Rattle.found_files.specs.Found.{AreContents, AreRead, store_of}
 use Rattle.found_files.specs.Checked.{TellsOne, AreWhole}
 use Rattle.found_files.proofs.NameOrder.{by_order}
+use Rattle.found_files.proofs.ReadSteps.{contents_of}
 
 pub bad_among : (files : Files) (name : Name) → IsBadName files name → IsBadAmong (keys files) name
 bad_among files name (inl high) = inl high
@@ -37,8 +38,9 @@ damaged_there r bytes at (Behind there right cells rest stands counted more plac
 same_bytes : (x y : List ℕ) → Some x ≡ Some y → x ≡ y
 same_bytes x y e = cc e
 
-module _ (told : Type 0) (files : Files) (names : List Name) (es : List FoundEntry) (ss : List FoundStore) (is_told : told) (read : AreRead told files (keys files) names es ss) where
-  undamaged : (m : Name) (at : ℕ) → Contains names m → ¬ HasDamage files m at
+module _ (told : Type 0) (files : Files) (names : List Name) (es : List FoundEntry) (ss : List FoundStore) (is_told : told) (read : AreContents told files names es ss) where
+  -- what was read isn't damaged
+  pub undamaged : (m : Name) (at : ℕ) → Contains names m → ¬ HasDamage files m at
   undamaged m at has (Logged bytes is kind damaged) =
       let r = read.logs is_told m has kind in
       damaged.no_text r.0 r.1.ended (subst (λ (b : List ℕ). IsLogText (key_of m) b r.0 r.1.ended) (same_bytes r.1.bytes bytes (sym r.1.there ∙ is)) r.1.text)
@@ -46,9 +48,10 @@ module _ (told : Type 0) (files : Files) (names : List Name) (es : List FoundEnt
       let r = read.stores is_told m bytes has kind is (damaged_there m.region bytes at damaged) in
       not_damaged m.region bytes (store_of r.0) at (read.small is_told m bytes has kind is) (subst (λ (b : List ℕ). IsStoreText m.region b (store_of r.0)) (same_bytes r.3.bytes bytes (sym r.3.there ∙ is)) r.3.text) damaged
 
+module _ (told : Type 0) (files : Files) (names : List Name) (es : List FoundEntry) (ss : List FoundStore) (is_told : told) (read : AreRead told files (keys files) names es ss) where
   pub read_whole : AreWhole files names
   read_whole m at has (inl bad) = read.good m has (bad_among files m bad.1)
-  read_whole m at has (inr (good, damage)) = undamaged m at has damage
+  read_whole m at has (inr (good, damage)) = undamaged told files names es ss is_told (contents_of told files (keys files) names es ss read) m at has damage
 
   told_one : (name : Name) (after : List Name) → keys files ≡ names ++ name ∷ after → (damage : Damage) → TellsOne files (keys files) name damage → IsDamage files damage
   told_one name after is damage (inl (bad, same)) =

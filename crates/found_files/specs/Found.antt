@@ -39,11 +39,24 @@ pub record ReadsStore (told : Type 0) (files : Files) (name : Name) (old new : L
 abbrev pub AreInNameOrder : List FoundStore → Type 0
 AreInNameOrder ss = AllPairs (λ x y. name_cmp x.name y.name ≡ Less) ss
 
--- these files were read: their entries and stores are those of the lists, and each name is good
+-- these files were read: their entries and stores are those of the lists
+pub record AreContents (told : Type 0) (files : Files) (names : List Name) (es : List FoundEntry) (ss : List FoundStore) : Type 0 where
+  pub logs : told → (m : Name) → Contains names m → HoldsEntries m.kind → (l : List Entry) × IsLogFile files m l × ((e : Entry) → Contains l e → Contains es (place_in m e))
+  pub hold : (x : FoundEntry) → Contains es x → HoldsEntries x.name.kind
+  pub among : (x : FoundEntry) → Contains es x → Contains names x.name
+  pub from_logs : told → (x : FoundEntry) → Contains es x → (l : List Entry) × IsLogFile files x.name l × Contains l x.entry
+  pub stores : told → (m : Name) (bytes : List ℕ) → Contains names m → m.kind ≡ kinds.Store → get files m ≡ Some bytes → IsThere bytes → (x : FoundStore) × Contains ss x × (x.name ≡ m) × IsStoreFile files m.region m (store_of x)
+  pub from_stores : told → (x : FoundStore) → Contains ss x → IsStoreFile files x.name.region x.name (store_of x)
+  pub small : told → (m : Name) (bytes : List ℕ) → Contains names m → m.kind ≡ kinds.Store → get files m ≡ Some bytes → length bytes < 2 ^ 64
+  pub each : (x : FoundStore) → Contains ss x → IsStore (store_of x) × ((n : Name) × Contains names n × (x.name ≡ n) × (n.kind ≡ kinds.Store))
+  pub rising : told → AreInNameOrder ss
+
+-- the same, and each name is good
 pub record AreRead (told : Type 0) (files : Files) (all names : List Name) (es : List FoundEntry) (ss : List FoundStore) : Type 0 where
   pub good : (m : Name) → Contains names m → ¬ IsBadAmong all m
   pub logs : told → (m : Name) → Contains names m → HoldsEntries m.kind → (l : List Entry) × IsLogFile files m l × ((e : Entry) → Contains l e → Contains es (place_in m e))
   pub hold : (x : FoundEntry) → Contains es x → HoldsEntries x.name.kind
+  pub among : (x : FoundEntry) → Contains es x → Contains names x.name
   pub from_logs : told → (x : FoundEntry) → Contains es x → (l : List Entry) × IsLogFile files x.name l × Contains l x.entry
   pub stores : told → (m : Name) (bytes : List ℕ) → Contains names m → m.kind ≡ kinds.Store → get files m ≡ Some bytes → IsThere bytes → (x : FoundStore) × Contains ss x × (x.name ≡ m) × IsStoreFile files m.region m (store_of x)
   pub from_stores : told → (x : FoundStore) → Contains ss x → IsStoreFile files x.name.region x.name (store_of x)

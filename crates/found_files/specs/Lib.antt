@@ -4,3 +4,4 @@ pub mod Names
 pub mod Found
 pub mod Checked
 pub mod Sorted
+pub mod OfRegion

@@ -8,8 +8,8 @@ ghost use Rattle.log_model.specs.Damage.{IsDamage};
 ghost use Rattle.disk_images.specs.Calls.{HasCause};
 ghost use Rattle.found_files.specs.Names.{AreOldNumbers};
 ghost use Rattle.found_files.specs.Found.{AreRead};
-ghost use Rattle.found_files.specs.Checked.{ReadsOne, TellsOne};
-ghost use Rattle.found_files.specs.Refusal.{IfDamage};
+ghost use Rattle.found_files.specs.Checked.{ReadsFile, ReadsOne, TellsOne};
+ghost use Rattle.found_files.specs.Refusal.{IfDamage, IsDamageAt};
 ghost use Rattle.found_files.specs.Watching.{OnlyWatches};
 
 use crate::found::FoundFiles;
@@ -60,6 +60,23 @@ fn read_one<D: Disk>(
     if is_bad(name, olds) {
         return Err(SplitRefusal::Damaged(Damage::Bytes { name, at: 0 }));
     }
+    read_file(alloc, disk, name, found)
+}
+
+/// Reads and checks the bytes of one file, but of an old log.
+pub(crate) fn read_file<D: Disk>(
+    alloc: Global,
+    disk: &mut D,
+    name: Name,
+    found: &mut FoundFiles,
+) -> Result<(), SplitRefusal>
+    requires there { IsTrue D.told → ∥ ((c : List ℕ) × Reads (D.view disk.old).files name c) ∥₁ }
+
+    ensures read { OnOk result (ReadsFile (IsTrue D.told) (D.view disk.old).files name found.old found.new) }
+    ensures damaged { IsTrue D.told → IfDamage result (IsDamageAt (D.view disk.old).files name) }
+    ensures watches { IsTrue D.told → OnlyWatches (D.view disk.old) (D.view disk.new) }
+    ensures cause { HasCause (D.faults disk.old) (D.faults disk.new) (IsErrOf result SplitRefusal.DiskFault) }
+{
     match name.kind {
         NameKind::Log | NameKind::Edits => { read_entries(alloc, disk, name, &mut found.entries) }
         NameKind::Store => read_found_store(alloc, disk, name, &mut found.stores),

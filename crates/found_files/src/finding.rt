@@ -43,7 +43,7 @@ pub fn find_files<D: Disk>(alloc: Global, disk: &mut D) -> Result<Finding, Split
 }
 
 /// The same files with their entries in the order of regions, numbers and names.
-fn in_order(files: FoundFiles) -> Result<FoundFiles, SplitRefusal>
+pub(crate) fn in_order(files: FoundFiles) -> Result<FoundFiles, SplitRefusal>
     ensures ordered { IfOk result (λ found. AreOrdered found.entries.items) }
     ensures same { IfOk result (λ found. (x : TheFound) → Contains found.entries.items x ↔ Contains files.entries.items x) }
     ensures stores { IfOk result (λ found. found.stores.items ≡ files.stores.items) }

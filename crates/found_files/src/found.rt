@@ -47,3 +47,10 @@ pub struct Finding {
     pub names: NameList,
     pub files: FoundFiles,
 }
+
+/// The names of the store and edits files of one region, in their order, and what was read of them.
+#[derive(Drop)]
+pub struct RegionFinding {
+    pub names: Vec<Name>,
+    pub files: FoundFiles,
+}

@@ -22,7 +22,9 @@ pub(crate) fn name_of(file: File) -> Name {
 }
 
 /// A disk with these files, whose calls of these kinds and numbers fail.
-pub(crate) fn disk_of(alloc: Global, files: &[File], fails: &[Fail]) -> Result<MemDisk, TestFail> {
+pub(crate) fn disk_of(alloc: Global, files: &[File], fails: &[Fail]) -> Result<MemDisk, TestFail>
+    ensures { IfOk result (λ disk. (m : _) → ¬ (view_of disk).gone m) }
+{
     let mut disk = MemDisk::new(alloc, fails)?;
     for file in files {
         add(&mut disk, name_of(*file), file.3)?;

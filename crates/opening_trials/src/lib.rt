@@ -11,6 +11,8 @@ mod many;
 #[cfg(test)]
 mod opened;
 #[cfg(test)]
+mod replays;
+#[cfg(test)]
 mod stops;
 #[cfg(test)]
 mod texts;

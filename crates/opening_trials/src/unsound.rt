@@ -10,7 +10,7 @@ use std::process::Abort;
 use std::test::Fail as TestFail;
 
 /// The least number of a name that is too great.
-const TOO_GREAT: u64 = 0x4000_0000_0000_0001;
+pub(crate) const TOO_GREAT: u64 = 0x4000_0000_0000_0001;
 
 /// A header of version 2.
 const OTHER_VERSION: &[u8] = &[
@@ -18,7 +18,7 @@ const OTHER_VERSION: &[u8] = &[
 ];
 
 /// A frame of kind 3.
-const OTHER_KIND: &[u8] = &[
+pub(crate) const OTHER_KIND: &[u8] = &[
     b'H', b'W', b'L', b'1', 0, 0, 0, 1, 0, 0, 0, 0, 0, 0, 0, 1, 0xA5, 3, 0, 0, 0, 0,
 ];
 

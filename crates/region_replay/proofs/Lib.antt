@@ -13,3 +13,5 @@ pub mod Lists
 pub mod RegionsInOrder
 pub mod RegionsFound
 pub mod AllFound
+pub mod RegionAlone
+pub mod StillSplit

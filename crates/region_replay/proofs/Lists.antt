@@ -1,34 +1,11 @@
 -- Parts of lists.
-use Rattle.std.proofs.Common.{◌≡◌, ◌≢◌, inl, inr, ℕ, zero, suc, Bool, true, cond, ◌<◌, List, [], ◌∷◌, ◌++◌, map, filter, length, take, get_or, Contains, sym, ap, ◌∙◌, subst, arith}
+use Rattle.std.proofs.Common.{◌≡◌, ◌≢◌, inl, inr, ℕ, zero, suc, ◌<◌, List, [], ◌∷◌, ◌++◌, map, length, take, get_or, Contains, sym, ap, ◌∙◌, subst, arith}
 use Rattle.std.specs.Prelude.{AllPairs}
-use Rattle.std.proofs.lemmas.Bool.{cases_Bool}
 use Rattle.std.proofs.lemmas.List.{get_or-take, length-take, get_or_default}
 use Rattle.std.proofs.lemmas.List.Elements.{Contains-append_cases}
 use Rattle.log_model.specs.Entry.{Entry}
 use Rattle.recovery.specs.Kept.{AreApart}
 use Rattle.region_replay.proofs.Sorting.{none_in, is_first, is_later, first_or_later}
-
-module _ {A : Type 0} (p : A → Bool) where
-  -- what a filter keeps
-  pub in_filter : (xs : List A) (x : A) → Contains (filter p xs) x → Contains xs x × (p x ≡ true)
-  in_filter [] x has = absurd (none_in x has)
-  in_filter (y ∷ ys) x has = elim (cases_Bool (p y)) as (λ _. Contains (y ∷ ys) x × (p x ≡ true)) [
-    | inl is ↦ elim (first_or_later y (filter p ys) x (subst (λ (l : List A). Contains l x) (ap (λ (b : Bool). cond b (y ∷ filter p ys) (filter p ys)) is) has)) as (λ _. Contains (y ∷ ys) x × (p x ≡ true)) [
-      | inl here ↦ (subst (λ (z : A). Contains (y ∷ ys) z) here (is_first y ys), subst (λ (z : A). p z ≡ true) here is)
-      | inr later ↦ (let r = in_filter ys x later in (is_later y ys x r.0, r.1))
-    ]
-    | inr not ↦ (let r = in_filter ys x (subst (λ (l : List A). Contains l x) (ap (λ (b : Bool). cond b (y ∷ filter p ys) (filter p ys)) not) has) in (is_later y ys x r.0, r.1))
-  ]
-
-  pub to_filter : (xs : List A) (x : A) → Contains xs x → p x ≡ true → Contains (filter p xs) x
-  to_filter [] x has is = absurd (none_in x has)
-  to_filter (y ∷ ys) x has is = elim (first_or_later y ys x has) as (λ _. Contains (filter p (y ∷ ys)) x) [
-    | inl here ↦ subst (λ (l : List A). Contains l x) (sym (ap (λ (b : Bool). cond b (y ∷ filter p ys) (filter p ys)) (ap p here ∙ is))) (subst (λ (z : A). Contains (y ∷ filter p ys) z) here (is_first y (filter p ys)))
-    | inr later ↦ elim (cases_Bool (p y)) as (λ _. Contains (filter p (y ∷ ys)) x) [
-      | inl this ↦ subst (λ (l : List A). Contains l x) (sym (ap (λ (b : Bool). cond b (y ∷ filter p ys) (filter p ys)) this)) (is_later y (filter p ys) x (to_filter ys x later is))
-      | inr not ↦ subst (λ (l : List A). Contains l x) (sym (ap (λ (b : Bool). cond b (y ∷ filter p ys) (filter p ys)) not)) (to_filter ys x later is)
-    ]
-  ]
 
 module _ {A B : Type 0} (f : A → B) where
   pub in_map : (xs : List A) (y : B) → Contains (map f xs) y → (x : A) × Contains xs x × (f x ≡ y)

@@ -6,20 +6,18 @@ use Rattle.log_model.specs.declared.name.NameKind.{NameKind}
 use Rattle.log_model.specs.declared.name.NameKind.TheVariants as kinds
 use Rattle.log_model.specs.Entry.{Entry}
 use Rattle.log_model.specs.StoreText.{Store}
-use Rattle.log_model.specs.LogText.{IsEntryOf, IsLogText}
-use Rattle.log_model.specs.Files.{Files, content, IsAbsent, IsLogged, IsPresent, IsLogFile, IsStoreFile, key_of}
+use Rattle.log_model.specs.Files.{Files, content, IsAbsent, IsLogged, IsPresent, IsLogFile, IsStoreFile}
 use Rattle.log_model.specs.Recovered.{FlushesTo, IsFlushed}
 use Rattle.disk_images.proofs.Settled.{present_cases}
 use Rattle.recovery.proofs.Names.{name_cases}
 use Rattle.recovery.specs.Change.{HasText}
 use Rattle.recovery.specs.Alike.{AllAlike}
-use Rattle.std.proofs.lemmas.List.Elements.{All-from_recursion, All-contains}
+use Rattle.found_files.proofs.InRegion.{entry_region}
 use Rattle.region_replay.specs.declared.found.RegionFiles.{RegionFiles}
 use Rattle.region_replay.specs.Names.{store_name, IsElsewhere}
 use Rattle.region_replay.specs.Ready.{Found, IsOf}
 use Rattle.region_replay.specs.Regions.{IsInOrder, IsFound}
 use Rattle.region_replay.proofs.Finding.{no_store, no_edits}
-use Rattle.region_replay.proofs.Sorting.{none_in}
 
 -- the region's store and edits files are the same
 abbrev pub SameOf : ℕ → Files → Files → Type 0
@@ -40,15 +38,7 @@ flushed_on r I J same n f = record {
   bound = λ m g. f.bound m (flushes_on r J I (back r I J same) m g);
 }
 
--- an entry of an edits file of a region is of that region
-pub entry_region : (files : Files) (m : Name) (l : List Entry) (e : Entry) → IsLogFile files m l → Contains l e → 1 ≤ m.region → e.region ≡ m.region
-entry_region files m l e file member given = go file.text
-  where
-    go : IsLogText (key_of m) file.bytes l file.ended → e.region ≡ m.region
-    go (inl short) = absurd (none_in e (subst (λ (k : List Entry). Contains k e) short.1 member))
-    go (inr (rest, begins, ends)) = (All-contains (IsEntryOf (key_of m)) l e (All-from_recursion (IsEntryOf (key_of m)) l begins.each) member).region (λ zero. omega (arith, given, zero))
-
-no_log_edits : (files : Files) → ((m : Name) → m.kind ≡ kinds.Log → IsAbsent files m) → (m : Name) (l : List Entry) → IsLogFile files m l → m.kind ≡ kinds.Edits
+pub no_log_edits : (files : Files) → ((m : Name) → m.kind ≡ kinds.Log → IsAbsent files m) → (m : Name) (l : List Entry) → IsLogFile files m l → m.kind ≡ kinds.Edits
 no_log_edits files none m l f = elim f.kind as (λ _. m.kind ≡ kinds.Edits) [ inl log ↦ absurd (cc (sym (none m log) ∙ f.there)) | inr edits ↦ edits ]
 
 -- what is logged of the region stands in its edits files

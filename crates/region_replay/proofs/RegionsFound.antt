@@ -24,10 +24,11 @@ use Rattle.region_replay.specs.declared.found.RegionFiles.{RegionFiles}
 use Rattle.region_replay.specs.Bases.{Numbered, AreStores, AreUnflushed}
 use Rattle.region_replay.specs.Regions.{IsEdited, IsFound}
 use Rattle.region_replay.specs.Dealt.{stores_of, is_edits, edits_of, written_name, IsDealt}
-use Rattle.region_replay.proofs.Passing.{entry_region}
 use Rattle.region_replay.proofs.Shares.{true_and}
 use Rattle.region_replay.proofs.RegionsInOrder.{numbered, rising_of, cells_same, to_written, entry_cases, of_entry, store_in, edits_cases, name_is}
-use Rattle.region_replay.proofs.Lists.{in_filter, to_filter, in_map, to_map, apart_of, apart_append}
+use Rattle.found_files.proofs.InRegion.{entry_region}
+use Rattle.found_files.proofs.Filters.{in_filter, to_filter}
+use Rattle.region_replay.proofs.Lists.{in_map, to_map, apart_of, apart_append}
 
 module _ (told : Type 0) (x : SplitFiles) (range : IsInRange x) (k : ℕ) (lt : k < 64) (j : EditsJob) (y : RegionFiles) (valid : (e : Entry) → Contains x.plan.kept.items e → IsEntry e)
     (one : IsDealt (get_or x.plan.jobs.items k j) (k + 1) (get_or x.plan.flushed.items (k + 1) 0) x.names x.stores.items x.plan.kept.items y) where

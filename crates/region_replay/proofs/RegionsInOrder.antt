@@ -32,12 +32,13 @@ use Rattle.region_replay.specs.Dealt.{stores_of, cells_of, is_edits, edits_of, w
 use Rattle.region_replay.proofs.Finding.{all_append, weaker_all}
 use Rattle.region_replay.proofs.Shares.{good_name}
 use Rattle.region_replay.proofs.Sorting.{none_in, is_first, is_later, first_or_later}
-use Rattle.region_replay.proofs.Lists.{in_filter, in_map, apart_from}
+use Rattle.found_files.proofs.Filters.{in_filter}
+use Rattle.region_replay.proofs.Lists.{in_map, apart_from}
 
 abbrev pub numbered : FoundStore → Numbered
 numbered y = (y.name.number, store_of y)
 
-edits_kind : (k : NameKind) → is_edits k ≡ true → k ≡ kinds.Edits
+pub edits_kind : (k : NameKind) → is_edits k ≡ true → k ≡ kinds.Edits
 edits_kind kinds.Log is = absurd (cc is)
 edits_kind kinds.Old is = absurd (cc is)
 edits_kind kinds.Store is = absurd (cc is)
@@ -95,7 +96,7 @@ pub cells_same : (ss : List FoundStore) → cells_of ss ≡ stores_cells (map nu
 cells_same [] = refl
 cells_same (s ∷ ss) = ap (λ (l : List NumberedCell). s.text.cells ++ l) (cells_same ss)
 
-stored_low : (n : ℕ) (ss : List FoundStore) → ((y : FoundStore) → Contains ss y → IsStore (store_of y) × (y.text.to ≤ n)) → AllByRecursion (λ c. c.0 ≤ n) (cells_of ss)
+pub stored_low : (n : ℕ) (ss : List FoundStore) → ((y : FoundStore) → Contains ss y → IsStore (store_of y) × (y.text.to ≤ n)) → AllByRecursion (λ c. c.0 ≤ n) (cells_of ss)
 stored_low n [] each = tt
 stored_low n (s ∷ ss) each =
     let one = each s (is_first s ss) in

@@ -7,3 +7,4 @@ pub mod Names
 pub mod Whole
 pub mod Opened
 pub mod Dealt
+pub mod Alone

@@ -70,11 +70,18 @@ pub(crate) fn deal_store(regions: &mut Vec<RegionFiles>, store: FoundStore) -> R
 fn add_stored(region: &mut RegionFiles, cells: NumberedCells) -> Result<(), NoMemory>
     ensures { OnOk result (AddsStored cells region.old region.new) }
 {
-    if region.stored.is_empty() {
-        region.stored = cells;
+    append_cells(&mut region.stored, cells)
+}
+
+/// Puts these cells behind the others. No byte is copied.
+pub(crate) fn append_cells(cells: &mut NumberedCells, more: NumberedCells) -> Result<(), NoMemory>
+    ensures { OnOk result (cells.new ≡ cells.old ++ more) }
+{
+    if cells.is_empty() {
+        *cells = more;
         return Ok(());
     }
-    push_cells(&mut region.stored, cells)
+    push_cells(cells, more)
 }
 
 /// Adds these cells. No byte is copied.

@@ -1,13 +1,16 @@
 //! Replaying the edits files of a store whose logs were split. What no store has of a region goes into its next store, its
-//! edits files go, and the region's cells are put in order for whoever opens it. What stands in the files was read before.
+//! edits files go, and the region's cells are put in order for whoever opens it. What stands in the files was read before,
+//! but where one region is replayed alone.
 #![tactic(auto)]
 
+mod alone;
 mod clearing;
 mod dealing;
 mod found;
 mod gathering;
 mod grouping;
 mod laws;
+mod one_region;
 mod recovering;
 mod region;
 mod regions;
@@ -19,6 +22,7 @@ mod whole;
 pub use clearing::clear;
 pub use found::{Recovered, RegionFiles, Replayed};
 pub use laws::one_sort_gives_the_base;
+pub use one_region::replay;
 pub use recovering::recover_all;
 pub use region::replay_region;
 pub use regions::replay_regions;

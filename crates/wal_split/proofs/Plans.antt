@@ -1,7 +1,7 @@
 -- What a plan gives the steps that change files.
 use Rattle.std.proofs.Common.{◌≡◌, ◌⊎◌, inl, inr, ℕ, ◌+◌, ◌<◌, ◌≤◌, ◌^◌, List, [], ◌∷◌, length, take, get_or, Contains, Some, None, is_some, refl, sym, ap, ◌∙◌, subst, arith}
 use Rattle.std.specs.FinMap.{keys}
-use Rattle.std.proofs.lemmas.Bool.{cases_lt}
+use Rattle.std.proofs.lemmas.Bool.{cases_eq, cases_lt}
 use Rattle.std.proofs.lemmas.List.{get_or-take, length-take}
 use Rattle.std.proofs.lemmas.List.Elements.{Contains-get_or, recursion_from_All, All-from_recursion, All-contains}
 use Rattle.log_model.specs.declared.name.Name.{Name}
@@ -230,6 +230,26 @@ module _ (told : Type 0) (is_told : told) (v : DiskView) (true_disk : IsTrueDisk
             elim (present_cases v.files m) as (λ _. ⊥) [
               | inl none ↦ here (same ∙ none)
               | inr some ↦ (let l = small m (is_some_there m some.0 some.1) in omega (arith, high, l))
+            ]
+
+    -- each edits file is of a region
+    pub given_left : (m : Name) → m.kind ≡ kinds.Edits → IsPresent w.files m → 1 ≤ m.region
+    given_left m edits here = elim (cases_eq m.region 0) as (λ _. 1 ≤ m.region) [
+      | inr more ↦ omega (arith, more)
+      | inl zero ↦ absurd (none zero)
+    ]
+      where
+        none : m.region ≡ 0 → ⊥
+        none zero =
+            let same = others m (λ j has some is. (
+            let long = plan.jobs.long in
+            let lt : has.0 < 64 = omega (arith, has.1, long) in
+            let region : m.region ≡ has.0 + 1 = ap (λ (x : Name). x.region) (is ∙ name_at (keys v.files) xs ss p plan j has.0 lt has.2) in
+            omega (arith, region, zero)))
+            (λ n has. ((λ is. absurd (cc (sym edits ∙ ap (λ (x : Name). x.kind) is))), λ is. absurd (cc (sym edits ∙ ap (λ (x : Name). x.kind) is)))) in
+            elim (present_cases v.files m) as (λ _. ⊥) [
+              | inl gone_before ↦ here (same ∙ gone_before)
+              | inr some ↦ read.good m (among_names v.files m (is_some_there m some.0 some.1)) (inr (inl (inr edits, inl zero)))
             ]
 
     pub stores_left : StoresStand v.files w.files

@@ -15,8 +15,9 @@ pub record IsHeld (base : Files) (disk : DiskView) : Type 0 where
   pub unmoved : (n m : Name) → n.kind ≢ kinds.Old → ¬ disk.formerly n m
   pub gone : (m : Name) → disk.gone m → HoldsEntries m.kind
 
--- The same without a log, and no name has a number above 2^63: what a replay begins with.
+-- The same without a log, no name has a number above 2^63, and no edits file has region 0: what a replay begins with.
 pub record IsSplit (disk : DiskView) : Type 0 where
   pub held : IsHeld disk.files disk
   pub no_logs : (m : Name) → m.kind ≡ kinds.Log → content disk.files m ≡ None
   pub small : (m : Name) → IsPresent disk.files m → m.number ≤ 2 ^ 63
+  pub given : (m : Name) → m.kind ≡ kinds.Edits → IsPresent disk.files m → 1 ≤ m.region

@@ -1,6 +1,5 @@
-use Rattle.std.proofs.Common.{◌≡◌, inl, inr, refl, sym, ◌∙◌}
+use Rattle.std.proofs.Common.{inl, inr, refl}
 use Rattle.std.proofs.lemmas.Result.{on_ok_weaker}
-use Rattle.log_model.specs.declared.name.NameKind.TheVariants as kinds
 use Rattle.found_files.specs.Checked.{TellsOne}
 use Rattle.found_files.specs.Refusal.{IsDamageAt}
 use Rattle.found_files.proofs.Told.{if_damage}
@@ -9,46 +8,10 @@ use Rattle.found_files.proofs.checking.read_one.Goals as goal
 pub returns-then-is_bad-clause-damaged : goal.returns-then-is_bad-clause-damaged
 returns-then-is_bad-clause-damaged g c told names old = inl (c.is_bad.ensures.bad c.if-is_bad.true names old, refl)
 
-pub returns-in-Log-clause-read : goal.returns-in-Log-clause-read
-returns-in-Log-clause-read g c names old =
-    let not_store : c.args.name.kind ≡ kinds.Store → ⊥ = λ store. elim c.in-Log.is as (λ _. ⊥) [ inl log ↦ absurd (cc (sym log ∙ store)) | inr edits ↦ absurd (cc (sym edits ∙ store)) ] in
-    on_ok_weaker c.read_entries.result
-    (λ reads. record {
-      good = c.is_bad.ensures.good c.if-is_bad.false names old;
-      entries = λ holds. reads;
-      no_entries = λ none. absurd (none c.in-Log.is);
-      store = λ store. absurd (not_store store);
-      no_store = λ none. refl;
-    })
-    c.read_entries.ensures.read
+pub returns-clause-read : goal.returns-clause-read
+returns-clause-read g c names old = on_ok_weaker c.read_file.result (λ reads. record { good = c.is_bad.ensures.good c.if-is_bad.false names old; file = reads }) c.read_file.ensures.read
 
-pub returns-in-Log-clause-damaged : goal.returns-in-Log-clause-damaged
-returns-in-Log-clause-damaged g c told names old =
+pub returns-clause-damaged : goal.returns-clause-damaged
+returns-clause-damaged g c told names old =
     let files = (g.D.Disk.view c.args.disk.now).files in
-    if_damage (IsDamageAt files c.args.name) (TellsOne files names c.args.name) c.read_entries.result (λ d hurt. inr (c.is_bad.ensures.good c.if-is_bad.false names old, hurt)) (c.read_entries.ensures.damaged told)
-
-pub returns-in-Store-clause-read : goal.returns-in-Store-clause-read
-returns-in-Store-clause-read g c names old =
-    on_ok_weaker c.read_found_store.result
-    (λ reads. record {
-      good = c.is_bad.ensures.good c.if-is_bad.false names old;
-      entries = λ holds. elim holds [ inl log ↦ absurd (cc (sym log ∙ c.in-Store.is)) | inr edits ↦ absurd (cc (sym edits ∙ c.in-Store.is)) ];
-      no_entries = λ none. refl;
-      store = λ store. reads;
-      no_store = λ none. absurd (none c.in-Store.is);
-    })
-    c.read_found_store.ensures.read
-
-pub returns-in-Store-clause-damaged : goal.returns-in-Store-clause-damaged
-returns-in-Store-clause-damaged g c told names old =
-    let files = (g.D.Disk.view c.args.disk.now).files in
-    if_damage (IsDamageAt files c.args.name) (TellsOne files names c.args.name) c.read_found_store.result (λ d hurt. inr (c.is_bad.ensures.good c.if-is_bad.false names old, hurt)) (c.read_found_store.ensures.damaged told)
-
-pub returns-in-Old-clause-read : goal.returns-in-Old-clause-read
-returns-in-Old-clause-read g c names old = record {
-  good = c.is_bad.ensures.good c.if-is_bad.false names old;
-  entries = λ holds. elim holds [ inl log ↦ absurd (cc (sym log ∙ c.in-Old.is)) | inr edits ↦ absurd (cc (sym edits ∙ c.in-Old.is)) ];
-  no_entries = λ none. refl;
-  store = λ store. absurd (cc (sym store ∙ c.in-Old.is));
-  no_store = λ none. refl;
-}
+    if_damage (IsDamageAt files c.args.name) (TellsOne files names c.args.name) c.read_file.result (λ d hurt. inr (c.is_bad.ensures.good c.if-is_bad.false names old, hurt)) (c.read_file.ensures.damaged told)

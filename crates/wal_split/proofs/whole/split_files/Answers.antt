@@ -15,7 +15,7 @@ use Rattle.wal_split.specs.Logs.{AreFree, AreRising, IsOther, log_name}
 use Rattle.wal_split.specs.Covered.{LogsCovered}
 use Rattle.wal_split.specs.Planned.{IsPlan}
 use Rattle.wal_split.proofs.Holding.{settled_held}
-use Rattle.wal_split.proofs.Plans.{numbers_low, regions_low, are_jobs, are_free_names, are_free, are_rising, all_logged, logs_covered, counted, no_log_left, small_left, held_here}
+use Rattle.wal_split.proofs.Plans.{numbers_low, regions_low, are_jobs, are_free_names, are_free, are_rising, all_logged, logs_covered, counted, no_log_left, small_left, given_left, held_here}
 use Rattle.wal_split.proofs.AfterSplit.{in_range, are_left, one_higher}
 use Rattle.wal_split.proofs.whole.split_files.Goals as goal
 
@@ -155,6 +155,7 @@ returns-in-Ok-clause-split g c told =
       held = held_here u.files w (g.met.D.Disk.is_true c.split_found.new.disk told) (c.in-Ok.ensures.held told u.files held logged covered);
       no_logs = no_log_left (IsTrue g.D.Disk.told) told u true_disk (c.requires.settled told) xs ss p read plan w others gone;
       small = small_left (IsTrue g.D.Disk.told) told u true_disk (c.requires.settled told) xs ss p read plan w others gone;
+      given = given_left (IsTrue g.D.Disk.told) told u true_disk (c.requires.settled told) xs ss p read plan w others gone;
     }
 
 pub returns-in-Ok-clause-alike : goal.returns-in-Ok-clause-alike

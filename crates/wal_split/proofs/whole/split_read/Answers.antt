@@ -4,6 +4,7 @@ use Rattle.log_model.specs.Files.{Files}
 use Rattle.disk_images.specs.Crash.{IsImageNow}
 use Rattle.disk_images.proofs.Moments.{joined, weaker}
 use Rattle.recovery.specs.Alike.{AllAlike}
+use Rattle.found_files.proofs.ReadSteps.{contents_of, with_good}
 use Rattle.found_files.proofs.Sound.{of_same_files}
 use Rattle.wal_split.specs.Moments.{WasOrAlike}
 use Rattle.wal_split.specs.Left.{AtMostOneHigher}
@@ -13,7 +14,11 @@ pub split_files-requires-clause-read : goal.split_files-requires-clause-read
 split_files-requires-clause-read g c =
     let u = g.D.Disk.view c.args.disk.now in
     let v = g.D.Disk.view c.find_files.new.disk in
-    of_same_files (IsTrue g.D.Disk.told) u.files v.files (λ told. sym (c.find_files.ensures.watches told).1.files) c.in-Ok.found.names c.in-Ok.found.names c.in-Ok.found.files.entries.items c.in-Ok.found.files.stores.items c.in-Ok.ensures.read
+    let names = c.in-Ok.found.names in
+    let es = c.in-Ok.found.files.entries.items in
+    let ss = c.in-Ok.found.files.stores.items in
+    with_good (IsTrue g.D.Disk.told) v.files names names es ss c.in-Ok.ensures.read.good
+    (of_same_files (IsTrue g.D.Disk.told) u.files v.files (λ told. sym (c.find_files.ensures.watches told).1.files) names es ss (contents_of (IsTrue g.D.Disk.told) u.files names names es ss c.in-Ok.ensures.read))
 
 pub returns-in-Ok-clause-any_moment : goal.returns-in-Ok-clause-any_moment
 returns-in-Ok-clause-any_moment g c told =

@@ -1,0 +1,31 @@
+use Rattle.std.proofs.Common.{◌+◌, ◌∙◌, sym, ap, subst}
+use Rattle.log_model.specs.Files.{Files, content}
+use Rattle.disk_images.proofs.Moments.{joined}
+use Rattle.recovery.specs.Alike.{AllAlike}
+use Rattle.region_replay.specs.Ready.{IsOf}
+use Rattle.region_replay.proofs.one_region.replay_and_clear.Goals as goal
+
+pub returns-in-Ok-clause-any_moment : goal.returns-in-Ok-clause-any_moment
+returns-in-Ok-clause-any_moment g c told base held found =
+    let one = c.replay_region.ensures.any_moment told base held found in
+    let two = c.clear.ensures.any_moment told base (c.in_ok-replayed.ensures.held told base held found) in
+    (one.0 + 1, joined (AllAlike base) one.0 1 (g.D.Disk.view c.args.disk.now) (g.D.Disk.view c.replay_region.new.disk) (g.D.Disk.view c.clear.new.disk) one.1 two)
+
+pub returns-in-Err-clause-any_moment : goal.returns-in-Err-clause-any_moment
+returns-in-Err-clause-any_moment g c told base held found =
+    let one = c.replay_region.ensures.any_moment told base held found in
+    let two = c.clear.ensures.any_moment told base (c.in_ok-replayed.ensures.held told base held found) in
+    (one.0 + 1, joined (AllAlike base) one.0 1 (g.D.Disk.view c.args.disk.now) (g.D.Disk.view c.replay_region.new.disk) (g.D.Disk.view c.clear.new.disk) one.1 two)
+
+pub returns-in-Ok-clause-held : goal.returns-in-Ok-clause-held
+returns-in-Ok-clause-held g c told base held found = c.clear.ensures.held told base (c.in_ok-replayed.ensures.held told base held found)
+
+pub returns-in-Ok-clause-replayed : goal.returns-in-Ok-clause-replayed
+returns-in-Ok-clause-replayed g c told base held found =
+    subst (λ (f : Files). IsOf (g.D.Disk.view c.args.disk.now).files f c.args.found.region c.in_ok-replayed.replayed) (sym (c.clear.ensures.files told)) (c.in_ok-replayed.ensures.replayed told base held found)
+
+pub returns-in-Ok-clause-no_edits : goal.returns-in-Ok-clause-no_edits
+returns-in-Ok-clause-no_edits g c told m has = ap (λ (f : Files). content f m) (c.clear.ensures.files told) ∙ c.in_ok-replayed.ensures.no_edits told m has
+
+pub returns-in-Ok-clause-others : goal.returns-in-Ok-clause-others
+returns-in-Ok-clause-others g c told m not other = ap (λ (f : Files). content f m) (c.clear.ensures.files told) ∙ c.in_ok-replayed.ensures.others told m not other
