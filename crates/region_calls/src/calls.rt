@@ -17,9 +17,9 @@ use crate::server::Server;
 use disk_images::Disk;
 use kv_cell::{Batch, Durability, NoMemory};
 use log_device::{RollRefusal, Rolled};
-use log_service::LogSeat;
+use log_service::{Helped, LogSeat};
 use region_lock::{
-    FlushRefusal, Gate, PutRefusal, ScanReply, flush_in, help, point_in, roll_in, scan_in,
+    FlushRefusal, Gate, PutRefusal, ScanReply, flush_in, point_in, roll_in, scan_in,
 };
 use region_state::Caller;
 use std::alloc::Global;
@@ -194,11 +194,11 @@ impl<
     }
 
     /// Helps the log: one turn of each kind.
-    pub fn help<S: Wait>(&self, rt: &S, seat: &mut LogSeat)
+    pub fn help<S: Wait>(&self, rt: &S, seat: &mut LogSeat) -> Helped
         requires seat { IsSeatOf self.now seat.old }
         ensures seat { IsSeatOf self.now seat.new }
         ensures later { IsLaterSeat seat.old seat.new }
     {
-        help(rt, &self.service, seat);
+        self.service.help(rt, seat)
     }
 }

@@ -31,7 +31,7 @@ mod wording;
 pub use closed::{CloseRefusal, ClosedRegion, ClosedServer};
 pub use helpers::Helpers;
 pub use log_device::{RollRefusal, Rolled};
-pub use log_service::LogSeat;
+pub use log_service::{Helped, LogSeat};
 pub use mem_segments::Page;
 pub use naming::Naming;
 pub use opening::open;
