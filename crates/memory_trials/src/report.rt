@@ -15,55 +15,6 @@ roll 2
 scan 2 2 k1 k2
 ";
 
-/// The replies that a call may have, and the one that it has where it was refused memory.
-type Row = (&'static [&'static str], &'static str);
-
-/// Handler 1 where its put is an edit.
-const FIRST_PUT: [Row; 3] = [
-    (&["reply 1 1 put ok 1\n"], "reply 1 1 put memory 1\n"),
-    (
-        &[
-            "reply 1 2 scan 1 2
-cell 1 user1 info mail 1700000000000 put ann@x
-cell 1 user1 info name 1700000000000 put Ann
-",
-        ],
-        "reply 1 2 scan memory\n",
-    ),
-    (&["reply 1 3 flush ok 1\n"], "reply 1 3 flush memory\n"),
-];
-
-/// Handler 1 where its put was refused memory before it was one.
-const FIRST_REFUSED: [Row; 3] = [
-    (&[], "reply 1 1 put memory\n"),
-    (&["reply 1 2 scan 0 0\n"], "reply 1 2 scan memory\n"),
-    (&["reply 1 3 flush nothing 0\n"], "reply 1 3 flush memory\n"),
-];
-
-const SECOND_PUT: Row = (&["reply 2 1 put ok 1\n"], "reply 2 1 put memory 1\n");
-
-const SECOND_REFUSED: Row = (&[], "reply 2 1 put memory\n");
-
-/// The roll behind it, by the edits of handlers 1 and 2: the other one's may not be in the log yet.
-fn roll_of(first: bool, second: bool) -> Row {
-    let answers: &'static [&'static str] = match (first, second) {
-        (true, true) => &["reply 2 2 roll ok 1 1\n", "reply 2 2 roll ok 1 2\n"],
-        (false, true) => &["reply 2 2 roll ok 1 1\n"],
-        (true, false) => &["reply 2 2 roll nothing 1\n", "reply 2 2 roll ok 1 1\n"],
-        (false, false) => &["reply 2 2 roll nothing 1\n"],
-    };
-    (answers, "reply 2 2 roll memory\n")
-}
-
-/// The scan of a region with an edit.
-const SEEN: Row = (
-    &["reply 2 3 scan 1 1\ncell 1 k1 f q 5 put v\n"],
-    "reply 2 3 scan memory\n",
-);
-
-/// The scan of a region without.
-const UNSEEN: Row = (&["reply 2 3 scan 0 0\n"], "reply 2 3 scan memory\n");
-
 /// What a report tells: whether the put of handler 1, and that of handler 2, is an edit, and whether a call was refused.
 #[derive(Clone, Copy, Debug, PartialEq, Eq)]
 pub(crate) struct Told {
@@ -72,14 +23,140 @@ pub(crate) struct Told {
     pub(crate) refused: bool,
 }
 
-/// What is behind the first of these texts that stands here.
-fn past<'a>(rest: &'a str, texts: &[&str]) -> Option<&'a str> {
-    for text in texts {
-        if let Some(behind) = rest.strip_prefix(*text) {
-            return Some(behind);
-        }
+/// Which reply stood in its place: the one that tells of refused memory, or one of two others.
+#[derive(Clone, Copy, PartialEq, Eq)]
+enum Heard {
+    Refused,
+    First,
+    Second,
+}
+
+/// What is behind a reply, where one of three stands here: that of refused memory, or one of two others.
+fn past_reply<'a>(
+    rest: &'a str,
+    refused: &str,
+    first: &str,
+    second: &str,
+) -> Option<(&'a str, Heard)> {
+    if let Some(behind) = rest.strip_prefix(refused) {
+        return Some((behind, Heard::Refused));
     }
-    None
+    if let Some(behind) = rest.strip_prefix(first) {
+        return Some((behind, Heard::First));
+    }
+    let behind = rest.strip_prefix(second)?;
+    Some((behind, Heard::Second))
+}
+
+/// The replies of a call behind a handler's put: what is told where the handler sees its edit, and where it doesn't.
+type Row = (&'static str, &'static str, &'static str);
+
+const SCAN_1: Row = (
+    "reply 1 2 scan memory\n",
+    "reply 1 2 scan 1 2
+cell 1 user1 info mail 1700000000000 put ann@x
+cell 1 user1 info name 1700000000000 put Ann
+",
+    "reply 1 2 scan 0 0\n",
+);
+
+const FLUSH_1: Row = (
+    "reply 1 3 flush memory\n",
+    "reply 1 3 flush ok 1\n",
+    "reply 1 3 flush nothing 0\n",
+);
+
+const SCAN_2: Row = (
+    "reply 2 3 scan memory\n",
+    "reply 2 3 scan 1 1\ncell 1 k1 f q 5 put v\n",
+    "reply 2 3 scan 0 0\n",
+);
+
+/// What a handler knows of its edit: it is none, it may not be seen yet, or it was.
+#[derive(Clone, Copy, PartialEq, Eq)]
+enum Sight {
+    None,
+    Free,
+    Seen,
+}
+
+/// What is behind the reply to a put. It was seen exactly where it was answered ok.
+fn past_put<'a>(
+    rest: &'a str,
+    is_edit: bool,
+    ok: &str,
+    refused: &str,
+) -> Option<(&'a str, Heard, Sight)> {
+    if !is_edit {
+        let (behind, heard) = past_reply(rest, refused, refused, refused)?;
+        return Some((behind.strip_prefix("\n")?, heard, Sight::None));
+    }
+    if let Some(behind) = rest.strip_prefix(ok) {
+        return Some((behind, Heard::First, Sight::Seen));
+    }
+    let behind = rest.strip_prefix(refused)?;
+    Some((behind.strip_prefix(" 1\n")?, Heard::Refused, Sight::Free))
+}
+
+/// What is behind the reply to a call that looks at an edit, and what the handler knows then.
+fn past_look<'a>(rest: &'a str, row: Row, sight: Sight) -> Option<(&'a str, Heard, Sight)> {
+    let (refused, shown, hidden) = row;
+    let (first, second) = match sight {
+        Sight::None => (hidden, hidden),
+        Sight::Free => (shown, hidden),
+        Sight::Seen => (shown, shown),
+    };
+    let (behind, heard) = past_reply(rest, refused, first, second)?;
+    let later = if sight == Sight::Free && heard == Heard::First {
+        Sight::Seen
+    } else {
+        sight
+    };
+    Some((behind, heard, later))
+}
+
+/// What is behind the replies of handler 1, and whether one tells of refused memory.
+fn past_first(rest: &str, is_edit: bool) -> Option<(&str, bool)> {
+    let (rest, put, sight) = past_put(
+        rest,
+        is_edit,
+        "reply 1 1 put ok 1\n",
+        "reply 1 1 put memory",
+    )?;
+    let (rest, scan, sight) = past_look(rest, SCAN_1, sight)?;
+    let (rest, flush, _) = past_look(rest, FLUSH_1, sight)?;
+    Some((
+        rest,
+        put == Heard::Refused || scan == Heard::Refused || flush == Heard::Refused,
+    ))
+}
+
+/// What is behind the reply to the roll of handler 2, by the edits of handlers 1 and 2: the other one's may not be in the log
+/// yet.
+fn past_roll(rest: &str, first: bool, second: bool) -> Option<(&str, Heard)> {
+    let (one, other) = match (first, second) {
+        (true, true) => ("reply 2 2 roll ok 1 1\n", "reply 2 2 roll ok 1 2\n"),
+        (false, true) => ("reply 2 2 roll ok 1 1\n", "reply 2 2 roll ok 1 1\n"),
+        (true, false) => ("reply 2 2 roll nothing 1\n", "reply 2 2 roll ok 1 1\n"),
+        (false, false) => ("reply 2 2 roll nothing 1\n", "reply 2 2 roll nothing 1\n"),
+    };
+    past_reply(rest, "reply 2 2 roll memory\n", one, other)
+}
+
+/// What is behind the replies of handler 2, and whether one tells of refused memory.
+fn past_second(rest: &str, first: bool, second: bool) -> Option<(&str, bool)> {
+    let (rest, put, sight) = past_put(
+        rest,
+        second,
+        "reply 2 1 put ok 1\n",
+        "reply 2 1 put memory",
+    )?;
+    let (rest, roll) = past_roll(rest, first, second)?;
+    let (rest, scan, _) = past_look(rest, SCAN_2, sight)?;
+    Some((
+        rest,
+        put == Heard::Refused || roll == Heard::Refused || scan == Heard::Refused,
+    ))
 }
 
 /// What is behind a line that may stand here, and whether it does.
@@ -90,43 +167,15 @@ fn past_edit<'a>(rest: &'a str, line: &str) -> (&'a str, bool) {
     }
 }
 
-/// What is behind these replies, and whether one tells of refused memory.
-fn past_replies<'a>(rest: &'a str, rows: &[Row]) -> Option<(&'a str, bool)> {
-    let mut rest = rest;
-    let mut refused = false;
-    for (answers, want) in rows {
-        match rest.strip_prefix(*want) {
-            Some(behind) => {
-                refused = true;
-                rest = behind;
-            }
-            None => rest = past(rest, answers)?,
-        }
-    }
-    Some((rest, refused))
-}
-
-/// What is behind the replies of both handlers, and whether one tells of refused memory.
-fn past_both(rest: &str, first: bool, second: bool) -> Option<(&str, bool)> {
-    let rows = if first { FIRST_PUT } else { FIRST_REFUSED };
-    let (rest, of_first) = past_replies(rest, &rows)?;
-    let roll = roll_of(first, second);
-    let rows = if second {
-        [SECOND_PUT, roll, SEEN]
-    } else {
-        [SECOND_REFUSED, roll, UNSEEN]
-    };
-    let (rest, of_second) = past_replies(rest, &rows)?;
-    Some((rest, of_first || of_second))
-}
-
 /// What a report tells, where it is a lawful one of the script: `end 1` exactly where a call was refused memory.
 pub(crate) fn read_report(text: &str) -> Option<Told> {
     let rest = text.strip_prefix("hwal 1\nregion 1 base 0 0\n")?;
     let (rest, first) = past_edit(rest, "edit 1 1 1 done\n");
     let rest = rest.strip_prefix("region 2 base 0 0\n")?;
     let (rest, second) = past_edit(rest, "edit 1 2 1 done\n");
-    let (rest, refused) = past_both(rest, first, second)?;
+    let (rest, one) = past_first(rest, first)?;
+    let (rest, other) = past_second(rest, first, second)?;
+    let refused = one || other;
     let end = if refused { "end 1\n" } else { "end 0\n" };
     if rest != end {
         return None;
