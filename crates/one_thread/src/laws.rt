@@ -4,7 +4,8 @@ ghost use Rattle.one_thread.specs.History.{LawfulRepliesAreOfOneThread};
 
 /// The lawful replies of all handlers on a region are a history of one thread: what it would be answered that makes these
 /// puts and scans one after the other, the puts in the order of their sequence ids, and each scan behind the put whose
-/// sequence id it read at. Each handler's calls stand in it in their own order.
+/// sequence id it read at. Each handler's puts stand in it in their own order, and so do its scans and the puts that went
+/// well.
 pub fn lawful_replies_are_of_one_thread()
     ensures { LawfulRepliesAreOfOneThread }
 {}
