@@ -1,6 +1,6 @@
 -- A closure may be shared by threads where each thing that it captures may be, and may go to another thread where each of them may.
 use Rattle.std.proofs.Crossing.{crosses}
-use Rattle.std.specs.contracts.sync.atomic.AtomicBool as flag
+use Rattle.std.specs.contracts.sync.atomic.AtomicU64 as flag
 use denote.Exit.{Kept}
 use denote.Param.{arg, param}
 use denote.Param.Send.{AllSend, AllSync, IsSend, IsSync, arg_send, arg_sync, param_send, param_sync, sendable}

@@ -8,11 +8,12 @@ use crate::handler::Handler;
 use crate::handling::handle;
 use crate::naming::ServerName;
 use disk_images::Disk;
-use region_calls::{Gate, LogSeat, Server};
+use region_calls::{Gate, Helped, LogSeat, Server};
 use std::alloc::Global;
 use std::sync::Wait;
-use std::sync::atomic::{AtomicBool, Ordering};
+use std::sync::atomic::{AtomicU64, Ordering};
 use std::thread::{Threads, for_each_mut, join_mut};
+use std::time::Duration;
 
 /// Runs each handler in a thread of its own. Where no thread can be made the caller's runs it.
 fn handle_each<
@@ -44,25 +45,31 @@ fn handle_each<
     );
 }
 
-/// Helps the log until it is told to stop.
+/// Helps the log until it is told to stop. Where there is nothing to do, or another thread does it, it sleeps for a millisecond: no put waits for
+/// a helper, and to wake one at each put would cost more than it helps.
 fn help_until<R: Wait, D: Disk, N: ServerName>(
     rt: &R,
     server: &Server<'_, D, N, R>,
-    stop: &AtomicBool,
+    stop: &AtomicU64,
     seat: &mut LogSeat,
 )
     requires { IsSeatOf server.now seat.old }
     ensures { IsSeatOf server.now seat.new }
 {
     for _ in rt.forever() {
-        if stop.load(Ordering::SeqCst) {
+        if stop.load(Ordering::SeqCst) != 0 {
             break;
         }
-        server.help(rt, seat);
+        match server.help(rt, seat) {
+            Helped::Something => {}
+            Helped::Busy | Helped::Nothing => {
+                stop.park_timeout(rt, 0, Duration::from_millis(1));
+            }
+        }
     }
 }
 
-/// Runs the handlers, and then tells the helpers to stop.
+/// Runs the handlers, and then tells the helpers to stop and wakes them.
 fn handle_all<
     R: Threads + Wait + Sync,
     D: Disk + Send,
@@ -74,7 +81,7 @@ fn handle_all<
     server: &Server<'_, D, N, R>,
     gate: &G,
     time: u64,
-    stop: &AtomicBool,
+    stop: &AtomicU64,
     handlers: &mut Vec<Handler<N>>,
 )
     requires ready { AreReady N.name server.now handlers.old.items }
@@ -82,7 +89,8 @@ fn handle_all<
     ensures { HaveRun N.name server.now time handlers.old.items handlers.new.items }
 {
     handle_each(rt, alloc, server, gate, time, handlers.as_mut_slice());
-    stop.store(true, Ordering::SeqCst);
+    stop.store(1, Ordering::SeqCst);
+    stop.wake_all();
 }
 
 /// Runs the handlers beside one helper.
@@ -97,7 +105,7 @@ fn handle_beside<
     server: &Server<'_, D, N, R>,
     gate: &G,
     time: u64,
-    stop: &AtomicBool,
+    stop: &AtomicU64,
     seat: &mut LogSeat,
     handlers: &mut Vec<Handler<N>>,
 )
@@ -143,7 +151,7 @@ pub fn run_all<
     ensures run { HaveRun N.name server.now time handlers.items result.0.items }
     ensures seats { IsSeatOf server.now result.1 × IsSeatOf server.now result.2 }
 {
-    let word = AtomicBool::new(false);
+    let word = AtomicU64::new(0);
     let stop = &word;
     let mut first = first;
     let mut second = second;
