@@ -43,6 +43,3 @@ pub use scanner::Scanner;
 pub use server::Server;
 pub use starting::Started;
 pub use store::Opened;
-
-#[cfg(test)]
-mod tests;

@@ -1,7 +1,9 @@
-//! Trials of a region's versions over threads: versions that are shown while others view, and the sharing of one that
-//! shows. A library of tests alone, at the top, so that no crate waits for it.
+//! Trials of a region's versions: over threads, versions that are shown while others view, and the sharing of one that
+//! shows; a scan of one in pages. A library of tests alone, at the top, so that no crate waits for it.
 #![tactic(auto)]
 
+#[cfg(test)]
+mod pages;
 #[cfg(test)]
 mod region;
 #[cfg(test)]

@@ -39,7 +39,8 @@ impl<N: Naming, W: Wait + Drop> Model for Region<N, W> {
 
 /// A region with no cell.
 pub(crate) fn empty_region(alloc: Global) -> Result<RegionState, Fail>
-    ensures { IfOk result (λ s. s.lines ≡ []) }
+    ensures lines { IfOk result (λ s. s.lines ≡ []) }
+    ensures last { IfOk result (λ s. s.base.last ≡ 0) }
 {
     let base = Base {
         cells: Arc::new(alloc, Segment::new(alloc))?,

@@ -1,23 +1,13 @@
-ghost use Rattle.std.specs.Prelude.{◌≡◌, [], IfOk};
+//! A scan of a version in pages.
 
-use super::Scanner;
+use crate::region::empty_region;
 use kv_cell::{Batch, Cell};
-use mem_segments::{Base, Draft, Segment};
-use region_state::{Caller, Ended, RegionState, Version};
+use mem_segments::Draft;
+use region_calls::Scanner;
+use region_state::{Caller, Ended, Version};
 use std::alloc::Global;
 use std::sync::Arc;
 use std::test::Fail;
-
-/// A region with no cell.
-fn empty_region(alloc: Global) -> Result<RegionState, Fail>
-    ensures { IfOk result (λ s. (s.lines ≡ []) × (s.base.last ≡ 0)) }
-{
-    let base = Base {
-        cells: Arc::new(alloc, Segment::new(alloc))?,
-        last: 0,
-    };
-    Ok(RegionState::new(alloc, 1, base)?)
-}
 
 /// A version that shows the rows `a`, `b` and `c`, each with one cell.
 fn three_rows(alloc: Global) -> Result<Arc<Version, Global>, Fail> {
