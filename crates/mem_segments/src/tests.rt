@@ -146,7 +146,10 @@ fn list_of_a_walks_rows_shares_the_segments_cells(rt: HostRuntime) -> Result<(),
     parts.push(segment(alloc, &[(3, b'c'), (1, b'a'), (2, b'b')])?)?;
     let mut cells = SharedCells::new(alloc);
     let mut walk = MergeIter::new(alloc, &parts, b"", b"")?;
-    while let Some(row) = walk.next_row() {
+    for _ in 0..3 {
+        let Some(row) = walk.next_row() else {
+            return Err("a row is missing")?;
+        };
         cells.push(row.share()?)?;
     }
     cells.fit();
