@@ -1,0 +1,204 @@
+//! A service of sixteen regions over an empty disk, from its start to its close, on which sixteen threads put.
+
+ghost use Rattle.std.specs.Prelude.{◌≡◌, ◌≤◌, ℕ, [], replicate, vec_capacity};
+ghost use Rattle.crossbeam_queue.specs.Passes.{view};
+ghost use Rattle.log_model.specs.Files.{Files};
+ghost use Rattle.log_ledger.specs.History.{History};
+ghost use Rattle.log_device.specs.Whole.{disk_of};
+ghost use Rattle.disk_fakes.specs.Views.{view_of, faults_of};
+ghost use Rattle.log_service.specs.Begun.{IsFresh, BeginsAs, AreParts};
+
+use crate::bench::TestDisk;
+use crate::crew::{Member, PUTS, put_each};
+use crate::crowd::{hand_out, take_back};
+use crate::image::has_numbers;
+use disk_fakes::MemDisk;
+use log_device::Device;
+use log_ledger::RegionBase;
+use log_service::{LogService, Naming, Rings, ServiceParts};
+use std::alloc::Global;
+use std::marker::Brand;
+use std::snapshot::Snapshot;
+use std::sync::Wait;
+use std::test::{Fail as TestFail, *};
+use std::thread::Threads;
+
+/// What is left of a service: its disk, whether its log broke, how many edits were waited for, and the least number that the
+/// regions are synced up to.
+#[derive(Drop)]
+struct Ended {
+    disk: TestDisk,
+    broken: bool,
+    durable: u64,
+    synced: u64,
+}
+
+/// The least of sixteen numbers.
+fn least(numbers: &[u64]) -> u64 {
+    let mut least = u64::MAX;
+    for number in numbers.iter().take(16) {
+        least = least.min(*number);
+    }
+    least
+}
+
+/// Starts a service over a device, has the threads put, and closes it.
+fn over_sixteen<N: Naming + Send + Sync, R: Wait + Threads + Sync>(
+    rt: &R,
+    alloc: Global,
+    rings: Rings,
+    device: Device<TestDisk>,
+    _found: Snapshot<TestDisk>,
+    room: Vec<Member>,
+) -> Option<Ended>
+    requires lasts { N.lasts ≡ replicate 16 0 }
+    requires items { (rings.items.ring.capacity ≡ 1024)
+        × AreParts N.ring N.lasts rings.items.ring.id rings.items.consumer.pass.table_id (view rings.items.consumer.pass) rings.items.passes }
+    requires loads { (rings.loads.ring.capacity ≡ 2)
+        × AreParts N.hand N.lasts rings.loads.ring.id rings.loads.consumer.pass.table_id (view rings.loads.consumer.pass) rings.loads.passes }
+    requires device { IsFresh N.lasts device }
+    requires whole { ∥ ((h : History) × BeginsAs N.base N.lasts device (view_of (disk_of device)) h) ∥₁ }
+    requires start { N.start ≡ (view_of (disk_of device)).clock }
+    requires past { (t : ℕ) (J : Files) → t ≤ N.start
+        → ((view_of (disk_of device)).image t J → N.past t J) × (N.past t J → (view_of (disk_of device)).image t J) }
+    requires faults { N.faults ≡ faults_of (disk_of device) }
+    requires room { (room.items ≡ []) × (16 ≤ vec_capacity room) }
+{
+    let Ok(
+        ServiceParts {
+            service,
+            mut passes,
+            mut seats,
+        },
+    ) = LogService::<TestDisk, N>::start(alloc, rings, device, 16, 16)
+    else {
+        return None;
+    };
+    let mut crew = room;
+    hand_out(&service, &mut passes, &mut seats, &mut crew);
+    put_each(rt, alloc, &service, crew.as_mut_slice());
+    let durable = take_back(rt, &service, crew, &mut passes, &mut seats);
+    let closed = service.close(rt, seats, passes);
+    Some(Ended {
+        disk: closed.disk,
+        broken: closed.broken,
+        durable,
+        synced: least(closed.synced.as_slice()),
+    })
+}
+
+/// Regions 1 to 16, of which nothing is stored.
+const REGIONS: [RegionBase; 16] = [
+    RegionBase {
+        region: 1,
+        flushed: 0,
+        next_store: 1,
+    },
+    RegionBase {
+        region: 2,
+        flushed: 0,
+        next_store: 1,
+    },
+    RegionBase {
+        region: 3,
+        flushed: 0,
+        next_store: 1,
+    },
+    RegionBase {
+        region: 4,
+        flushed: 0,
+        next_store: 1,
+    },
+    RegionBase {
+        region: 5,
+        flushed: 0,
+        next_store: 1,
+    },
+    RegionBase {
+        region: 6,
+        flushed: 0,
+        next_store: 1,
+    },
+    RegionBase {
+        region: 7,
+        flushed: 0,
+        next_store: 1,
+    },
+    RegionBase {
+        region: 8,
+        flushed: 0,
+        next_store: 1,
+    },
+    RegionBase {
+        region: 9,
+        flushed: 0,
+        next_store: 1,
+    },
+    RegionBase {
+        region: 10,
+        flushed: 0,
+        next_store: 1,
+    },
+    RegionBase {
+        region: 11,
+        flushed: 0,
+        next_store: 1,
+    },
+    RegionBase {
+        region: 12,
+        flushed: 0,
+        next_store: 1,
+    },
+    RegionBase {
+        region: 13,
+        flushed: 0,
+        next_store: 1,
+    },
+    RegionBase {
+        region: 14,
+        flushed: 0,
+        next_store: 1,
+    },
+    RegionBase {
+        region: 15,
+        flushed: 0,
+        next_store: 1,
+    },
+    RegionBase {
+        region: 16,
+        flushed: 0,
+        next_store: 1,
+    },
+];
+
+/// Has sixteen threads put over an empty disk.
+fn run_sixteen<R: Wait + Threads + Sync>(rt: &R, alloc: Global) -> Result<Ended, TestFail> {
+    let disk = MemDisk::new(alloc, &[])?;
+    let rings = match Rings::new(alloc, &[0; 16]) {
+        Ok(rings) => rings,
+        Err(_) => Err("memory is ample")?,
+    };
+    let room = Vec::with_capacity(alloc, 16)?;
+    let found = Snapshot::of(&disk);
+    match Device::start(alloc, disk, &REGIONS) {
+        Ok(device) => {
+            let ended = over_sixteen::<Brand, R>(rt, alloc, rings, device, found, room);
+            Ok(ended.ok_or("memory is ample")?)
+        }
+        Err(_) => Err("an empty disk is opened")?,
+    }
+}
+
+// Each of sixteen threads waits for each of its edits, and the log has them all, those of a region in their order.
+#[test]
+fn sixteen_threads_put(rt: HostRuntime) -> Result<(), TestFail> {
+    let alloc = rt.alloc();
+    let mut ended = run_sixteen(&rt, alloc)?;
+    assert!(rt; !ended.broken);
+    assert_eq!(rt; ended.durable, 16 * PUTS);
+    assert_eq!(rt; ended.synced, PUTS);
+    for region in 1..17u32 {
+        assert!(rt; has_numbers(alloc, &mut ended.disk, 1, region, 1, PUTS + 1)?);
+    }
+    Ok(())
+}
