@@ -13,8 +13,8 @@ pub(crate) enum Kind {
     Roll,
 }
 
-/// A call of a script. A put has one cell in the row, with its handler and call as the value; a scan is of all rows, or of the rows 1
-/// and 2 where the row isn't 0.
+/// A call of a script. A put has one cell in the row, with its handler and call as the value; a scan is of all rows, or of the first
+/// two where the row isn't 0.
 #[derive(Clone, Copy, PartialEq, Eq)]
 pub(crate) struct Step {
     pub(crate) handler: u64,
