@@ -36,7 +36,7 @@ impl Draft {
         ensures { IfOk result (λ draft. IsDraftOf draft batch.now) }
     {
         let rows = draft_rows(alloc, batch.as_slice())?;
-        let rows = ordered_rows(alloc, &rows)?;
+        let rows = ordered_rows(alloc, rows)?;
         Ok(Draft { rows })
     }
 }

@@ -24,16 +24,20 @@ pub(crate) fn numbered_rows(alloc: Global, cells: NumberedCells) -> Result<Vec<R
     Ok(rows)
 }
 
-/// The rows in order; of two that tie the later one stays. Where no two tie one sort does it.
-pub(crate) fn ordered_rows(alloc: Global, rows: &[Row]) -> Result<Vec<Row>, NoMemory>
+/// The rows in order; of two that tie the later one stays. Rows that are in order stay as they are; where no two tie one
+/// sort does it.
+pub(crate) fn ordered_rows(alloc: Global, rows: Vec<Row>) -> Result<Vec<Row>, NoMemory>
     ensures rising { IfOk result (λ ordered. IsRising ordered.items) }
-    ensures content { IfOk result (λ ordered. content_of ordered.items ≡ put_numbered empty rows.now) }
+    ensures content { IfOk result (λ ordered. content_of ordered.items ≡ put_numbered empty rows.items) }
 {
-    let sorted = sorted_rows(alloc, rows)?;
+    if are_rising(&rows) {
+        return Ok(rows);
+    }
+    let sorted = sorted_rows(alloc, &rows)?;
     if are_rising(&sorted) {
         return Ok(sorted);
     }
-    let ordered = halved_rows(alloc, rows)?;
+    let ordered = halved_rows(alloc, &rows)?;
     Ok(ordered)
 }
 

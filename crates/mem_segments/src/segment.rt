@@ -74,7 +74,7 @@ impl Segment {
         ensures within { OnOk result (AllByRecursion (λ x. IsCell x.1) cells) }
     {
         let rows = numbered_rows(alloc, cells)?;
-        let rows = ordered_rows(alloc, &rows)?;
+        let rows = ordered_rows(alloc, rows)?;
         Ok(Segment { rows })
     }
 
