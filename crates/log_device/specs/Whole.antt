@@ -21,7 +21,7 @@ abbrev pub log_of : {D : Type 0} → Device D → Option OpenLog
 log_of d = d.log
 
 abbrev pub books_of : {D : Type 0} → Device D → Books
-books_of d = d.ledger
+books_of d = d.ledger.value
 
 abbrev pub IsBroken : {D : Type 0} → Device D → Type 0
 IsBroken d = log_of d ≡ None

@@ -14,8 +14,9 @@ pub struct Device<D> {
     pub(crate) disk: D,
     // None from the first fault on
     pub(crate) log: Option<LogFile>,
-    pub(crate) ledger: Ledger,
-    ghost numbered: { (file : OpenLog) → log ≡ Some file → IsNumbered file ledger },
+    // some 6 KB, so that a device is small when it is moved
+    pub(crate) ledger: Box<Ledger>,
+    ghost numbered: { (file : OpenLog) → log ≡ Some file → IsNumbered file ledger.value },
 }
 
 impl<D> Device<D> {

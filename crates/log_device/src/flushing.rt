@@ -122,13 +122,14 @@ impl<D: Disk> Device<D> {
         ensures broken { IsErrOf result DeviceFlush.WriteFault ↔ IsBroken self.new }
         ensures cause { CausesFault D.Disk self.old self.new (IsErrOf result DeviceFlush.WriteFault) }
     {
-        if !self.ledger.has_unflushed(region) {
+        let ledger = &*self.ledger;
+        if !ledger.has_unflushed(region) {
             self.ledger.keep(region);
             return Err(DeviceFlush::Nothing {
                 flushed: self.ledger.flushed(region),
             });
         }
-        let cells = self.ledger.cells(alloc, region)?;
+        let cells = ledger.cells(alloc, region)?;
         self.write_store(alloc, region, cells)
     }
 
@@ -182,12 +183,13 @@ impl<D: Disk> Device<D> {
         ensures broken { IsErrOf result DeviceFlush.WriteFault ↔ IsBroken self.new }
         ensures cause { CausesFault D.Disk self.old self.new (IsErrOf result DeviceFlush.WriteFault) }
     {
-        let from = self.ledger.flushed(region) + 1;
-        let to = self.ledger.drawn(region);
+        let ledger = &*self.ledger;
+        let from = ledger.flushed(region) + 1;
+        let to = ledger.drawn(region);
         let name = Name {
             kind: NameKind::Store,
             region,
-            number: self.ledger.next_store(region),
+            number: ledger.next_store(region),
         };
         match write_cut(alloc, &mut self.disk, name, from, to, cells) {
             Ok(_) => {

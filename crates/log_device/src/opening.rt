@@ -69,6 +69,12 @@ impl<D: Disk> Device<D> {
                 disk,
             });
         };
+        let Ok(ledger) = Box::new(alloc, ledger) else {
+            return Err(DeviceRefusal {
+                why: DeviceWhy::Memory,
+                disk,
+            });
+        };
         match first_log(alloc, &mut disk) {
             Ok(log) => Ok(Device {
                 disk,

@@ -111,12 +111,13 @@ impl<D: Disk> Device<D> {
         ensures cause { CausesFault D.Disk self.old self.new (IsErrOf result RollRefusal.WriteFault) }
     {
         let (file, entries) = self.current();
+        let ledger = &mut *self.ledger;
         if entries == 0 {
-            self.ledger.close_empty();
+            ledger.close_empty();
             return Err(RollRefusal::NothingToRoll { file });
         }
         let stage = Stage::new(alloc)?;
-        self.ledger.reserve_file()?;
+        ledger.reserve_file()?;
         self.begin_next(stage)?;
         Ok(Rolled {
             closed: file,

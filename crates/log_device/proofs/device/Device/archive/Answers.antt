@@ -45,8 +45,8 @@ returns-in_err-archive_one-clause-any_moment g c told h whole =
     let w = g.D.Disk.view c.archive_one.new.self.disk in
     let so_far = c.loop-count.invariant.1 told h whole in
     let count = c.loop-count.count in
-    let wide = counted_length c.loop-count.self.ledger c.loop-count.self.ledger.accounts.closed so_far.left so_far.now.counted.logs in
-    archive_leaves whole.file u h c.args.self.now.ledger whole.keeps whole.counted (g.met.D.Disk.is_true c.args.self.now.disk told) (length h.logs) u w
+    let wide = counted_length c.loop-count.self.ledger.value c.loop-count.self.ledger.value.accounts.closed so_far.left so_far.now.counted.logs in
+    archive_leaves whole.file u h c.args.self.now.ledger.value whole.keeps whole.counted (g.met.D.Disk.is_true c.args.self.now.disk told) (length h.logs) u w
     (more_time (Shows h.kept whole.file.name h.current) (count + 1) (length h.logs) u w (omega (arith, so_far.total, wide, c.in_err-archive_one.ensures.some refl))
     (joined (Shows h.kept whole.file.name h.current) count 1 u v w so_far.moments
     (c.archive_one.ensures.any_moment told (with_logs h so_far.left) whole.file so_far.now (c.loop-count.invariant.0.log ∙ whole.is))))
@@ -92,7 +92,7 @@ loop-count-preserved g c =
         served = c.archive_one.ensures.served ∙ going.served;
         unbroken = λ broken. going.unbroken (sym log ∙ broken);
         total = omega (arith, going.total, fewer);
-        few = inr (elim going.few as (λ _. length c.args.self.now.ledger.accounts.closed < 2 ^ 64) [
+        few = inr (elim going.few as (λ _. length c.args.self.now.ledger.value.accounts.closed < 2 ^ 64) [
           | inl none ↦ omega (arith, none, going.total, c.archive_one.ensures.few)
           | inr few ↦ few
         ]);
@@ -111,7 +111,7 @@ returns-clause-any_moment g c told h whole =
     let u = g.D.Disk.view c.args.self.now.disk in
     let so_far = c.loop-count.invariant.1 told h whole in
     let same = c.archive_one.ensures.same (c.in_ok-archive_one.was ∙ ap (λ (b : Bool). Ok b) c.if-branch.false) in
-    archive_leaves whole.file u h c.args.self.now.ledger whole.keeps whole.counted (g.met.D.Disk.is_true c.args.self.now.disk told) (length h.logs) u (g.D.Disk.view c.archive_one.new.self.disk)
+    archive_leaves whole.file u h c.args.self.now.ledger.value whole.keeps whole.counted (g.met.D.Disk.is_true c.args.self.now.disk told) (length h.logs) u (g.D.Disk.view c.archive_one.new.self.disk)
     (subst (λ (d : Device g.row.D.Denot). Throughout (Shows h.kept whole.file.name h.current) (length h.logs) u (g.D.Disk.view d.disk)) (sym same)
     (more_time (Shows h.kept whole.file.name h.current) c.loop-count.count (length h.logs) u (g.D.Disk.view c.loop-count.self.disk) (omega (arith, so_far.total)) so_far.moments))
 
@@ -146,8 +146,8 @@ returns-in_err-archive_one-clause-names g c told h file whole is =
     let so_far = c.loop-count.invariant.1 told h whole in
     let going = c.loop-count.invariant.0 in
     let count = c.loop-count.count in
-    let wide = counted_length c.loop-count.self.ledger c.loop-count.self.ledger.accounts.closed so_far.left so_far.now.counted.logs in
-    let ns = c.loop-count.self.ledger.next_store in
+    let wide = counted_length c.loop-count.self.ledger.value c.loop-count.self.ledger.value.accounts.closed so_far.left so_far.now.counted.logs in
+    let ns = c.loop-count.self.ledger.value.next_store in
     subst (λ (p : List ℕ × OpenLog). Throughout (Bears h.kept.base p.0 p.1.name.number) (length h.logs) u w) (λ i. (going.served i, same_file whole.file file (sym whole.is ∙ is) i))
     (more_time (Bears h.kept.base ns whole.file.name.number) (count + 1) (length h.logs) u w (omega (arith, so_far.total, wide, c.in_err-archive_one.ensures.some refl))
     (joined (Bears h.kept.base ns whole.file.name.number) count 1 u v w so_far.names
@@ -159,7 +159,7 @@ returns-clause-names g c told h file whole is =
     let so_far = c.loop-count.invariant.1 told h whole in
     let going = c.loop-count.invariant.0 in
     let same = c.archive_one.ensures.same (c.in_ok-archive_one.was ∙ ap (λ (b : Bool). Ok b) c.if-branch.false) in
-    let ns = c.loop-count.self.ledger.next_store in
+    let ns = c.loop-count.self.ledger.value.next_store in
     subst (λ (p : List ℕ × OpenLog). Throughout (Bears h.kept.base p.0 p.1.name.number) (length h.logs) u (g.D.Disk.view c.archive_one.new.self.disk)) (λ i. (going.served i, same_file whole.file file (sym whole.is ∙ is) i))
     (subst (λ (d : Device g.row.D.Denot). Throughout (Bears h.kept.base ns whole.file.name.number) (length h.logs) u (g.D.Disk.view d.disk)) (sym same)
     (more_time (Bears h.kept.base ns whole.file.name.number) c.loop-count.count (length h.logs) u (g.D.Disk.view c.loop-count.self.disk) (omega (arith, so_far.total)) so_far.names))

@@ -25,8 +25,8 @@ pub invariant_of-self-in-Ok : goal.invariant_of-self-in-Ok
 invariant_of-self-in-Ok g c = record {
   numbered = λ file is.
       subst (λ (f : OpenLog). IsNumbered f c.commit-in-Ok.new.self) (same_file c.commit.new.self file is)
-      (numbered_still c.in-Some.log c.commit.new.self c.args.self.now.ledger c.commit-in-Ok.new.self (c.args.self.now.numbered c.in-Some.log c.in-Some.is)
-      c.commit.ensures.name (omega (arith, c.in-Ok.ensures.counted, c.in-Ok.ensures.emptied.count)) (ap (λ (b : Books). sum b.drawn) c.commit-in-Ok.ensures.synced) (ap (λ (b : Books). b.accounts.last) c.commit-in-Ok.ensures.synced));
+      (numbered_still c.in-Some.log c.commit.new.self c.args.self.now.ledger.value c.commit-in-Ok.new.self (c.args.self.now.numbered c.in-Some.log c.in-Some.is)
+      c.commit.ensures.name (omega (arith, c.in-Ok.ensures.counted, c.in-Ok.ensures.emptied.count)) (ap (λ (b : Books). sum b.drawn) (rw c.deref_mut.ensures.value at c.commit-in-Ok.ensures.synced)) (ap (λ (b : Books). b.accounts.last) (rw c.deref_mut.ensures.value at c.commit-in-Ok.ensures.synced)));
 }
 
 pub returns-in-Ok-clause-any_moment : goal.returns-in-Ok-clause-any_moment
@@ -35,7 +35,7 @@ returns-in-Ok-clause-any_moment g c told h file whole is =
     let w = g.D.Disk.view c.commit.new.disk in
     let keeps = kept_file c.args.self.now v h c.in-Some.log c.in-Some.is whole in
     subst (λ (f : OpenLog). Throughout (Between h.kept f.name h.current (committed h.kept) f.name (h.current ++ h.kept.staged)) 4 v w) (same_file c.in-Some.log file (sym c.in-Some.is ∙ is))
-    (commit_moments c.in-Some.log v h c.args.self.now.ledger.next_store keeps w (c.commit.ensures.any_moment told h.current h.kept.staged keeps.open_log keeps.staged))
+    (commit_moments c.in-Some.log v h c.args.self.now.ledger.value.next_store keeps w (c.commit.ensures.any_moment told h.current h.kept.staged keeps.open_log keeps.staged))
 
 pub returns-in-Ok-clause-committed : goal.returns-in-Ok-clause-committed
 returns-in-Ok-clause-committed g c told h whole =
@@ -45,11 +45,11 @@ returns-in-Ok-clause-committed g c told h whole =
     record {
       file = c.commit.new.self;
       is = refl;
-      keeps = subst (λ (ns : List ℕ). Keeps c.commit.new.self w (committed_in h) ns) (sym (ap (λ (b : Books). b.next_store) c.commit-in-Ok.ensures.synced))
-          (commit_kept c.in-Some.log v h c.args.self.now.ledger.next_store keeps c.commit.new.self w c.commit.ensures.name
+      keeps = subst (λ (ns : List ℕ). Keeps c.commit.new.self w (committed_in h) ns) (sym (ap (λ (b : Books). b.next_store) (rw c.deref_mut.ensures.value at c.commit-in-Ok.ensures.synced)))
+          (commit_kept c.in-Some.log v h c.args.self.now.ledger.value.next_store keeps c.commit.new.self w c.commit.ensures.name
           (c.commit.ensures.any_moment told h.current h.kept.staged keeps.open_log keeps.staged) (c.commit.ensures.touches told)
           (c.in-Ok.ensures.committed told h.current h.kept.staged keeps.open_log keeps.staged) c.in-Ok.ensures.emptied);
-      counted = c.commit-in-Ok.ensures.counted h whole.counted;
+      counted = (rw c.deref_mut.ensures.value at c.commit-in-Ok.ensures.counted) h whole.counted;
     }
 
 pub returns-in-Err-clause-any_moment : goal.returns-in-Err-clause-any_moment
@@ -58,7 +58,7 @@ returns-in-Err-clause-any_moment g c told h file whole is =
     let w = g.D.Disk.view c.commit.new.disk in
     let keeps = kept_file c.args.self.now v h c.in-Some.log c.in-Some.is whole in
     subst (λ (f : OpenLog). Throughout (Between h.kept f.name h.current (committed h.kept) f.name (h.current ++ h.kept.staged)) 4 v w) (same_file c.in-Some.log file (sym c.in-Some.is ∙ is))
-    (commit_moments c.in-Some.log v h c.args.self.now.ledger.next_store keeps w (c.commit.ensures.any_moment told h.current h.kept.staged keeps.open_log keeps.staged))
+    (commit_moments c.in-Some.log v h c.args.self.now.ledger.value.next_store keeps w (c.commit.ensures.any_moment told h.current h.kept.staged keeps.open_log keeps.staged))
 
 none_behind : behind_gate [] ≡ []
 unfolding behind_gate
@@ -74,8 +74,8 @@ returns-in-Ok-clause-names g c told h file whole is =
     let v = g.D.Disk.view c.args.self.now.disk in
     let w = g.D.Disk.view c.commit.new.disk in
     let keeps = kept_file c.args.self.now v h c.in-Some.log c.in-Some.is whole in
-    subst (λ (f : OpenLog). Throughout (Bears h.kept.base c.args.self.now.ledger.next_store f.name.number) 4 v w) (same_file c.in-Some.log file (sym c.in-Some.is ∙ is))
-    (names_moments c.in-Some.log v h c.args.self.now.ledger.next_store keeps (HasEither c.in-Some.log.name h.current (h.current ++ h.kept.staged)) 4 w
+    subst (λ (f : OpenLog). Throughout (Bears h.kept.base c.args.self.now.ledger.value.next_store f.name.number) 4 v w) (same_file c.in-Some.log file (sym c.in-Some.is ∙ is))
+    (names_moments c.in-Some.log v h c.args.self.now.ledger.value.next_store keeps (HasEither c.in-Some.log.name h.current (h.current ++ h.kept.staged)) 4 w
     (c.commit.ensures.any_moment told h.current h.kept.staged keeps.open_log keeps.staged))
 
 pub returns-in-Err-clause-names : goal.returns-in-Err-clause-names
@@ -83,6 +83,6 @@ returns-in-Err-clause-names g c told h file whole is =
     let v = g.D.Disk.view c.args.self.now.disk in
     let w = g.D.Disk.view c.commit.new.disk in
     let keeps = kept_file c.args.self.now v h c.in-Some.log c.in-Some.is whole in
-    subst (λ (f : OpenLog). Throughout (Bears h.kept.base c.args.self.now.ledger.next_store f.name.number) 4 v w) (same_file c.in-Some.log file (sym c.in-Some.is ∙ is))
-    (names_moments c.in-Some.log v h c.args.self.now.ledger.next_store keeps (HasEither c.in-Some.log.name h.current (h.current ++ h.kept.staged)) 4 w
+    subst (λ (f : OpenLog). Throughout (Bears h.kept.base c.args.self.now.ledger.value.next_store f.name.number) 4 v w) (same_file c.in-Some.log file (sym c.in-Some.is ∙ is))
+    (names_moments c.in-Some.log v h c.args.self.now.ledger.value.next_store keeps (HasEither c.in-Some.log.name h.current (h.current ++ h.kept.staged)) 4 w
     (c.commit.ensures.any_moment told h.current h.kept.staged keeps.open_log keeps.staged))

@@ -26,7 +26,7 @@ pub returns-in_err-commit_staged-clause-any_moment : goal.returns-in_err-commit_
 returns-in_err-commit_staged-clause-any_moment g c told h whole =
     let v = g.D.Disk.view c.args.self.now.disk in
     let w = g.D.Disk.view c.commit_staged.new.self.disk in
-    (4, commit_leaves whole.file v h c.args.self.now.ledger whole.keeps whole.counted (g.met.D.Disk.is_true c.args.self.now.disk told) w (c.commit_staged.ensures.any_moment told h whole.file whole whole.is))
+    (4, commit_leaves whole.file v h c.args.self.now.ledger.value whole.keeps whole.counted (g.met.D.Disk.is_true c.args.self.now.disk told) w (c.commit_staged.ensures.any_moment told h whole.file whole whole.is))
 
 pub flush_committed-requires-clause-whole : goal.flush_committed-requires-clause-whole
 flush_committed-requires-clause-whole g c told =
@@ -43,7 +43,7 @@ returns-clause-any_moment g c told h whole =
     let v = g.D.Disk.view c.commit_staged.new.self.disk in
     let w = g.D.Disk.view c.flush_committed.new.self.disk in
     let r = c.args.region in
-    let books = c.commit_staged.new.self.ledger in
+    let books = c.commit_staged.new.self.ledger.value in
     let now = c.in_ok-commit_staged.ensures.file whole.file whole.is in
     let then = c.in_ok-commit_staged.ensures.committed told h whole in
     let served : IsServed books r = subst (λ (b : Books). IsServed b r) (sym c.in_ok-commit_staged.ensures.synced) c.requires.served in
@@ -51,9 +51,9 @@ returns-clause-any_moment g c told h whole =
     let low = (orderly_committed h.kept whole.keeps.orderly).low r in
     let over = c.flush_committed.ensures.any_moment told (committed_in h) now.0 then now.1 refl in (
       4 + over.0,
-      joined (Leaves c.args.self.now.ledger.stored c.args.self.now.ledger.closed u.files h.kept.staged) 4 over.0 u v w
-          (commit_leaves whole.file u h c.args.self.now.ledger whole.keeps whole.counted (g.met.D.Disk.is_true c.args.self.now.disk told) v (c.commit_staged.ensures.any_moment told h whole.file whole whole.is))
-          (flush_leaves whole.file u h c.args.self.now.ledger whole.keeps whole.counted (g.met.D.Disk.is_true c.args.self.now.disk told) r (get_or books.drawn r 0) over.0 v w (omega (arith, low, drawn)) (omega (arith, drawn))
+      joined (Leaves c.args.self.now.ledger.value.stored c.args.self.now.ledger.value.closed u.files h.kept.staged) 4 over.0 u v w
+          (commit_leaves whole.file u h c.args.self.now.ledger.value whole.keeps whole.counted (g.met.D.Disk.is_true c.args.self.now.disk told) v (c.commit_staged.ensures.any_moment told h whole.file whole whole.is))
+          (flush_leaves whole.file u h c.args.self.now.ledger.value whole.keeps whole.counted (g.met.D.Disk.is_true c.args.self.now.disk told) r (get_or books.drawn r 0) over.0 v w (omega (arith, low, drawn)) (omega (arith, drawn))
           (subst (λ (n : Name). Throughout (Between (committed h.kept) n (h.current ++ h.kept.staged) (flushed_to (committed h.kept) r (get_or books.drawn r 0)) n (h.current ++ h.kept.staged)) over.0 v w) now.2 over.1)),
     )
 
@@ -62,7 +62,7 @@ returns-clause-flushed g c told h whole =
     let v = g.D.Disk.view c.commit_staged.new.self.disk in
     let r = c.args.region in
     let then = c.in_ok-commit_staged.ensures.committed told h whole in
-    let served : IsServed c.commit_staged.new.self.ledger r = subst (λ (b : Books). IsServed b r) (sym c.in_ok-commit_staged.ensures.synced) c.requires.served in
+    let served : IsServed c.commit_staged.new.self.ledger.value r = subst (λ (b : Books). IsServed b r) (sym c.in_ok-commit_staged.ensures.synced) c.requires.served in
     let like = (then.keeps.images v.files (g.met.D.Disk.is_true c.commit_staged.new.self.disk told).reads).like in
     two c.flush_committed.result
     (λ n is number. (highest_kept (committed h.kept) v.files r n like then.keeps.orderly (number.0 ∙ then.counted.drawn r served) (let flushed = then.counted.flushed r served in omega (arith, number.1, flushed)), is))
@@ -73,7 +73,7 @@ returns-clause-nothing g c told h n whole is =
     let v = g.D.Disk.view c.commit_staged.new.self.disk in
     let r = c.args.region in
     let then = c.in_ok-commit_staged.ensures.committed told h whole in
-    let served : IsServed c.commit_staged.new.self.ledger r = subst (λ (b : Books). IsServed b r) (sym c.in_ok-commit_staged.ensures.synced) c.requires.served in
+    let served : IsServed c.commit_staged.new.self.ledger.value r = subst (λ (b : Books). IsServed b r) (sym c.in_ok-commit_staged.ensures.synced) c.requires.served in
     let like = (then.keeps.images v.files (g.met.D.Disk.is_true c.commit_staged.new.self.disk told).reads).like in
     let told_of = c.flush_committed.ensures.nothing n is in
     let flushed = then.counted.flushed r served in
@@ -92,10 +92,10 @@ returns-clause-names g c told h file whole is =
     let u = g.D.Disk.view c.args.self.now.disk in
     let v = g.D.Disk.view c.commit_staged.new.self.disk in
     let w = g.D.Disk.view c.flush_committed.new.self.disk in
-    let ns = c.args.self.now.ledger.next_store in
+    let ns = c.args.self.now.ledger.value.next_store in
     let now = c.in_ok-commit_staged.ensures.file file is in
     let number : now.0.name.number ≡ file.name.number = ap (λ (n : Name). n.number) now.2 in
-    let stores : c.commit_staged.new.self.ledger.next_store ≡ ns = ap (λ (b : Books). b.next_store) c.in_ok-commit_staged.ensures.synced in
+    let stores : c.commit_staged.new.self.ledger.value.next_store ≡ ns = ap (λ (b : Books). b.next_store) c.in_ok-commit_staged.ensures.synced in
     let over = c.flush_committed.ensures.names told (committed_in h) now.0 (c.in_ok-commit_staged.ensures.committed told h whole) now.1 refl in (
       4 + over.0,
       joined (Bears h.kept.base ns file.name.number) 4 over.0 u v w (c.commit_staged.ensures.names told h file whole is)
@@ -110,7 +110,7 @@ pub returns-clause-store : goal.returns-clause-store
 returns-clause-store g c told h whole =
     let w = g.D.Disk.view c.flush_committed.new.self.disk in
     let r = c.args.region in
-    let old = c.args.self.now.ledger in
+    let old = c.args.self.now.ledger.value in
     let result = c.flush_committed.result in
     subst (λ (m : ℕ). IfOk result (λ n. HasStore w r (get_or old.next_store r 0) (m + 1) n)) (whole.counted.flushed r c.requires.served)
     (subst (λ (b : Books). IfOk result (λ n. HasStore w r (get_or b.next_store r 0) (get_or b.accounts.flushed r 0 + 1) n)) c.in_ok-commit_staged.ensures.synced (c.flush_committed.ensures.store told))

@@ -30,8 +30,8 @@ pub returns-in_err-commit_staged-clause-any_moment : goal.returns-in_err-commit_
 returns-in_err-commit_staged-clause-any_moment g c told h whole =
     let v = g.D.Disk.view c.args.self.now.disk in
     let w = g.D.Disk.view c.commit_staged.new.self.disk in
-    more_time (Leaves c.args.self.now.ledger.stored c.args.self.now.ledger.closed v.files h.kept.staged) 4 11 v w (omega arith)
-    (commit_leaves whole.file v h c.args.self.now.ledger whole.keeps whole.counted (g.met.D.Disk.is_true c.args.self.now.disk told) w (c.commit_staged.ensures.any_moment told h whole.file whole whole.is))
+    more_time (Leaves c.args.self.now.ledger.value.stored c.args.self.now.ledger.value.closed v.files h.kept.staged) 4 11 v w (omega arith)
+    (commit_leaves whole.file v h c.args.self.now.ledger.value whole.keeps whole.counted (g.met.D.Disk.is_true c.args.self.now.disk told) w (c.commit_staged.ensures.any_moment told h whole.file whole whole.is))
 
 pub returns-in_err-commit_staged-clause-in_order : goal.returns-in_err-commit_staged-clause-in_order
 returns-in_err-commit_staged-clause-in_order g c told h file whole is =
@@ -39,7 +39,7 @@ returns-in_err-commit_staged-clause-in_order g c told h file whole is =
     let w = g.D.Disk.view c.commit_staged.new.self.disk in
     subst (λ (f : OpenLog). Throughout (IsInOrder f.name (log_name (f.name.number + 1)) (h.current ++ h.kept.staged)) 11 v w) (same_file whole.file file (sym whole.is ∙ is))
     (more_time (IsInOrder whole.file.name (log_name (whole.file.name.number + 1)) (h.current ++ h.kept.staged)) 4 11 v w (omega arith)
-    (commit_in_order whole.file v h c.args.self.now.ledger whole.keeps whole.counted (g.met.D.Disk.is_true c.args.self.now.disk told) w (c.commit_staged.ensures.any_moment told h whole.file whole whole.is)))
+    (commit_in_order whole.file v h c.args.self.now.ledger.value whole.keeps whole.counted (g.met.D.Disk.is_true c.args.self.now.disk told) w (c.commit_staged.ensures.any_moment told h whole.file whole whole.is)))
 
 pub roll_committed-requires-clause-whole : goal.roll_committed-requires-clause-whole
 roll_committed-requires-clause-whole g c told =
@@ -53,9 +53,9 @@ returns-clause-any_moment g c told h whole =
     let w = g.D.Disk.view c.roll_committed.new.self.disk in
     let now = c.in_ok-commit_staged.ensures.file whole.file whole.is in
     let sound = g.met.D.Disk.is_true c.args.self.now.disk told in
-    joined (Leaves c.args.self.now.ledger.stored c.args.self.now.ledger.closed u.files h.kept.staged) 4 7 u v w
-    (commit_leaves whole.file u h c.args.self.now.ledger whole.keeps whole.counted sound v (c.commit_staged.ensures.any_moment told h whole.file whole whole.is))
-    (roll_leaves whole.file u h c.args.self.now.ledger whole.keeps whole.counted sound (whole.file.name.number + 1) 7 v w
+    joined (Leaves c.args.self.now.ledger.value.stored c.args.self.now.ledger.value.closed u.files h.kept.staged) 4 7 u v w
+    (commit_leaves whole.file u h c.args.self.now.ledger.value whole.keeps whole.counted sound v (c.commit_staged.ensures.any_moment told h whole.file whole whole.is))
+    (roll_leaves whole.file u h c.args.self.now.ledger.value whole.keeps whole.counted sound (whole.file.name.number + 1) 7 v w
     (subst (λ (n : Name). Throughout (Between (committed h.kept) n (h.current ++ h.kept.staged) (committed h.kept) (log_name (n.number + 1)) []) 7 v w) now.2
     (c.roll_committed.ensures.any_moment told (committed_in h) now.0 (c.in_ok-commit_staged.ensures.committed told h whole) now.1)))
 
@@ -68,7 +68,7 @@ returns-clause-in_order g c told h file whole is =
     let sound = g.met.D.Disk.is_true c.args.self.now.disk told in
     subst (λ (f : OpenLog). Throughout (IsInOrder f.name (log_name (f.name.number + 1)) (h.current ++ h.kept.staged)) 11 u w) (same_file whole.file file (sym whole.is ∙ is))
     (joined (IsInOrder whole.file.name (log_name (whole.file.name.number + 1)) (h.current ++ h.kept.staged)) 4 7 u v w
-    (commit_in_order whole.file u h c.args.self.now.ledger whole.keeps whole.counted sound v (c.commit_staged.ensures.any_moment told h whole.file whole whole.is))
+    (commit_in_order whole.file u h c.args.self.now.ledger.value whole.keeps whole.counted sound v (c.commit_staged.ensures.any_moment told h whole.file whole whole.is))
     (subst (λ (n : Name). Throughout (IsInOrder n (log_name (n.number + 1)) (h.current ++ h.kept.staged)) 7 v w) now.2
     (c.roll_committed.ensures.in_order told (committed_in h) now.0 (c.in_ok-commit_staged.ensures.committed told h whole) now.1)))
 
@@ -110,7 +110,7 @@ pub returns-in_err-commit_staged-clause-names : goal.returns-in_err-commit_stage
 returns-in_err-commit_staged-clause-names g c told h file whole is =
     let v = g.D.Disk.view c.args.self.now.disk in
     let w = g.D.Disk.view c.commit_staged.new.self.disk in
-    let ns = c.args.self.now.ledger.next_store in
+    let ns = c.args.self.now.ledger.value.next_store in
     more_time (Bears h.kept.base ns (file.name.number + 1)) 4 11 v w (omega arith)
     (weaker (Bears h.kept.base ns file.name.number) (Bears h.kept.base ns (file.name.number + 1)) 4 v w (λ J bears. bears_on h.kept.base ns ns file.name.number (file.name.number + 1) J (omega arith) (λ r. omega arith) bears)
     (c.commit_staged.ensures.names told h file whole is))
@@ -120,10 +120,10 @@ returns-clause-names g c told h file whole is =
     let u = g.D.Disk.view c.args.self.now.disk in
     let v = g.D.Disk.view c.commit_staged.new.self.disk in
     let w = g.D.Disk.view c.roll_committed.new.self.disk in
-    let ns = c.args.self.now.ledger.next_store in
+    let ns = c.args.self.now.ledger.value.next_store in
     let now = c.in_ok-commit_staged.ensures.file file is in
     let number : now.0.name.number ≡ file.name.number = ap (λ (n : Name). n.number) now.2 in
-    let stores : c.commit_staged.new.self.ledger.next_store ≡ ns = ap (λ (b : Books). b.next_store) c.in_ok-commit_staged.ensures.synced in
+    let stores : c.commit_staged.new.self.ledger.value.next_store ≡ ns = ap (λ (b : Books). b.next_store) c.in_ok-commit_staged.ensures.synced in
     joined (Bears h.kept.base ns (file.name.number + 1)) 4 7 u v w
     (weaker (Bears h.kept.base ns file.name.number) (Bears h.kept.base ns (file.name.number + 1)) 4 u v (λ J bears. bears_on h.kept.base ns ns file.name.number (file.name.number + 1) J (omega arith) (λ r. omega arith) bears)
     (c.commit_staged.ensures.names told h file whole is))

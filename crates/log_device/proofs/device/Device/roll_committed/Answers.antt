@@ -15,8 +15,8 @@ use Rattle.log_device.proofs.device.Device.roll_committed.Goals as goal
 pub invariant_of-self : goal.invariant_of-self
 invariant_of-self g c = record {
   numbered = λ file is.
-      numbered_still file file c.args.self.now.ledger c.close_empty.new.self (c.args.self.now.numbered file is) refl refl
-      (ap (λ (b : Books). sum b.drawn) c.close_empty.ensures.closed) (ap (λ (b : Books). b.accounts.last) c.close_empty.ensures.closed);
+      numbered_still file file c.args.self.now.ledger.value c.close_empty.new.self (c.args.self.now.numbered file is) refl refl
+      (ap (λ (b : Books). sum b.drawn) (rw c.deref_mut-ledger.ensures.value at c.close_empty.ensures.closed)) (ap (λ (b : Books). b.accounts.last) (rw c.deref_mut-ledger.ensures.value at c.close_empty.ensures.closed));
 }
 
 pub returns-then-entries-eq0-clause-refused : goal.returns-then-entries-eq0-clause-refused
@@ -25,15 +25,15 @@ returns-then-entries-eq0-clause-refused g c told h whole none unbroken =
     record {
       file = whole.file;
       is = whole.is;
-      keeps = subst (λ (ns : List ℕ). Keeps whole.file (g.D.Disk.view c.args.self.now.disk) h ns) (sym (ap (λ (b : Books). b.next_store) c.close_empty.ensures.closed)) whole.keeps;
-      counted = c.close_empty.ensures.counted h whole.counted none (nil_from_length h.current (omega (arith, count, c.if-entries-eq0.true, whole.keeps.open_log.count)));
+      keeps = subst (λ (ns : List ℕ). Keeps whole.file (g.D.Disk.view c.args.self.now.disk) h ns) (sym (ap (λ (b : Books). b.next_store) (rw c.deref_mut-ledger.ensures.value at c.close_empty.ensures.closed))) whole.keeps;
+      counted = (rw c.deref_mut-ledger.ensures.value at c.close_empty.ensures.counted) h whole.counted none (nil_from_length h.current (omega (arith, count, c.if-entries-eq0.true, whole.keeps.open_log.count)));
     }
 
 pub invariant_of-self-2 : goal.invariant_of-self-2
 invariant_of-self-2 g c = record {
   numbered = λ file is.
-      numbered_still file file c.args.self.now.ledger c.reserve_file.new.self (c.args.self.now.numbered file is) refl refl
-      (ap (λ (b : Books). sum b.drawn) c.reserve_file.ensures.same) (ap (λ (b : Books). b.accounts.last) c.reserve_file.ensures.same);
+      numbered_still file file c.args.self.now.ledger.value c.reserve_file.new.self (c.args.self.now.numbered file is) refl refl
+      (ap (λ (b : Books). sum b.drawn) (rw c.deref_mut-ledger.ensures.value at c.reserve_file.ensures.same)) (ap (λ (b : Books). b.accounts.last) (rw c.deref_mut-ledger.ensures.value at c.reserve_file.ensures.same));
 }
 
 pub begin_next-requires-clause-whole : goal.begin_next-requires-clause-whole
@@ -43,8 +43,8 @@ begin_next-requires-clause-whole g c told =
       record {
         file = r.1.file;
         is = r.1.is;
-        keeps = subst (λ (ns : List ℕ). Keeps r.1.file (g.D.Disk.view c.args.self.now.disk) r.0 ns) (sym (ap (λ (b : Books). b.next_store) c.reserve_file.ensures.same)) r.1.keeps;
-        counted = c.reserve_file.ensures.counted r.0 r.1.counted;
+        keeps = subst (λ (ns : List ℕ). Keeps r.1.file (g.D.Disk.view c.args.self.now.disk) r.0 ns) (sym (ap (λ (b : Books). b.next_store) (rw c.deref_mut-ledger.ensures.value at c.reserve_file.ensures.same))) r.1.keeps;
+        counted = (rw c.deref_mut-ledger.ensures.value at c.reserve_file.ensures.counted) r.0 r.1.counted;
       },
     ))
 
@@ -54,8 +54,8 @@ returns-in_err-begin_next-clause-any_moment g c told h file whole is =
     (record {
       file = whole.file;
       is = whole.is;
-      keeps = subst (λ (ns : List ℕ). Keeps whole.file (g.D.Disk.view c.args.self.now.disk) h ns) (sym (ap (λ (b : Books). b.next_store) c.reserve_file.ensures.same)) whole.keeps;
-      counted = c.reserve_file.ensures.counted h whole.counted;
+      keeps = subst (λ (ns : List ℕ). Keeps whole.file (g.D.Disk.view c.args.self.now.disk) h ns) (sym (ap (λ (b : Books). b.next_store) (rw c.deref_mut-ledger.ensures.value at c.reserve_file.ensures.same))) whole.keeps;
+      counted = (rw c.deref_mut-ledger.ensures.value at c.reserve_file.ensures.counted) h whole.counted;
     }) is
 
 pub returns-in_err-begin_next-clause-in_order : goal.returns-in_err-begin_next-clause-in_order
@@ -64,8 +64,8 @@ returns-in_err-begin_next-clause-in_order g c told h file whole is =
     (record {
       file = whole.file;
       is = whole.is;
-      keeps = subst (λ (ns : List ℕ). Keeps whole.file (g.D.Disk.view c.args.self.now.disk) h ns) (sym (ap (λ (b : Books). b.next_store) c.reserve_file.ensures.same)) whole.keeps;
-      counted = c.reserve_file.ensures.counted h whole.counted;
+      keeps = subst (λ (ns : List ℕ). Keeps whole.file (g.D.Disk.view c.args.self.now.disk) h ns) (sym (ap (λ (b : Books). b.next_store) (rw c.deref_mut-ledger.ensures.value at c.reserve_file.ensures.same))) whole.keeps;
+      counted = (rw c.deref_mut-ledger.ensures.value at c.reserve_file.ensures.counted) h whole.counted;
     }) is
 
 pub returns-clause-any_moment : goal.returns-clause-any_moment
@@ -74,8 +74,8 @@ returns-clause-any_moment g c told h file whole is =
     (record {
       file = whole.file;
       is = whole.is;
-      keeps = subst (λ (ns : List ℕ). Keeps whole.file (g.D.Disk.view c.args.self.now.disk) h ns) (sym (ap (λ (b : Books). b.next_store) c.reserve_file.ensures.same)) whole.keeps;
-      counted = c.reserve_file.ensures.counted h whole.counted;
+      keeps = subst (λ (ns : List ℕ). Keeps whole.file (g.D.Disk.view c.args.self.now.disk) h ns) (sym (ap (λ (b : Books). b.next_store) (rw c.deref_mut-ledger.ensures.value at c.reserve_file.ensures.same))) whole.keeps;
+      counted = (rw c.deref_mut-ledger.ensures.value at c.reserve_file.ensures.counted) h whole.counted;
     }) is
 
 pub returns-clause-in_order : goal.returns-clause-in_order
@@ -84,44 +84,44 @@ returns-clause-in_order g c told h file whole is =
     (record {
       file = whole.file;
       is = whole.is;
-      keeps = subst (λ (ns : List ℕ). Keeps whole.file (g.D.Disk.view c.args.self.now.disk) h ns) (sym (ap (λ (b : Books). b.next_store) c.reserve_file.ensures.same)) whole.keeps;
-      counted = c.reserve_file.ensures.counted h whole.counted;
+      keeps = subst (λ (ns : List ℕ). Keeps whole.file (g.D.Disk.view c.args.self.now.disk) h ns) (sym (ap (λ (b : Books). b.next_store) (rw c.deref_mut-ledger.ensures.value at c.reserve_file.ensures.same))) whole.keeps;
+      counted = (rw c.deref_mut-ledger.ensures.value at c.reserve_file.ensures.counted) h whole.counted;
     }) is
 
 pub returns-then-entries-eq0-clause-names : goal.returns-then-entries-eq0-clause-names
 returns-then-entries-eq0-clause-names g c told h file whole is =
-    still_names file (g.D.Disk.view c.args.self.now.disk) h c.args.self.now.ledger.next_store (kept_file c.args.self.now (g.D.Disk.view c.args.self.now.disk) h file is whole) (file.name.number + 1) 7 (omega arith)
+    still_names file (g.D.Disk.view c.args.self.now.disk) h c.args.self.now.ledger.value.next_store (kept_file c.args.self.now (g.D.Disk.view c.args.self.now.disk) h file is whole) (file.name.number + 1) 7 (omega arith)
 
 pub returns-in_err-stage-clause-names : goal.returns-in_err-stage-clause-names
 returns-in_err-stage-clause-names g c told h file whole is =
-    still_names file (g.D.Disk.view c.args.self.now.disk) h c.args.self.now.ledger.next_store (kept_file c.args.self.now (g.D.Disk.view c.args.self.now.disk) h file is whole) (file.name.number + 1) 7 (omega arith)
+    still_names file (g.D.Disk.view c.args.self.now.disk) h c.args.self.now.ledger.value.next_store (kept_file c.args.self.now (g.D.Disk.view c.args.self.now.disk) h file is whole) (file.name.number + 1) 7 (omega arith)
 
 pub returns-in_err-reserve_file-clause-names : goal.returns-in_err-reserve_file-clause-names
 returns-in_err-reserve_file-clause-names g c told h file whole is =
-    still_names file (g.D.Disk.view c.args.self.now.disk) h c.args.self.now.ledger.next_store (kept_file c.args.self.now (g.D.Disk.view c.args.self.now.disk) h file is whole) (file.name.number + 1) 7 (omega arith)
+    still_names file (g.D.Disk.view c.args.self.now.disk) h c.args.self.now.ledger.value.next_store (kept_file c.args.self.now (g.D.Disk.view c.args.self.now.disk) h file is whole) (file.name.number + 1) 7 (omega arith)
 
 pub returns-in_err-begin_next-clause-names : goal.returns-in_err-begin_next-clause-names
 returns-in_err-begin_next-clause-names g c told h file whole is =
-    let same = ap (λ (b : Books). b.next_store) c.reserve_file.ensures.same in
+    let same = ap (λ (b : Books). b.next_store) (rw c.deref_mut-ledger.ensures.value at c.reserve_file.ensures.same) in
     subst (λ (ns : List ℕ). Throughout (Bears h.kept.base ns (file.name.number + 1)) 7 (g.D.Disk.view c.args.self.now.disk) (g.D.Disk.view c.begin_next.new.self.disk)) same
     (c.begin_next.ensures.names told h file
     (record {
       file = whole.file;
       is = whole.is;
       keeps = subst (λ (ns : List ℕ). Keeps whole.file (g.D.Disk.view c.args.self.now.disk) h ns) (sym same) whole.keeps;
-      counted = c.reserve_file.ensures.counted h whole.counted;
+      counted = (rw c.deref_mut-ledger.ensures.value at c.reserve_file.ensures.counted) h whole.counted;
     }) is)
 
 pub returns-clause-names : goal.returns-clause-names
 returns-clause-names g c told h file whole is =
-    let same = ap (λ (b : Books). b.next_store) c.reserve_file.ensures.same in
+    let same = ap (λ (b : Books). b.next_store) (rw c.deref_mut-ledger.ensures.value at c.reserve_file.ensures.same) in
     subst (λ (ns : List ℕ). Throughout (Bears h.kept.base ns (file.name.number + 1)) 7 (g.D.Disk.view c.args.self.now.disk) (g.D.Disk.view c.begin_next.new.self.disk)) same
     (c.begin_next.ensures.names told h file
     (record {
       file = whole.file;
       is = whole.is;
       keeps = subst (λ (ns : List ℕ). Keeps whole.file (g.D.Disk.view c.args.self.now.disk) h ns) (sym same) whole.keeps;
-      counted = c.reserve_file.ensures.counted h whole.counted;
+      counted = (rw c.deref_mut-ledger.ensures.value at c.reserve_file.ensures.counted) h whole.counted;
     }) is)
 
 pub returns-in_err-reserve_file-clause-any_moment : goal.returns-in_err-reserve_file-clause-any_moment
@@ -129,3 +129,6 @@ returns-in_err-reserve_file-clause-any_moment g c told h file whole is =
     let u = g.D.Disk.view c.args.self.now.disk in
     more_time (Between h.kept file.name h.current h.kept (log_name (file.name.number + 1)) []) 0 7 u u (omega arith)
     (at_once (Between h.kept file.name h.current h.kept (log_name (file.name.number + 1)) []) u (λ J there. inl ((kept_file c.args.self.now u h file is whole).images J there)))
+
+pub invariant_of-self-in-Break-1 : goal.invariant_of-self-in-Break-1
+invariant_of-self-in-Break-1 g c = rw c.deref_mut-ledger.ensures.value (record { numbered = c.args.self.now.numbered })
