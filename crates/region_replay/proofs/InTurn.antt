@@ -30,6 +30,7 @@ pub record Going (told : Type 0) (first now : DiskView) (all ys rest : List Regi
   pub of : told → (base : Files) → IsHeld base first → AreFound first.files all → AllOf first.files now.files ys xs
   pub no_edits : told → (base : Files) → IsHeld base first → AreFound first.files all → HaveNoEdits now.files ys
   pub names : told → (base : Files) → IsHeld base first → AreFound first.files all → NoNewNames first.files now.files ys
+  pub olds : told → (m : Name) → m.kind ≡ kinds.Old → content now.files m ≡ content first.files m
 
 pub none_yet : (told : Type 0) (v : DiskView) (all : List RegionFiles) → Going told v v all [] all []
 none_yet told v all = record {
@@ -39,6 +40,7 @@ none_yet told v all = record {
   of = λ t base held found. tt;
   no_edits = λ t base held found x m has edits region. absurd (none_in x has);
   names = λ t base held found m here. inl here;
+  olds = λ t m old. refl;
 }
 
 pub all_of_more : (old I J : Files) (ys : List RegionFiles) (xs : List Found) (y : RegionFiles) (x : Found) → ((z : RegionFiles) → Contains ys z → SameOf z.region I J) → AllOf old I ys xs → IsOf old J y.region x → AllOf old J (ys ++ y ∷ []) (xs ++ x ∷ [])
@@ -116,6 +118,7 @@ module _ (told : Type 0) (first v w : DiskView) (all ys rest : List RegionFiles)
           | inr (z, has, is) ↦ inr (z, Contains-append_left ys (x ∷ []) z has, is)
         ]
       ];
+      olds = λ t m old. others t m (λ is. absurd (cc (sym old ∙ ap (λ (k : Name). k.kind) is))) (λ n has is. absurd (cc (sym old ∙ ap (λ (k : Name). k.kind) is ∙ order.edits.kind n has))) ∙ so_far.olds t m old;
     }
       where
         order : IsInOrder told x

@@ -1,5 +1,5 @@
 -- What the replay of one region leaves to that of the next.
-use Rattle.std.proofs.Common.{◌≡◌, ◌≢◌, inl, inr, ℕ, List, ◌≤◌, ◌^◌, Contains, sym, ap, ◌∙◌, subst, arith}
+use Rattle.std.proofs.Common.{◌≡◌, ◌≢◌, inl, inr, ℕ, List, ◌≤◌, ◌+◌, ◌^◌, Contains, sym, ap, ◌∙◌, subst, arith}
 use Rattle.std.specs.Prelude.{Err}
 use Rattle.log_model.specs.declared.damage.Damage.{Damage}
 use Rattle.log_model.specs.declared.name.Name.{Name}
@@ -17,6 +17,7 @@ use Rattle.wal_split.proofs.Plans.{held_here}
 use Rattle.region_replay.specs.declared.found.RegionFiles.{RegionFiles}
 use Rattle.region_replay.specs.Names.{store_name}
 use Rattle.region_replay.specs.Regions.{IsInOrder, IsFound}
+use Rattle.region_replay.specs.Opened.{AtMostOneHigher}
 use Rattle.region_replay.proofs.Cleaning.{held_on}
 use Rattle.region_replay.proofs.Passing.{no_logs_on, given_on, no_new}
 
@@ -43,6 +44,14 @@ still_split u w x order true_disk split found held others left = record {
   ];
   given = given_on x order u.files w.files others split.given;
 }
+
+-- the region's next store has a number of at most one above those of its stores
+pub one_higher : (u w : DiskView) {told : Type 0} (x : RegionFiles) (order : IsInOrder told x) → IsFound u.files x
+    → ((m : Name) → m ≢ store_name x.region x.next_store → ((n : Name) → Contains x.edits.items n → m ≢ n) → content w.files m ≡ content u.files m) → ((m : Name) → Contains x.edits.items m → IsAbsent w.files m) → AtMostOneHigher u.files w.files
+one_higher u w x order found others left n bound m here = elim (no_new x order u.files w.files others found left m here) as (λ _. m.number ≤ n + 1) [
+  | inl was ↦ (let low = bound m was in omega (arith, low))
+  | inr is ↦ (let low = found.few n (λ k store region there. bound k there) in let number : m.number ≡ x.next_store = ap (λ (k : Name). k.number) is in omega (arith, low, number))
+]
 
 -- the same names of the same files
 pub same_names : (told : Type 0) (f g : Files) (same : told → f ≡ g) (r : ℕ) (names : List Name) → AreNamesOf told f r names → AreNamesOf told g r names

@@ -16,6 +16,7 @@ ghost use Rattle.wal_split.specs.Held.{IsHeld, IsSplit};
 ghost use Rattle.wal_split.specs.Moments.{During};
 ghost use Rattle.region_replay.specs.Alone.{IsPinned};
 ghost use Rattle.region_replay.specs.Names.{store_name, IsElsewhere};
+ghost use Rattle.region_replay.specs.Opened.{AtMostOneHigher};
 ghost use Rattle.region_replay.specs.Ready.{IsOf};
 ghost use Rattle.region_replay.specs.Regions.{IsInOrder, IsFound};
 
@@ -40,6 +41,9 @@ pub fn replay<D: Disk>(alloc: Global, disk: &mut D, region: u32) -> Result<Repla
     ensures any_moment { IsTrue D.told → IsSplit (D.view disk.old)
         → During (AllAlike (D.view disk.old).files) (D.view disk.old) (D.view disk.new) }
     ensures split { IsTrue D.told → IsSplit (D.view disk.old) → OnOk result (IsSplit (D.view disk.new)) }
+    // A name's number is at most one above the greatest one found.
+    ensures names { IsTrue D.told → IsSplit (D.view disk.old)
+        → OnOk result (AtMostOneHigher (D.view disk.old).files (D.view disk.new).files) }
     ensures replayed { IsTrue D.told → IsSplit (D.view disk.old)
         → IfOk result (λ x. IsOf (D.view disk.old).files (D.view disk.new).files region x) }
     // No image has an edits file of the region, and nothing of other regions changed, nor a store.
@@ -80,6 +84,8 @@ fn replay_read<D: Disk>(
     ensures any_moment { IsTrue D.told → IsSplit (D.view disk.old)
         → During (AllAlike (D.view disk.old).files) (D.view disk.old) (D.view disk.new) }
     ensures split { IsTrue D.told → IsSplit (D.view disk.old) → OnOk result (IsSplit (D.view disk.new)) }
+    ensures names { IsTrue D.told → IsSplit (D.view disk.old)
+        → OnOk result (AtMostOneHigher (D.view disk.old).files (D.view disk.new).files) }
     ensures replayed { IsTrue D.told → IsSplit (D.view disk.old)
         → IfOk result (λ x. IsOf (D.view disk.old).files (D.view disk.new).files region x) }
     ensures no_edits { IsTrue D.told → OnOk result ((J : Files) (m : TheName) → IsImageNow (D.view disk.new) J

@@ -2,13 +2,15 @@
 
 ghost use Rattle.std.specs.Prelude.{◌≡◌, ◌≤◌, ◌+◌, ℕ, Contains, length, IsTrue, IfOk, OnOk, IsErrOf};
 ghost use Rattle.log_model.specs.declared.name.Name.{Name as TheName};
-ghost use Rattle.log_model.specs.Files.{Files, IsPresent, IsSound};
+ghost use Rattle.log_model.specs.declared.name.NameKind.TheVariants as kinds;
+ghost use Rattle.log_model.specs.Files.{Files, IsPresent, IsSound, content};
 ghost use Rattle.log_model.specs.Damage.{IsDamage};
 ghost use Rattle.disk_images.specs.Calls.{HasCause};
 ghost use Rattle.recovery.specs.Alike.{AllAlike};
 ghost use Rattle.found_files.specs.Refusal.{IfDamage};
 ghost use Rattle.wal_split.specs.Held.{IsSplit};
 ghost use Rattle.wal_split.specs.Left.{IsInRange, AreLeft};
+ghost use Rattle.wal_split.specs.Logs.{LogsAreOld};
 ghost use Rattle.wal_split.specs.Moments.{During, WasOrAlike};
 ghost use Rattle.region_replay.specs.Cleared.{IsReady};
 ghost use Rattle.region_replay.specs.Opened.{AreOf, AtMostOneHigher};
@@ -29,6 +31,8 @@ pub fn recover_all<D: Disk>(alloc: Global, disk: &mut D) -> Result<Recovered, Sp
     ensures any_moment { IsTrue D.told → During (WasOrAlike (D.view disk.old)) (D.view disk.old) (D.view disk.new) }
     ensures ready { IsTrue D.told → OnOk result (IsReady (D.view disk.new)) }
     ensures alike { IsTrue D.told → OnOk result (AllAlike (D.view disk.old).files (D.view disk.new).files) }
+    // Each log is an old log now, with its bytes.
+    ensures olds { IsTrue D.told → OnOk result (LogsAreOld (D.view disk.old).files (D.view disk.new).files) }
     // A name's number is at most one above the greatest one found.
     ensures names { IsTrue D.told → OnOk result (AtMostOneHigher (D.view disk.old).files (D.view disk.new).files) }
     ensures regions { IfOk result (λ xs. length xs ≡ 64) }
@@ -58,6 +62,8 @@ fn recover_split<D: Disk>(
     ensures any_moment { IsTrue D.told → During (AllAlike (D.view disk.old).files) (D.view disk.old) (D.view disk.new) }
     ensures ready { IsTrue D.told → OnOk result (IsReady (D.view disk.new)) }
     ensures alike { IsTrue D.told → OnOk result (AllAlike (D.view disk.old).files (D.view disk.new).files) }
+    ensures olds { IsTrue D.told → OnOk result ((m : TheName) → m.kind ≡ kinds.Old
+        → content (D.view disk.new).files m ≡ content (D.view disk.old).files m) }
     ensures names { IsTrue D.told → OnOk result ((n : ℕ) → ((m : TheName) → IsPresent (D.view disk.old).files m → m.number ≤ n + 1)
         → ((m : TheName) → Contains split.names m → m.number ≤ n)
         → (m : TheName) → IsPresent (D.view disk.new).files m → m.number ≤ n + 1) }

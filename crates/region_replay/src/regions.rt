@@ -1,7 +1,9 @@
 //! The replay of the regions, one after the other.
 
 ghost use Rattle.std.specs.Prelude.{◌≡◌, ◌++◌, ◌∷◌, [], ◌≤◌, ◌+◌, List, Contains, length, IsTrue, IfOk, OnOk, IsErr, IsErrOf};
-ghost use Rattle.log_model.specs.Files.{Files};
+ghost use Rattle.log_model.specs.declared.name.Name.{Name as TheName};
+ghost use Rattle.log_model.specs.declared.name.NameKind.TheVariants as kinds;
+ghost use Rattle.log_model.specs.Files.{Files, content};
 ghost use Rattle.disk_images.specs.Calls.{HasCause};
 ghost use Rattle.recovery.specs.Alike.{AllAlike};
 ghost use Rattle.region_replay.specs.declared.found.RegionFiles.{RegionFiles as TheFiles};
@@ -41,6 +43,8 @@ pub fn replay_regions<D: Disk>(
     ensures names { IsTrue D.told → (base : Files) → IsHeld base (D.view disk.old)
         → AreFound (D.view disk.old).files regions.items
         → OnOk result (NoNewNames (D.view disk.old).files (D.view disk.new).files regions.items) }
+    ensures olds { IsTrue D.told → OnOk result ((m : TheName) → m.kind ≡ kinds.Old
+        → content (D.view disk.new).files m ≡ content (D.view disk.old).files m) }
     ensures count { IfOk result (λ xs. length xs.items ≡ length regions.items) }
     ensures cause { HasCause (D.faults disk.old) (D.faults disk.new) (IsErrOf result FileRefusal.DiskFault) }
 {

@@ -1,7 +1,9 @@
 //! The end of an opening, from what was read of the regions.
 
 ghost use Rattle.std.specs.Prelude.{◌≡◌, ◌≤◌, ◌+◌, Contains, length, IsTrue, IfOk, OnOk, IsErrOf};
-ghost use Rattle.log_model.specs.Files.{Files};
+ghost use Rattle.log_model.specs.declared.name.Name.{Name as TheName};
+ghost use Rattle.log_model.specs.declared.name.NameKind.TheVariants as kinds;
+ghost use Rattle.log_model.specs.Files.{Files, content};
 ghost use Rattle.disk_images.specs.Calls.{HasCause};
 ghost use Rattle.recovery.specs.Alike.{AllAlike};
 ghost use Rattle.wal_split.specs.Held.{IsHeld};
@@ -41,6 +43,8 @@ pub fn replay_all<D: Disk>(
     ensures names { IsTrue D.told → (base : Files) → IsHeld base (D.view disk.old)
         → AreAllFound (D.view disk.old).files regions.items
         → OnOk result (NoNewNames (D.view disk.old).files (D.view disk.new).files regions.items) }
+    ensures olds { IsTrue D.told → OnOk result ((m : TheName) → m.kind ≡ kinds.Old
+        → content (D.view disk.new).files m ≡ content (D.view disk.old).files m) }
     ensures replayed { IsTrue D.told → (base : Files) → IsHeld base (D.view disk.old)
         → AreAllFound (D.view disk.old).files regions.items
         → IfOk result (λ xs. AllOf (D.view disk.old).files (D.view disk.new).files regions.items xs.items) }

@@ -248,7 +248,7 @@ module _ (told : Type 0) (is_told : told) (v : DiskView) (true_disk : IsTrueDisk
       new_small : plan.number ≤ n + 1
       new_small = elim plan.next as (λ _. plan.number ≤ n + 1) [
         | inl one ↦ omega (arith, one)
-        | inr (k, has, is) ↦ (let low = bound k (there_of v.files k has) in omega (arith, is, low))
+        | inr (k, has, other, is) ↦ (let low = bound k (there_of v.files k has) in omega (arith, is, low))
       ]
 
       big : n + 1 < m.number → ⊥

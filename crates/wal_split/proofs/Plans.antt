@@ -27,7 +27,7 @@ use Rattle.wal_split.specs.declared.planning.Plan.{Plan}
 use Rattle.wal_split.specs.Unflushed.{IsAbove, IsBefore}
 use Rattle.wal_split.specs.Grouped.{edits_name}
 use Rattle.wal_split.specs.Jobs.{AreJobs, AreFreeNames, AllLogged, IsNoJob}
-use Rattle.wal_split.specs.Logs.{AreFree, AreRising, IsOther, log_name, old_name}
+use Rattle.wal_split.specs.Logs.{AreFree, AreRising, IsOther, LogsAreOld, log_name, old_name}
 use Rattle.wal_split.specs.Covered.{LogsCovered}
 use Rattle.wal_split.specs.Planned.{IsPlan}
 use Rattle.wal_split.specs.Held.{IsHeld}
@@ -213,6 +213,13 @@ module _ (told : Type 0) (is_told : told) (v : DiskView) (true_disk : IsTrueDisk
           let has = among_names v.files m (is_some_there m some.0 some.1) in
           ap (λ (x : Name). content w.files x) (log_named m has log) ∙ gone m.number (subst (λ (l : List ℕ). Contains l m.number) (sym plan.logs) (has_log (keys v.files) m has log))
     ]
+
+    pub olds_left : ((n : ℕ) → Contains p.logs.items n → content w.files (old_name n) ≡ content v.files (log_name n)) → LogsAreOld v.files w.files
+    olds_left moved = record {
+      moved = λ n here. moved n (subst (λ (l : List ℕ). Contains l n) (sym plan.logs) (has_log (keys v.files) (log_name n) (among_names v.files (log_name n) here) refl));
+      stay = λ m old here. others m (λ j has some is. absurd (cc (sym old ∙ ap (λ (x : Name). x.kind) is ∙ kind_of (keys v.files) xs ss p plan j has)))
+          (λ n has. ((λ is. absurd (cc (sym old ∙ ap (λ (x : Name). x.kind) is))), λ is. here (ap (λ (x : Name). content v.files x) is ∙ (are_free.old n has).0)));
+    }
 
     pub small_left : (m : Name) → IsPresent w.files m → m.number ≤ 2 ^ 63
     small_left m here = elim (cases_lt (2 ^ 63) m.number) as (λ _. m.number ≤ 2 ^ 63) [

@@ -24,6 +24,7 @@ pub record Going (told : Type 0) (first now : DiskView) (logs : List ℕ) (count
   pub others : told → (m : Name) → IsOther (take count logs) m → content now.files m ≡ content first.files m
   pub gone : told → (m : Name) → now.gone m → first.gone m ⊎ ((n : ℕ) × Contains (take count logs) n × (m ≡ log_name n))
   pub left : told → (n : ℕ) → Contains (take count logs) n → IsAbsent now.files (log_name n)
+  pub moved : told → (n : ℕ) → Contains (take count logs) n → content now.files (old_name n) ≡ content first.files (log_name n)
   pub held : told → (base : Files) → IsHeld base first → LogsKept first.files logs → IsHeld base now × Throughout (AllAlike base) count first now
 
 none_of : {A : Type 0} (xs : List A) (x : A) → Contains (take 0 xs) x → ⊥
@@ -35,6 +36,7 @@ none_renamed told v logs = record {
   others = λ is_told m other. refl;
   gone = λ is_told m gone. inl gone;
   left = λ is_told n has. absurd (none_of logs n has);
+  moved = λ is_told n has. absurd (none_of logs n has);
   held = λ is_told base held kept. (held, at_once (AllAlike base) v held.alike);
 }
 
@@ -107,6 +109,10 @@ module _ (told : Type 0) (first v w : DiskView) (logs : List ℕ) (count : ℕ) 
       left = λ is_told n has. elim (Contains-push_cases (take count logs) this n (subst (λ (l : List ℕ). Contains l n) (take_more logs count 0 there) has)) as (λ _. IsAbsent w.files (log_name n)) [
         | inl before ↦ (renames is_told).others (log_name n) (λ is. (let same : n ≡ this = ap (λ (m : Name). m.number) is in omega (arith, same, rising is_told count n there before))) (λ is. no_old (ap (λ (m : Name). m.kind) is)) ∙ so_far.left is_told n before
         | inr is ↦ subst (λ (k : ℕ). IsAbsent w.files (log_name k)) is (done is_told).left
+      ];
+      moved = λ is_told n has. elim (Contains-push_cases (take count logs) this n (subst (λ (l : List ℕ). Contains l n) (take_more logs count 0 there) has)) as (λ _. content w.files (old_name n) ≡ content first.files (log_name n)) [
+        | inl before ↦ (renames is_told).others (old_name n) (λ is. no_old (sym (ap (λ (m : Name). m.kind) is))) (λ is. (let same : n ≡ this = ap (λ (m : Name). m.number) is in omega (arith, same, rising is_told count n there before))) ∙ so_far.moved is_told n before
+        | inr is ↦ subst (λ (k : ℕ). content w.files (old_name k) ≡ content first.files (log_name k)) is ((done is_told).there ∙ so_far.others is_told (log_name this) (log_other is_told))
       ];
       held = λ is_told base held kept.
           let h = so_far.held is_told base held kept in

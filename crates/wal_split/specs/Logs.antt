@@ -3,7 +3,7 @@ use Rattle.std.specs.Prelude.{◌≡◌, ◌<◌, ℕ, List, Contains, Option, l
 use Rattle.log_model.specs.declared.name.Name.{Name}
 use Rattle.log_model.specs.declared.name.NameKind.TheVariants as kinds
 use Rattle.log_model.specs.Entry.{Entry}
-use Rattle.log_model.specs.Files.{Files, content, Reads, IsAbsent}
+use Rattle.log_model.specs.Files.{Files, content, Reads, IsAbsent, IsPresent}
 use Rattle.recovery.specs.Change.{HasText}
 use Rattle.disk_images.specs.Crash.{DiskView}
 use Rattle.recovery.specs.OpeningSteps.{AreKept}
@@ -30,3 +30,8 @@ LogsKept files logs = (n : ℕ) → Contains logs n → (es : List Entry) × (en
 -- a name of none of these logs, old or not
 abbrev pub IsOther : List ℕ → Name → Type 0
 IsOther logs m = (n : ℕ) → Contains logs n → (m ≡ log_name n → ⊥) × (m ≡ old_name n → ⊥)
+
+-- each log is an old log now, with the bytes that it had, and each old log of before stays as it was
+pub record LogsAreOld (old new : Files) : Type 0 where
+  pub moved : (n : ℕ) → IsPresent old (log_name n) → content new (old_name n) ≡ content old (log_name n)
+  pub stay : (m : Name) → m.kind ≡ kinds.Old → IsPresent old m → content new m ≡ content old m

@@ -19,7 +19,7 @@ pub record IsPlan (names : List Name) (xs : List FoundEntry) (stores : List Foun
   pub number : ℕ
   pub above : (m : Name) → Contains names m → m.kind ≢ kinds.Store → m.number < number
   pub low : number ≤ 2 ^ 62 + 1
-  pub next : (number ≡ 1) ⊎ ((m : Name) × Contains names m × (number ≡ m.number + 1))
+  pub next : (number ≡ 1) ⊎ ((m : Name) × Contains names m × (m.kind ≢ kinds.Store) × (number ≡ m.number + 1))
   pub jobs : AreJobsOf logged number plan.jobs.items
   pub logs : plan.logs.items ≡ logs_of names
   pub count : plan.entries ≡ length logged

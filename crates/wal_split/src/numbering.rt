@@ -37,7 +37,7 @@ pub(crate) fn next_number(names: &[Name]) -> u64
     requires { (m : TheName) → Contains names.now m → m.number ≤ 2 ^ 62 }
     ensures above { (m : TheName) → Contains names.now m → m.kind ≢ kinds.Store → m.number < result }
     ensures low { result ≤ 2 ^ 62 + 1 }
-    ensures next { (result ≡ 1) ⊎ ((m : TheName) × Contains names.now m × (result ≡ m.number + 1)) }
+    ensures next { (result ≡ 1) ⊎ ((m : TheName) × Contains names.now m × (m.kind ≢ kinds.Store) × (result ≡ m.number + 1)) }
 {
     let mut greatest = 0;
     for name in names {
@@ -59,7 +59,7 @@ fn greater(a: u64, b: u64) -> u64
 fn counted(name: Name) -> u64
     ensures other { name.kind ≢ kinds.Store → result ≡ name.number }
     ensures low { result ≤ name.number }
-    ensures one { (result ≡ 0) ⊎ (result ≡ name.number) }
+    ensures one { (result ≡ 0) ⊎ ((name.kind ≢ kinds.Store) × (result ≡ name.number)) }
 {
     match name.kind {
         NameKind::Store => 0,

@@ -7,7 +7,7 @@ ghost use Rattle.disk_images.specs.Crash.{Throughout};
 ghost use Rattle.disk_images.specs.Calls.{HasCause};
 ghost use Rattle.recovery.specs.Alike.{AllAlike};
 ghost use Rattle.wal_split.specs.Held.{IsHeld};
-ghost use Rattle.wal_split.specs.Logs.{AreFree, AreRising, LogsKept, IsOther, log_name};
+ghost use Rattle.wal_split.specs.Logs.{AreFree, AreRising, LogsKept, IsOther, log_name, old_name};
 
 use disk_images::{Disk, Failed, Name, NameKind};
 
@@ -21,6 +21,8 @@ pub fn rename_logs<D: Disk>(disk: &mut D, logs: &[u64]) -> Result<(), Failed>
     ensures held { IsTrue D.told → (base : Files) → IsHeld base (D.view disk.old) → LogsKept (D.view disk.old).files logs.now
         → OnOk result (IsHeld base (D.view disk.new)) }
     ensures gone { IsTrue D.told → OnOk result ((n : ℕ) → Contains logs.now n → IsAbsent (D.view disk.new).files (log_name n)) }
+    ensures moved { IsTrue D.told → OnOk result ((n : ℕ) → Contains logs.now n
+        → content (D.view disk.new).files (old_name n) ≡ content (D.view disk.old).files (log_name n)) }
     ensures others { IsTrue D.told → OnOk result ((m : TheName) → IsOther logs.now m → content (D.view disk.new).files m ≡ content (D.view disk.old).files m) }
     ensures cause { HasCause (D.faults disk.old) (D.faults disk.new) (IsErr result) }
 {

@@ -11,7 +11,7 @@ ghost use Rattle.recovery.specs.Alike.{AllAlike};
 ghost use Rattle.wal_split.specs.Held.{IsHeld};
 ghost use Rattle.wal_split.specs.declared.job.EditsJob.{EditsJob as TheJob};
 ghost use Rattle.wal_split.specs.Jobs.{AreJobs, AreFreeNames, AllLogged, IsNoJob};
-ghost use Rattle.wal_split.specs.Logs.{AreFree, AreRising, IsOther, log_name};
+ghost use Rattle.wal_split.specs.Logs.{AreFree, AreRising, IsOther, log_name, old_name};
 ghost use Rattle.wal_split.specs.Covered.{LogsCovered};
 
 use crate::every::write_all;
@@ -39,6 +39,8 @@ pub fn split_found<D: Disk>(
     ensures held { IsTrue D.told → (base : Files) → IsHeld base (D.view disk.old) → AllLogged (D.view disk.old).files jobs.now
         → LogsCovered (D.view disk.old).files jobs.now logs.now → OnOk result (IsHeld base (D.view disk.new)) }
     ensures gone { IsTrue D.told → OnOk result ((n : ℕ) → Contains logs.now n → IsAbsent (D.view disk.new).files (log_name n)) }
+    ensures moved { IsTrue D.told → OnOk result ((n : ℕ) → Contains logs.now n
+        → content (D.view disk.new).files (old_name n) ≡ content (D.view disk.old).files (log_name n)) }
     ensures written { IsTrue D.told → OnOk result ((j : TheJob) (e : TheEntry) → Contains jobs.now j → Contains j.entries.items e
         → HasText j.name j.entries.items None (content (D.view disk.new).files j.name)) }
     ensures others { IsTrue D.told → OnOk result ((m : TheName) → IsNoJob jobs.now m → IsOther logs.now m

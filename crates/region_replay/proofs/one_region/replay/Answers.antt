@@ -14,6 +14,7 @@ use Rattle.found_files.proofs.Told.{if_damage}
 use Rattle.wal_split.specs.Moments.{During}
 use Rattle.region_replay.specs.Names.{IsElsewhere}
 use Rattle.region_replay.specs.Ready.{Found, IsOf}
+use Rattle.region_replay.specs.Opened.{AtMostOneHigher}
 use Rattle.region_replay.proofs.StillSplit.{split_watched, same_names, refused_too}
 use Rattle.region_replay.proofs.one_region.replay.Goals as goal
 
@@ -55,6 +56,14 @@ returns-in-Ok-clause-split g c told split =
     let v = g.D.Disk.view c.find_region.new.disk in
     let watches = c.find_region.ensures.watches told in
     c.replay_read.ensures.split told (split_watched u v watches split)
+
+pub returns-in-Ok-clause-names : goal.returns-in-Ok-clause-names
+returns-in-Ok-clause-names g c told split =
+    let u = g.D.Disk.view c.args.disk.now in
+    let v = g.D.Disk.view c.find_region.new.disk in
+    let watches = c.find_region.ensures.watches told in
+    let w = g.D.Disk.view c.replay_read.new.disk in
+    subst (λ (f : Files). OnOk c.replay_read.result (AtMostOneHigher f w.files)) watches.1.files (c.replay_read.ensures.names told (split_watched u v watches split))
 
 pub returns-in-Ok-clause-replayed : goal.returns-in-Ok-clause-replayed
 returns-in-Ok-clause-replayed g c told split =

@@ -7,7 +7,7 @@ use Rattle.region_replay.specs.Names.{store_name}
 use Rattle.region_replay.specs.Ready.{IsOf}
 use Rattle.region_replay.proofs.Passing.{else_same}
 use Rattle.region_replay.proofs.RegionAlone.{in_order, next_absent, edits_there, none_of_region, is_found}
-use Rattle.region_replay.proofs.StillSplit.{still_split}
+use Rattle.region_replay.proofs.StillSplit.{still_split, one_higher}
 use Rattle.region_replay.proofs.one_region.replay_read.Goals as goal
 
 pub region_of-requires-clause-stores : goal.region_of-requires-clause-stores
@@ -64,6 +64,14 @@ returns-in-Ok-clause-split g c told split =
     let w = g.D.Disk.view c.replay_and_clear.new.disk in
     let here = is_found (IsTrue g.D.Disk.told) u.files c.args.region c.requires.region.0 c.requires.region.1 found.names.items found.files.entries.items found.files.stores.items c.requires.names c.requires.read c.in_ok-files.files c.in_ok-files.ensures told split.no_logs split.given in
     still_split u w c.in_ok-files.files (in_order (IsTrue g.D.Disk.told) u.files c.args.region c.requires.region.0 c.requires.region.1 found.names.items found.files.entries.items found.files.stores.items c.requires.names c.requires.read c.in_ok-files.files c.in_ok-files.ensures) (g.met.D.Disk.is_true c.replay_and_clear.new.disk told) split here (c.in-Ok.ensures.held told u.files split.held here) (c.in-Ok.ensures.others told) (c.in-Ok.ensures.no_edits told)
+
+pub returns-in-Ok-clause-names : goal.returns-in-Ok-clause-names
+returns-in-Ok-clause-names g c told split =
+    let u = g.D.Disk.view c.args.disk.now in
+    let found = c.args.found in
+    let w = g.D.Disk.view c.replay_and_clear.new.disk in
+    let here = is_found (IsTrue g.D.Disk.told) u.files c.args.region c.requires.region.0 c.requires.region.1 found.names.items found.files.entries.items found.files.stores.items c.requires.names c.requires.read c.in_ok-files.files c.in_ok-files.ensures told split.no_logs split.given in
+    one_higher u w c.in_ok-files.files (in_order (IsTrue g.D.Disk.told) u.files c.args.region c.requires.region.0 c.requires.region.1 found.names.items found.files.entries.items found.files.stores.items c.requires.names c.requires.read c.in_ok-files.files c.in_ok-files.ensures) here (c.in-Ok.ensures.others told) (c.in-Ok.ensures.no_edits told)
 
 pub returns-in-Ok-clause-replayed : goal.returns-in-Ok-clause-replayed
 returns-in-Ok-clause-replayed g c told split =

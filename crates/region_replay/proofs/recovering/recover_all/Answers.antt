@@ -1,4 +1,4 @@
-use Rattle.std.proofs.Common.{◌+◌, inr, List, Contains, subst}
+use Rattle.std.proofs.Common.{◌+◌, ◌∙◌, inr, List, Contains, refl, subst}
 use Rattle.std.proofs.lemmas.Result.{on_ok_weaker}
 use Rattle.log_model.specs.declared.name.Name.{Name}
 use Rattle.disk_images.proofs.Moments.{joined, weaker}
@@ -6,6 +6,7 @@ use Rattle.disk_images.proofs.Settled.{there_of}
 use Rattle.recovery.specs.Alike.{AllAlike}
 use Rattle.recovery.proofs.Turns.{in_turn}
 use Rattle.wal_split.specs.Moments.{WasOrAlike}
+use Rattle.wal_split.specs.Logs.{old_name}
 use Rattle.region_replay.proofs.recovering.recover_all.Goals as goal
 
 pub returns-in-Ok-clause-any_moment : goal.returns-in-Ok-clause-any_moment
@@ -31,3 +32,13 @@ returns-in-Ok-clause-names g c told =
     on_ok_weaker c.recover_split.result
     (λ higher n bound m here. higher n (c.in-Ok.ensures.names told n bound) (λ k has. bound k (there_of u.files k (subst (λ (l : List Name). Contains l k) (c.in-Ok.ensures.found told) has))) m here)
     (c.recover_split.ensures.names told)
+
+pub returns-in-Ok-clause-olds : goal.returns-in-Ok-clause-olds
+returns-in-Ok-clause-olds g c told =
+    let split = c.in-Ok.ensures.olds told in
+    on_ok_weaker c.recover_split.result
+    (λ stay. record {
+      moved = λ n here. stay (old_name n) refl ∙ split.moved n here;
+      stay = λ m old here. stay m old ∙ split.stay m old here;
+    })
+    (c.recover_split.ensures.olds told)

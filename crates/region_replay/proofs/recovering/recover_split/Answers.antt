@@ -71,3 +71,6 @@ returns-in-Ok-clause-recovered g c told old alike =
     let found = are_all_found (IsTrue g.D.Disk.told) c.args.split c.requires.range c.in_ok-regions.regions.items c.in_ok-regions.ensures u.files (c.requires.left told) in
     let v = g.D.Disk.view c.replay_all.new.disk in
     subst (λ (ys : List Found). AreOf old v.files 1 ys) (sym c.of.ensures) (all_told (IsTrue g.D.Disk.told) c.args.split c.requires.range c.in_ok-regions.regions.items c.in_ok-regions.ensures old u.files v.files alike c.in-Ok.replayed.items (c.in-Ok.ensures.replayed told u.files held found))
+
+pub returns-in-Ok-clause-olds : goal.returns-in-Ok-clause-olds
+returns-in-Ok-clause-olds g c told m old = c.in-Ok.ensures.olds told m old

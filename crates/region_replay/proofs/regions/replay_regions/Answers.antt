@@ -121,6 +121,9 @@ returns-clause-no_edits g c told base held found x m has edits region =
     let all_yielded : c.args.regions.items ≡ c.loop-region.yielded = sym c.loop-region.invariant.rest ∙ ap (λ (l : List RegionFiles). c.loop-region.yielded ++ l) none ∙ append-nil c.loop-region.yielded in
     c.loop-region.invariant.so_far.no_edits told base held found x m (subst (λ (l : List RegionFiles). Contains l x) all_yielded has) edits region
 
+pub returns-clause-olds : goal.returns-clause-olds
+returns-clause-olds g c told m old = c.loop-region.invariant.so_far.olds told m old
+
 pub returns-clause-names : goal.returns-clause-names
 returns-clause-names g c told base held found m here =
     let u = g.D.Disk.view c.args.disk.now in

@@ -37,3 +37,6 @@ returns-in-Ok-clause-ready g c told base held found =
 pub returns-in-Ok-clause-names : goal.returns-in-Ok-clause-names
 returns-in-Ok-clause-names g c told base held found m here =
     c.in_ok-replayed.ensures.names told base held found.found m (λ none. here (ap (λ (f : Files). content f m) (c.clear.ensures.files told) ∙ none))
+
+pub returns-in-Ok-clause-olds : goal.returns-in-Ok-clause-olds
+returns-in-Ok-clause-olds g c told m old = ap (λ (f : Files). content f m) (c.clear.ensures.files told) ∙ c.in_ok-replayed.ensures.olds told m old

@@ -1,4 +1,4 @@
-use Rattle.std.proofs.Common.{◌≡◌, ◌⊎◌, inl, inr, ◌+◌, ◌≤◌, ◌^◌, ◌∙◌, List, Contains, take, get_or, sym, ap, subst, arith}
+use Rattle.std.proofs.Common.{◌≡◌, ◌≢◌, ◌⊎◌, inl, inr, ◌+◌, ◌≤◌, ◌^◌, ◌∙◌, List, Contains, take, get_or, sym, ap, subst, arith}
 use Rattle.std.proofs.lemmas.List.{take_more, take_all}
 use Rattle.std.proofs.lemmas.List.Elements.{Contains-get_or, Contains-push_cases}
 use Rattle.log_model.specs.declared.name.Name.{Name}
@@ -20,14 +20,14 @@ loop-name-preserved c =
         | inr is ↦ (let h : c.counted.result ≡ this.number = c.counted.ensures.other (λ store. other (sym (ap (λ (n : Name). n.kind) is) ∙ store)) in let k : this.number ≡ m.number = ap (λ (n : Name). n.number) is in omega (arith, h, k, c.greater-greatest.ensures.right))
       ];
       low = elim c.greater-greatest.ensures.one as (λ _. c.greater-greatest.result ≤ 2 ^ 62) [ inl is ↦ omega (arith, is, c.loop-name.invariant.low) | inr is ↦ omega (arith, is, c.counted.ensures.low, small) ];
-      one = elim c.greater-greatest.ensures.one as (λ _. (c.greater-greatest.result ≡ 0) ⊎ ((m : Name) × Contains names m × (c.greater-greatest.result ≡ m.number))) [
-        | inl is ↦ elim c.loop-name.invariant.one as (λ _. (c.greater-greatest.result ≡ 0) ⊎ ((m : Name) × Contains names m × (c.greater-greatest.result ≡ m.number))) [
+      one = elim c.greater-greatest.ensures.one as (λ _. (c.greater-greatest.result ≡ 0) ⊎ ((m : Name) × Contains names m × (m.kind ≢ kinds.Store) × (c.greater-greatest.result ≡ m.number))) [
+        | inl is ↦ elim c.loop-name.invariant.one as (λ _. (c.greater-greatest.result ≡ 0) ⊎ ((m : Name) × Contains names m × (m.kind ≢ kinds.Store) × (c.greater-greatest.result ≡ m.number))) [
           | inl zero ↦ inl (is ∙ zero)
-          | inr (m, has, same) ↦ inr (m, has, is ∙ same)
+          | inr (m, has, other, same) ↦ inr (m, has, other, is ∙ same)
         ]
-        | inr is ↦ elim c.counted.ensures.one as (λ _. (c.greater-greatest.result ≡ 0) ⊎ ((m : Name) × Contains names m × (c.greater-greatest.result ≡ m.number))) [
+        | inr is ↦ elim c.counted.ensures.one as (λ _. (c.greater-greatest.result ≡ 0) ⊎ ((m : Name) × Contains names m × (m.kind ≢ kinds.Store) × (c.greater-greatest.result ≡ m.number))) [
           | inl zero ↦ inl (is ∙ zero)
-          | inr same ↦ inr (this, Contains-get_or names i some_name c.loop-name-test.true, is ∙ same)
+          | inr (other, same) ↦ inr (this, Contains-get_or names i some_name c.loop-name-test.true, other, is ∙ same)
         ]
       ];
     }
@@ -39,7 +39,7 @@ returns-clause-above c m has other =
     omega (arith, h)
 
 pub returns-clause-next : goal.returns-clause-next
-returns-clause-next c = elim c.loop-name.invariant.one as (λ _. (c.loop-name.greatest + 1 ≡ 1) ⊎ ((m : Name) × Contains c.args.names.now m × (c.loop-name.greatest + 1 ≡ m.number + 1))) [
+returns-clause-next c = elim c.loop-name.invariant.one as (λ _. (c.loop-name.greatest + 1 ≡ 1) ⊎ ((m : Name) × Contains c.args.names.now m × (m.kind ≢ kinds.Store) × (c.loop-name.greatest + 1 ≡ m.number + 1))) [
   | inl zero ↦ inl (omega (arith, zero))
-  | inr (m, has, same) ↦ inr (m, has, omega (arith, same))
+  | inr (m, has, other, same) ↦ inr (m, has, other, omega (arith, same))
 ]

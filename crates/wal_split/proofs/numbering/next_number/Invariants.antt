@@ -7,5 +7,5 @@ abbrev pub invariant-loop-name : goal.invariant-loop-name
 invariant-loop-name l = record {
   above : (m : Name) → Contains (take l.name-index l.names) m → m.kind ≢ kinds.Store → m.number ≤ l.greatest;
   low : l.greatest ≤ 2 ^ 62;
-  one : (l.greatest ≡ 0) ⊎ ((m : Name) × Contains l.names m × (l.greatest ≡ m.number));
+  one : (l.greatest ≡ 0) ⊎ ((m : Name) × Contains l.names m × (m.kind ≢ kinds.Store) × (l.greatest ≡ m.number));
 }

@@ -47,5 +47,8 @@ rename-requires-clause-to g c told =
 pub returns-clause-gone : goal.returns-clause-gone
 returns-clause-gone g c told n has = c.loop-number.invariant.0.left told n (all_taken c.args.logs.now c.loop-number.number-index n (omega (arith, c.loop-number-test.false)) has)
 
+pub returns-clause-moved : goal.returns-clause-moved
+returns-clause-moved g c told n has = c.loop-number.invariant.0.moved told n (all_taken c.args.logs.now c.loop-number.number-index n (omega (arith, c.loop-number-test.false)) has)
+
 pub returns-clause-others : goal.returns-clause-others
 returns-clause-others g c told m other = c.loop-number.invariant.0.others told m (all_other c.args.logs.now c.loop-number.number-index m (omega (arith, c.loop-number-test.false)) other)

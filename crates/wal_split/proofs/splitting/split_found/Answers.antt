@@ -1,6 +1,8 @@
-use Rattle.std.proofs.Common.{ℕ, List, Option, None, length, sym, subst, ◌∙◌}
+use Rattle.std.proofs.Common.{ℕ, List, Option, None, length, sym, ap, subst, ◌∙◌}
+use Rattle.log_model.specs.declared.name.Name.{Name}
 use Rattle.std.proofs.Math.Logic.{∥∥₁_map}
 use Rattle.recovery.specs.Change.{HasText}
+use Rattle.wal_split.specs.Logs.{log_name}
 use Rattle.wal_split.proofs.Turning.{edits_other}
 use Rattle.wal_split.proofs.Covering.{still_free, now_kept, then_both}
 use Rattle.wal_split.proofs.splitting.split_found.Goals as goal
@@ -33,6 +35,10 @@ returns-in-Ok-clause-held g c told base held logged covered =
     let v = g.D.Disk.view c.write_all.new.disk in
     c.in-Ok.ensures.held told base (c.in_ok-write_all.ensures.held told base held logged)
     (now_kept u v c.args.jobs.now c.requires.jobs (c.in_ok-write_all.ensures.others told) (c.in_ok-write_all.ensures.written told) c.args.logs.now covered)
+
+pub returns-in-Ok-clause-moved : goal.returns-in-Ok-clause-moved
+returns-in-Ok-clause-moved g c told n has =
+    c.in-Ok.ensures.moved told n has ∙ c.in_ok-write_all.ensures.others told (log_name n) (λ j in_jobs some is. absurd (cc (ap (λ (x : Name). x.kind) is ∙ c.requires.jobs.kind j in_jobs)))
 
 pub returns-in-Ok-clause-others : goal.returns-in-Ok-clause-others
 returns-in-Ok-clause-others g c told m no_job other = c.in-Ok.ensures.others told m other ∙ c.in_ok-write_all.ensures.others told m no_job

@@ -15,7 +15,7 @@ use Rattle.wal_split.specs.Logs.{AreFree, AreRising, IsOther, log_name}
 use Rattle.wal_split.specs.Covered.{LogsCovered}
 use Rattle.wal_split.specs.Planned.{IsPlan}
 use Rattle.wal_split.proofs.Holding.{settled_held}
-use Rattle.wal_split.proofs.Plans.{numbers_low, regions_low, are_jobs, are_free_names, are_free, are_rising, all_logged, logs_covered, counted, no_log_left, small_left, given_left, held_here}
+use Rattle.wal_split.proofs.Plans.{numbers_low, regions_low, are_jobs, are_free_names, are_free, are_rising, all_logged, logs_covered, counted, no_log_left, olds_left, small_left, given_left, held_here}
 use Rattle.wal_split.proofs.AfterSplit.{in_range, are_left, one_higher}
 use Rattle.wal_split.proofs.whole.split_files.Goals as goal
 
@@ -175,6 +175,24 @@ returns-in-Ok-clause-alike g c told =
     let logged : AllLogged u.files c.deref-2.result.now = subst (λ (l : List EditsJob). AllLogged u.files l) (sym js) (all_logged (IsTrue g.D.Disk.told) told u true_disk (c.requires.settled told) xs ss p read plan) in
     let covered : LogsCovered u.files c.deref-2.result.now c.deref-3.result.now = subst (λ (l : List EditsJob). LogsCovered u.files l c.deref-3.result.now) (sym js) (subst (λ (l : List ℕ). LogsCovered u.files p.jobs.items l) (sym ls) (logs_covered (IsTrue g.D.Disk.told) told u true_disk (c.requires.settled told) xs ss p read plan)) in
     (c.in-Ok.ensures.held told u.files held logged covered).alike w.files (g.met.D.Disk.is_true c.split_found.new.disk told).reads
+
+pub returns-in-Ok-clause-olds : goal.returns-in-Ok-clause-olds
+returns-in-Ok-clause-olds g c told =
+    let u = g.D.Disk.view c.args.disk.now in
+    let found = c.args.found in
+    let xs = found.files.entries.items in
+    let ss = found.files.stores.items in
+    let p = c.in_ok-plan.plan in
+    let read = subst (λ (l : List Name). AreRead (IsTrue g.D.Disk.told) u.files l l xs ss) (c.requires.names told) c.requires.read in
+    let plan = subst (λ (l : List Name). IsPlan l xs ss p) (c.as_slice.ensures ∙ c.requires.names told) (subst (λ (l : List FoundStore). IsPlan c.as_slice.result.now xs l p) c.deref.ensures.value c.in_ok-plan.ensures) in
+    let true_disk = g.met.D.Disk.is_true c.args.disk.now told in
+    let w = g.D.Disk.view c.split_found.new.disk in
+    let js : c.deref-2.result.now ≡ p.jobs.items = c.deref-2.ensures.value in
+    let ls : c.deref-3.result.now ≡ p.logs.items = c.deref-3.ensures.value in
+    let others : (m : Name) → IsNoJob p.jobs.items m → IsOther p.logs.items m → content w.files m ≡ content u.files m =
+    λ m no_job other. c.in-Ok.ensures.others told m (λ j has. no_job j (subst (λ (l : List EditsJob). Contains l j) js has)) (λ n has. other n (subst (λ (l : List ℕ). Contains l n) ls has)) in
+    let gone : (n : ℕ) → Contains p.logs.items n → IsAbsent w.files (log_name n) = λ n has. c.in-Ok.ensures.gone told n (subst (λ (l : List ℕ). Contains l n) (sym ls) has) in
+    olds_left (IsTrue g.D.Disk.told) told u true_disk (c.requires.settled told) xs ss p read plan w others gone (λ n has. c.in-Ok.ensures.moved told n (subst (λ (l : List ℕ). Contains l n) (sym ls) has))
 
 pub returns-in-Ok-clause-counts : goal.returns-in-Ok-clause-counts
 returns-in-Ok-clause-counts g c told =

@@ -8,6 +8,7 @@ use Rattle.found_files.proofs.ReadSteps.{contents_of, with_good}
 use Rattle.found_files.proofs.Sound.{of_same_files}
 use Rattle.wal_split.specs.Moments.{WasOrAlike}
 use Rattle.wal_split.specs.Left.{AtMostOneHigher}
+use Rattle.wal_split.specs.Logs.{LogsAreOld}
 use Rattle.wal_split.proofs.whole.split_read.Goals as goal
 
 pub split_files-requires-clause-read : goal.split_files-requires-clause-read
@@ -41,3 +42,8 @@ pub returns-in-Ok-clause-names : goal.returns-in-Ok-clause-names
 returns-in-Ok-clause-names g c told =
     let w = g.D.Disk.view c.split_files.new.disk in
     on_ok_weaker c.split_files.result (λ higher. subst (λ (f : Files). AtMostOneHigher f w.files) (c.find_files.ensures.watches told).1.files higher) (c.split_files.ensures.names told)
+
+pub returns-in-Ok-clause-olds : goal.returns-in-Ok-clause-olds
+returns-in-Ok-clause-olds g c told =
+    let w = g.D.Disk.view c.split_files.new.disk in
+    on_ok_weaker c.split_files.result (λ olds. subst (λ (f : Files). LogsAreOld f w.files) (c.find_files.ensures.watches told).1.files olds) (c.split_files.ensures.olds told)
