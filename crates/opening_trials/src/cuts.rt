@@ -1,7 +1,7 @@
 //! A log of which only the first bytes are there.
 
 use crate::files::{File, disk_of, name_of};
-use crate::opened::{assert_opens_again, refusal_of};
+use crate::opened::{Kept, ONE_EDIT, assert_opens_again, refusal_of};
 use disk_images::NameKind;
 use found_files::{Damage, SplitRefusal};
 use std::process::Abort;
@@ -18,8 +18,7 @@ const ROLLED_LOG_1: &[u8] = &[
 /// What an opening says of a log.
 #[derive(Clone, Copy)]
 enum Said {
-    /// Of how many regions edit 1 was logged.
-    Opened { regions: usize },
+    Opened { regions: &'static [Kept] },
     Damaged { at: u64 },
 }
 
@@ -27,10 +26,12 @@ enum Said {
 /// whole frame and a gate behind it, or ends the file.
 fn said_of(length: usize) -> Said {
     match length {
-        0..=17 => Said::Opened { regions: 0 },
+        0..=17 => Said::Opened { regions: &[] },
         18..=70 => Said::Damaged { at: 16 },
         72..=84 => Said::Damaged { at: 70 },
-        _ => Said::Opened { regions: 1 },
+        _ => Said::Opened {
+            regions: &[ONE_EDIT],
+        },
     }
 }
 

@@ -21,7 +21,7 @@ pub(crate) fn name_of(file: File) -> Name {
     }
 }
 
-/// A disk with these files, whose calls of these kinds and numbers fail.
+/// A disk on which these files are durable, whose calls of these kinds and numbers fail.
 pub(crate) fn disk_of(alloc: Global, files: &[File], fails: &[Fail]) -> Result<MemDisk, TestFail>
     ensures { IfOk result (λ disk. (m : _) → ¬ (view_of disk).gone m) }
 {
@@ -29,6 +29,7 @@ pub(crate) fn disk_of(alloc: Global, files: &[File], fails: &[Fail]) -> Result<M
     for file in files {
         add(&mut disk, name_of(*file), file.3)?;
     }
+    disk.settle()?;
     Ok(disk)
 }
 
@@ -78,6 +79,7 @@ fn write(disk: &mut MemDisk, name: Name, bytes: &[u8]) -> Result<(), TestFail>
         return Err("it isn't there")?;
     }
     disk.write_at(name, 0, bytes)?;
+    disk.sync(name)?;
     Ok(())
 }
 

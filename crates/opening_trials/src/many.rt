@@ -3,7 +3,7 @@
 ghost use Rattle.disk_fakes.specs.Views.{view_of};
 
 use crate::files::add;
-use crate::opened::assert_none_logged;
+use crate::opened::{Kept, assert_kept, assert_none_logged};
 use crate::texts::LOG_1;
 use disk_fakes::MemDisk;
 use disk_images::{Disk, Name, NameKind};
@@ -38,13 +38,15 @@ fn add_logs(disk: &mut MemDisk) -> Result<(), TestFail>
 }
 
 /// Asserts that the regions 1 to 8 have four edits, and the others three.
-fn assert_edits<R: Abort>(rt: &R, replayed: &[Replayed]) {
+fn assert_four_or_three<R: Abort>(rt: &R, replayed: &[Replayed]) {
     assert_eq!(rt; replayed.len(), 64);
     for (i, region) in replayed.iter().enumerate() {
-        let count = if i < 8 { 4 } else { 3 };
-        assert_eq!(rt; region.base.cells.len(), count);
-        assert_eq!(rt; region.base.last, count as u64);
-        assert_eq!(rt; region.next_store, 2);
+        let edits = if i < 8 { 4 } else { 3 };
+        let kept = Kept {
+            edits,
+            next_store: 2,
+        };
+        assert_kept(rt, region, kept);
     }
 }
 
@@ -54,7 +56,7 @@ fn two_hundred_logs(rt: HostRuntime) -> Result<(), TestFail> {
     let mut disk = MemDisk::new(alloc, &[])?;
     add_logs(&mut disk)?;
     match recover_all(alloc, &mut disk) {
-        Ok(recovered) => assert_edits(&rt, recovered.as_slice()),
+        Ok(recovered) => assert_four_or_three(&rt, recovered.as_slice()),
         Err(_) => return Err("it is not opened")?,
     }
     assert_eq!(rt; disk.names(alloc)?.as_slice().len(), 264);

@@ -9,29 +9,65 @@ use std::alloc::Global;
 use std::process::Abort;
 use std::test::Fail as TestFail;
 
-/// What is wanted of an opening: of how many regions edit 1 was logged, from region 1 on, and the files that it leaves.
+/// What is wanted of a region: so many edits, numbered from 1 on, each of one cell and all of them flushed, and the number of
+/// its next store.
+#[derive(Clone, Copy)]
+pub(crate) struct Kept {
+    pub(crate) edits: u64,
+    pub(crate) next_store: u64,
+}
+
+/// A region with one edit, in its first store.
+pub(crate) const ONE_EDIT: Kept = Kept {
+    edits: 1,
+    next_store: 2,
+};
+
+/// What is wanted of an opening: what the regions have from region 1 on, with nothing in those behind them, and the files
+/// that it leaves.
 #[derive(Clone, Copy)]
 pub(crate) struct Want {
-    pub(crate) regions: usize,
+    pub(crate) regions: &'static [Kept],
     pub(crate) files: &'static [File],
 }
 
-/// Asserts that the first of these regions have one cell of edit 1, which is flushed, and the others none.
-fn assert_regions<R: Abort>(rt: &R, replayed: &[Replayed], with_edit: usize) {
-    assert_eq!(rt; replayed.len(), 64);
-    for (i, region) in replayed.iter().enumerate() {
-        let count = if i < with_edit { 1 } else { 0 };
-        assert_eq!(rt; region.base.cells.len(), count);
-        assert_eq!(rt; region.base.last, count as u64);
-        assert_eq!(rt; region.flushed, count as u64);
+/// What is wanted of the region at this place.
+pub(crate) fn kept_at(regions: &[Kept], at: usize) -> Kept {
+    match regions.get(at) {
+        Some(kept) => *kept,
+        None => Kept {
+            edits: 0,
+            next_store: 1,
+        },
     }
 }
 
-/// Asserts that the first of these regions have one store, and the others none.
-fn assert_stores<R: Abort>(rt: &R, replayed: &[Replayed], with_edit: usize) {
+/// Asserts that a region has these edits. A store file that was begun may raise the number of its next store.
+fn assert_edits<R: Abort>(rt: &R, region: &Replayed, edits: u64) {
+    assert_eq!(rt; region.base.cells.len() as u64, edits);
+    assert_eq!(rt; region.base.last, edits);
+    assert_eq!(rt; region.flushed, edits);
+}
+
+/// Asserts that a region has these edits, and that its next store has this number.
+pub(crate) fn assert_kept<R: Abort>(rt: &R, region: &Replayed, kept: Kept) {
+    assert_edits(rt, region, kept.edits);
+    assert_eq!(rt; region.next_store, kept.next_store);
+}
+
+/// Asserts of each of the 64 regions that it has what is wanted.
+fn assert_all_kept<R: Abort>(rt: &R, replayed: &[Replayed], regions: &[Kept]) {
+    assert_eq!(rt; replayed.len(), 64);
     for (i, region) in replayed.iter().enumerate() {
-        let next = if i < with_edit { 2 } else { 1 };
-        assert_eq!(rt; region.next_store, next);
+        assert_kept(rt, region, kept_at(regions, i));
+    }
+}
+
+/// Asserts of each of the 64 regions that it has the edits that are wanted.
+fn assert_all_edits<R: Abort>(rt: &R, replayed: &[Replayed], regions: &[Kept]) {
+    assert_eq!(rt; replayed.len(), 64);
+    for (i, region) in replayed.iter().enumerate() {
+        assert_edits(rt, region, kept_at(regions, i).edits);
     }
 }
 
@@ -43,10 +79,7 @@ pub(crate) fn assert_opens<R: Abort>(
     want: &Want,
 ) -> Result<(), TestFail> {
     match recover_all(alloc, disk) {
-        Ok(recovered) => {
-            assert_regions(rt, recovered.as_slice(), want.regions);
-            assert_stores(rt, recovered.as_slice(), want.regions);
-        }
+        Ok(recovered) => assert_all_kept(rt, recovered.as_slice(), want.regions),
         Err(_) => return Err("it is not opened")?,
     }
     assert_files(rt, alloc, disk, want.files)
@@ -68,15 +101,15 @@ pub(crate) fn assert_none_logged<R: Abort>(
     Ok(())
 }
 
-/// Opens a store behind a crash or a fault, and asserts that it gives the same. A store file that was begun may lie there.
+/// Opens a store behind a crash or a fault, and asserts that each region has its edits.
 pub(crate) fn assert_opens_again<R: Abort>(
     rt: &R,
     alloc: Global,
     disk: &mut MemDisk,
-    regions: usize,
+    regions: &[Kept],
 ) -> Result<(), TestFail> {
     match recover_all(alloc, disk) {
-        Ok(recovered) => assert_regions(rt, recovered.as_slice(), regions),
+        Ok(recovered) => assert_all_edits(rt, recovered.as_slice(), regions),
         Err(_) => return Err("it is not opened")?,
     }
     assert_none_logged(rt, alloc, disk)

@@ -22,6 +22,15 @@ pub(crate) const OTHER_LOG_2: &[u8] = &[
     b'r', 1, b'f', b'q', 0, 0, 0, 0, 0, 0, 0, 1, 4, b'w', 0,
 ];
 
+/// A log with number 1, with that put as edit 1 of region 1 and as edit 2 of it.
+pub(crate) const TWO_EDITS_LOG_1: &[u8] = &[
+    b'H', b'W', b'L', b'1', 0, 0, 0, 1, 0, 0, 0, 0, 0, 0, 0, 1, 0xA5, 1, 0, 0, 0, 0x30, 0, 0, 0, 1,
+    0, 0, 0, 0, 0, 0, 0, 1, 0, 0, 0, 0, 0, 0, 3, 0xE8, 0, 0, 0, 1, 0, 0, 0, 0x0F, 0, 0, 0, 1, 0, 1,
+    b'r', 1, b'f', b'q', 0, 0, 0, 0, 0, 0, 0, 1, 4, b'v', 0xA5, 1, 0, 0, 0, 0x30, 0, 0, 0, 1, 0, 0,
+    0, 0, 0, 0, 0, 2, 0, 0, 0, 0, 0, 0, 3, 0xE8, 0, 0, 0, 1, 0, 0, 0, 0x0F, 0, 0, 0, 1, 0, 1, b'r',
+    1, b'f', b'q', 0, 0, 0, 0, 0, 0, 0, 1, 4, b'v', 0,
+];
+
 /// A log with number 1, with that put as edit 1 of region 1 and as edit 1 of region 2.
 pub(crate) const TWO_REGIONS_LOG_1: &[u8] = &[
     b'H', b'W', b'L', b'1', 0, 0, 0, 1, 0, 0, 0, 0, 0, 0, 0, 1, 0xA5, 1, 0, 0, 0, 0x30, 0, 0, 0, 1,
@@ -42,5 +51,12 @@ pub(crate) const STORE_OF_1: &[u8] = &[
 pub(crate) const STORE_OF_2: &[u8] = &[
     0xA5, b'H', b'W', b'S', b'1', 0, 0, 0, 2, 0, 0, 0, 0, 0, 0, 0, 1, 0, 0, 0, 0, 0, 0, 0, 1, 0, 0,
     0, 0, 0, 0, 0, 1, 0, 0, 0, 0, 0, 0, 0, 1, 0, 0, 0, 0x0F, 0, 0, 0, 1, 0, 1, b'r', 1, b'f', b'q',
+    0, 0, 0, 0, 0, 0, 0, 1, 4, b'v',
+];
+
+/// A store of region 1 with that put as number 2: it covers the numbers 2 to 2.
+pub(crate) const STORE_OF_EDIT_2: &[u8] = &[
+    0xA5, b'H', b'W', b'S', b'1', 0, 0, 0, 1, 0, 0, 0, 0, 0, 0, 0, 2, 0, 0, 0, 0, 0, 0, 0, 2, 0, 0,
+    0, 0, 0, 0, 0, 1, 0, 0, 0, 0, 0, 0, 0, 2, 0, 0, 0, 0x0F, 0, 0, 0, 1, 0, 1, b'r', 1, b'f', b'q',
     0, 0, 0, 0, 0, 0, 0, 1, 4, b'v',
 ];

@@ -1,8 +1,11 @@
 //! Worked stores.
 
 use crate::files::{File, assert_files, disk_of, name_of};
-use crate::opened::{Want, assert_opens, refusal_of};
-use crate::texts::{LOG_1, LOG_2, OTHER_LOG_2, STORE_OF_1, STORE_OF_2, TWO_REGIONS_LOG_1};
+use crate::opened::{Kept, ONE_EDIT, Want, assert_opens, refusal_of};
+use crate::texts::{
+    LOG_1, LOG_2, OTHER_LOG_2, STORE_OF_1, STORE_OF_2, STORE_OF_EDIT_2, TWO_EDITS_LOG_1,
+    TWO_REGIONS_LOG_1,
+};
 use disk_images::NameKind;
 use found_files::{Damage, SplitRefusal};
 use std::test::Fail as TestFail;
@@ -14,26 +17,75 @@ pub(crate) const BETWEEN_TWO_EDITS_FILES: &[File] = &[
     (NameKind::Edits, 1, 2, LOG_2),
 ];
 
-/// What its opening leaves.
-pub(crate) const BOTH_STORED: Want = Want {
-    regions: 2,
-    files: &[
-        (NameKind::Old, 0, 1, TWO_REGIONS_LOG_1),
-        (NameKind::Store, 1, 1, STORE_OF_1),
-        (NameKind::Store, 2, 1, STORE_OF_2),
-    ],
+/// A log of edits 1 and 2 of region 1, of which the first is flushed.
+pub(crate) const STORED_AND_LOGGED: &[File] = &[
+    (NameKind::Log, 0, 1, TWO_EDITS_LOG_1),
+    (NameKind::Store, 1, 1, STORE_OF_1),
+];
+
+/// An edits file of edit 1 of region 1, which is flushed, behind a crash before the file was removed.
+pub(crate) const ALL_FLUSHED: &[File] = &[
+    (NameKind::Store, 1, 1, STORE_OF_1),
+    (NameKind::Edits, 1, 1, LOG_1),
+];
+
+/// A region with two edits, in its first and second stores.
+pub(crate) const TWO_EDITS: Kept = Kept {
+    edits: 2,
+    next_store: 3,
 };
 
-const ONE_EDIT_TWICE: &[File] = &[(NameKind::Log, 0, 1, LOG_1), (NameKind::Log, 0, 2, LOG_2)];
-
-const ONE_STORED: Want = Want {
-    regions: 1,
-    files: &[
-        (NameKind::Old, 0, 1, LOG_1),
-        (NameKind::Old, 0, 2, LOG_2),
-        (NameKind::Store, 1, 1, STORE_OF_1),
-    ],
-};
+/// Stores of which each was left by some crash, and what an opening makes of them.
+pub(crate) const WORKED: [(&[File], Want); 5] = [
+    (
+        BETWEEN_TWO_EDITS_FILES,
+        Want {
+            regions: &[ONE_EDIT, ONE_EDIT],
+            files: &[
+                (NameKind::Old, 0, 1, TWO_REGIONS_LOG_1),
+                (NameKind::Store, 1, 1, STORE_OF_1),
+                (NameKind::Store, 2, 1, STORE_OF_2),
+            ],
+        },
+    ),
+    (
+        STORED_AND_LOGGED,
+        Want {
+            regions: &[TWO_EDITS],
+            files: &[
+                (NameKind::Old, 0, 1, TWO_EDITS_LOG_1),
+                (NameKind::Store, 1, 1, STORE_OF_1),
+                (NameKind::Store, 1, 2, STORE_OF_EDIT_2),
+            ],
+        },
+    ),
+    (
+        ALL_FLUSHED,
+        Want {
+            regions: &[ONE_EDIT],
+            files: &[(NameKind::Store, 1, 1, STORE_OF_1)],
+        },
+    ),
+    (
+        // Two logs with an equal entry.
+        &[(NameKind::Log, 0, 1, LOG_1), (NameKind::Log, 0, 2, LOG_2)],
+        Want {
+            regions: &[ONE_EDIT],
+            files: &[
+                (NameKind::Old, 0, 1, LOG_1),
+                (NameKind::Old, 0, 2, LOG_2),
+                (NameKind::Store, 1, 1, STORE_OF_1),
+            ],
+        },
+    ),
+    (
+        &[],
+        Want {
+            regions: &[],
+            files: &[],
+        },
+    ),
+];
 
 const TWO_THAT_DIFFER: [File; 2] = [
     (NameKind::Log, 0, 1, LOG_1),
@@ -41,18 +93,14 @@ const TWO_THAT_DIFFER: [File; 2] = [
 ];
 
 #[test]
-fn crash_between_two_edits_files(rt: HostRuntime) -> Result<(), TestFail> {
+fn opened_and_opened_again(rt: HostRuntime) -> Result<(), TestFail> {
     let alloc = rt.alloc();
-    let mut disk = disk_of(alloc, BETWEEN_TWO_EDITS_FILES, &[])?;
-    assert_opens(&rt, alloc, &mut disk, &BOTH_STORED)?;
-    assert_opens(&rt, alloc, &mut disk, &BOTH_STORED)
-}
-
-#[test]
-fn two_logs_with_an_equal_entry(rt: HostRuntime) -> Result<(), TestFail> {
-    let alloc = rt.alloc();
-    let mut disk = disk_of(alloc, ONE_EDIT_TWICE, &[])?;
-    assert_opens(&rt, alloc, &mut disk, &ONE_STORED)
+    for (files, want) in WORKED {
+        let mut disk = disk_of(alloc, files, &[])?;
+        assert_opens(&rt, alloc, &mut disk, &want)?;
+        assert_opens(&rt, alloc, &mut disk, &want)?;
+    }
+    Ok(())
 }
 
 #[test]
@@ -70,15 +118,4 @@ fn two_logs_with_entries_that_differ(rt: HostRuntime) -> Result<(), TestFail> {
         SplitRefusal::Damaged(damage)
     );
     assert_files(&rt, alloc, &mut disk, &TWO_THAT_DIFFER)
-}
-
-#[test]
-fn empty_store_stays_empty(rt: HostRuntime) -> Result<(), TestFail> {
-    let alloc = rt.alloc();
-    let mut disk = disk_of(alloc, &[], &[])?;
-    let want = Want {
-        regions: 0,
-        files: &[],
-    };
-    assert_opens(&rt, alloc, &mut disk, &want)
 }
