@@ -1,6 +1,6 @@
 //! Turns.
-ghost use Rattle.std.specs.Prelude.{◌≡◌, ◌≤◌, ◌+◌, ◌⊎◌, ◌↔◌, ℕ, true, false, IsTrue, IsFalse};
-ghost use Rattle.log_berth.specs.Words.{NoMore};
+ghost use Rattle.std.specs.Prelude.{◌≡◌, ◌≤◌, ◌<◌, ◌+◌, ◌⊎◌, ◌↔◌, ℕ, true, false, slice_index, IsTrue, IsFalse};
+ghost use Rattle.log_berth.specs.Words.{NoMore, looked};
 ghost use Rattle.log_berth.specs.Turns.{turn_id};
 ghost use Rattle.log_device.specs.Whole.{IsBroken, books_of};
 ghost use Rattle.log_service.specs.Halves.{broken_of};
@@ -58,9 +58,13 @@ impl<D: Disk, N: Naming> LogService<D, N> {
         ensures seat { IsSeatOf self.now seat.new }
         ensures later { IsLaterSeat seat.old seat.new }
         ensures moved { (n : ℕ) → result ≡ ConsumerTurn.Moved n → (1 ≤ n) × (n ≤ 64) }
+        ensures had { ((n : ℕ) → result ≡ ConsumerTurn.Moved n → HadTurn seat.old.consumer.knows seat.new.consumer.knows)
+            × (result ≡ ConsumerTurn.Empty → HadTurn seat.old.consumer.knows seat.new.consumer.knows)
+            × (result ≡ ConsumerTurn.StageFull → HadTurn seat.old.consumer.knows seat.new.consumer.knows) }
         ensures busy { result ≡ ConsumerTurn.Busy → FoundTaken seat.old.consumer.knows seat.new.consumer.knows }
-        ensures looked { seat.new.device.knows.tally.looks ≡ seat.old.device.knows.tally.looks + 1 }
+        ensures looked { seat.new.device.knows.tally ≡ looked seat.old.device.knows.tally }
         ensures broken { (result ≡ ConsumerTurn.Broken) ↔ (seat.new.device.knows.broken ≡ true) }
+        ensures untried { result ≡ ConsumerTurn.Broken → seat.new.consumer ≡ seat.old.consumer }
     {
         if self.device.broken(&mut seat.device) {
             return ConsumerTurn::Broken;
@@ -86,13 +90,16 @@ impl<D: Disk, N: Naming> LogService<D, N> {
 
         ensures seat { IsSeatOf self.now seat.new }
         ensures later { IsLaterSeat seat.old seat.new }
-        ensures busy { result ≡ SyncTurn.Busy → FoundTaken seat.old.consumer.knows seat.new.consumer.knows
-            ⊎ FoundTaken seat.old.device.knows seat.new.device.knows }
+        ensures tried { HadTurn seat.old.device.knows seat.new.device.knows
+            ⊎ ((seat.new.consumer ≡ seat.old.consumer) × FoundTaken seat.old.device.knows seat.new.device.knows) }
+        ensures busy { result ≡ SyncTurn.Busy
+            → (FoundTaken seat.old.consumer.knows seat.new.consumer.knows × HadTurn seat.old.device.knows seat.new.device.knows)
+            ⊎ ((seat.new.consumer ≡ seat.old.consumer) × FoundTaken seat.old.device.knows seat.new.device.knows) }
         ensures clean { result ≡ SyncTurn.Clean → HadTurn seat.old.consumer.knows seat.new.consumer.knows
             × HadTurn seat.old.device.knows seat.new.device.knows }
         ensures synced { (n : ℕ) → result ≡ SyncTurn.Synced n → HadTurn seat.old.consumer.knows seat.new.consumer.knows
             × HadTurn seat.old.device.knows seat.new.device.knows }
-        ensures fault { result ≡ SyncTurn.WriteFault → seat.new.device.knows.broken ≡ true }
+        ensures fault { result ≡ SyncTurn.WriteFault → (seat.old.device.knows.broken ≡ false) × (seat.new.device.knows.broken ≡ true) }
         ensures broken { result ≡ SyncTurn.Broken → seat.new.device.knows.broken ≡ true }
         ensures whole { ((n : ℕ) → result ≡ SyncTurn.Synced n → seat.new.device.knows.broken ≡ false)
             × (result ≡ SyncTurn.Clean → seat.new.device.knows.broken ≡ false) }
@@ -152,6 +159,8 @@ impl<D: Disk, N: Naming> LogService<D, N> {
         ensures later { NoMore seat.old.device.knows.seen seat.new.device.knows.seen }
         ensures below { NoMore seat.new.device.knows.seen (told_numbers turn.new.ware.regions (books_of turn.new.ware.device)) }
         ensures broken { broken_of turn.new.ware.device ≡ seat.new.device.knows.broken }
+        ensures raised { (n : ℕ) → result ≡ Commit.Committed n → (i : ℕ) → i < self.now.regions
+            → slice_index seat.new.device.knows.seen i ≡ slice_index (told_numbers turn.new.ware.regions (books_of turn.new.ware.device)) i }
         ensures fault { result ≡ Commit.WriteFault → seat.new.device.knows.broken ≡ true }
         ensures whole { ((n : ℕ) → result ≡ Commit.Committed n → seat.new.device.knows.broken ≡ false)
             × (result ≡ Commit.Clean → seat.new.device.knows.broken ≡ false) }

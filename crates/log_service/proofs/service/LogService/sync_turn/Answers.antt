@@ -1,4 +1,4 @@
-use Rattle.std.proofs.Common.{sym, ap, ◌∙◌, subst}
+use Rattle.std.proofs.Common.{◌≡◌, Bool, true, false, true≢false, refl, sym, ap, ◌∙◌, subst}
 use Rattle.log_berth.specs.declared.known.Known.{Known}
 use Rattle.log_berth.specs.declared.known.Tally.{Tally}
 use Rattle.log_berth.specs.Standing.{Standing}
@@ -33,3 +33,13 @@ returns-in-Committed-clause-synced g c n is =
     let tries = ap (λ (k : Known). k.tally.tries) ended ∙ (ap (λ (t : Tally). t.tries) same.3 ∙ ap (λ (t : Tally). t.tries) held.tally) in
     let found = ap (λ (k : Known). k.tally.found) ended ∙ (ap (λ (t : Tally). t.found) same.3 ∙ ap (λ (t : Tally). t.found) held.tally) in
     (subst (λ (s : Standing). HadTurn c.args.seat.now.consumer.knows s.knows) (sym same.0) had, (tries, found))
+
+not_set : (b : Bool) → (b ≡ true → ⊥) → b ≡ false
+not_set true unset = absurd (unset refl)
+not_set false unset = refl
+
+pub returns-in-WriteFault-clause-fault : goal.returns-in-WriteFault-clause-fault
+returns-in-WriteFault-clause-fault g c is =
+    let held = c.in-Ok.ensures.taken.1 in
+    let whole = sym held.broken ∙ (sym c.broken.ensures ∙ c.if-broken.false) in
+    (not_set c.args.seat.now.device.knows.broken (λ broken. true≢false (sym (held.stands broken).0 ∙ whole)), ap (λ (k : Known). k.broken) c.end_turn-2.ensures.1 ∙ c.in-WriteFault.ensures.fault refl)
