@@ -1,5 +1,5 @@
 //! Waiting for what was pushed to be durable.
-ghost use Rattle.std.specs.Prelude.{◌≡◌, ◌≤◌, ◌<◌, true};
+ghost use Rattle.std.specs.Prelude.{◌≡◌, ◌≤◌, ◌<◌, ◌-◌, true, slice_index};
 ghost use Rattle.log_service.specs.Numbers.{seen_synced};
 ghost use Rattle.log_service.specs.Places.{IsSeatOf, IsLaterSeat};
 
@@ -29,6 +29,7 @@ impl<D: Disk, N: Naming> LogService<D, N> {
         ensures later { IsLaterSeat seat.old seat.new }
         ensures broken { result.0 ≡ seat.new.device.knows.broken }
         ensures number { result.1 ≡ seen_synced seat.new.device.knows region }
+        ensures stands { result.0 ≡ true → result.1 ≡ slice_index seat.new.device.knows.last (region - 1) }
     {
         let broken = self.device.broken(&mut seat.device);
         let number = self.device.seen(&mut seat.device, region);
@@ -51,6 +52,7 @@ impl<D: Disk, N: Naming> LogService<D, N> {
         ensures later { IsLaterSeat seat.old seat.new }
         ensures synced { result ≡ Waited.Synced → number ≤ seen_synced seat.new.device.knows region }
         ensures broken { result ≡ Waited.Broken → (seat.new.device.knows.broken ≡ true) × (seen_synced seat.new.device.knows region < number) }
+        ensures stands { result ≡ Waited.Broken → slice_index seat.new.device.knows.last (region - 1) < number }
     {
         for _turn in rt.forever() {
             let turns = self.turns();
