@@ -24,6 +24,7 @@ use Rattle.region_lock.specs.contracts.part.RegionPart as part
 use Rattle.region_lock.specs.contracts.pass.RegionPass as region_pass
 use Rattle.region_lock.specs.declared.naming.Naming.{Ghosts as LockGhosts}
 use Rattle.region_state.proofs.state.RegionState.TheSendSync as state
+use Rattle.region_state.proofs.line.Line.TheSendSync as lines
 use Rattle.region_state.specs.contracts.line.Line as line
 use Rattle.region_state.specs.contracts.state.RegionState as states
 use Rattle.region_versions.proofs.Crossing.{shower_send, viewer_send}
@@ -31,6 +32,7 @@ use Rattle.region_versions.proofs.history.History.TheSendSync as history
 use Rattle.region_versions.specs.contracts.history.History as histories
 use Rattle.region_versions.specs.declared.naming.Naming.{Ghosts as VersionGhosts}
 use Rattle.kv_cell.proofs.batch.Batch.TheSendSync as batch
+use Rattle.kv_cell.proofs.octets.Octets.TheSendSync as octets
 use Rattle.mem_segments.proofs.shared.SharedCells.TheSendSync as cells
 use Rattle.script_calls.specs.contracts.call.Call as call
 use Rattle.script_calls.specs.contracts.reply.ReplyLine as reply
@@ -48,13 +50,13 @@ pass_send : IsSend (ring_pass.the_field item.the_row).row
 pass_send = search (seat.the_send, item_send, sendable, crosses) fits 5000 depth 30
 
 desk_send : IsSend (desks.the_row line.the_row)
-desk_send = search (desk.the_send, sendable, crosses) fits 5000 depth 30
+desk_send = search (desk.the_send, lines.the_send, sendable, crosses) fits 5000 depth 30
 
 hand_send : IsSend (hands.the_row line.the_row)
 hand_send = search (hand.the_send, sendable, crosses) fits 5000 depth 30
 
 call_send : IsSend call.the_row
-call_send = search (batch.the_send, sendable, crosses) fits 5000 depth 30
+call_send = search (batch.the_send, octets.the_send, sendable, crosses) fits 5000 depth 30
 
 reply_send : IsSend reply.the_row
 reply_send = search (cells.the_send, sendable, crosses) fits 5000 depth 30
@@ -70,7 +72,7 @@ module _ (N R : RattleType) (g : LockGhosts N.Denot) (l : LogGhosts N.Denot) (v 
         (
           as_row_send (ring_pass.the_field item.the_row) pass_send,
           (
-            search (as_row_send, desk.the_send, sendable, crosses) fits 5000 depth 30,
+            search (as_row_send, desk.the_send, lines.the_send, sendable, crosses) fits 5000 depth 30,
             (search (as_row_send, desk.the_send, sendable, crosses) fits 5000 depth 30, (search (as_row_send, sendable, crosses) fits 5000 depth 30, (search (as_row_send, sendable, crosses) fits 5000 depth 30, tt))),
           ),
         ),
