@@ -9,4 +9,3 @@ pub mod Puts
 pub mod Calls
 pub mod Answers
 pub mod Met
-pub mod Made
