@@ -1,3 +1,4 @@
 pub mod Captured
+pub mod CrewLaws
 pub mod Empty
 pub mod Sent

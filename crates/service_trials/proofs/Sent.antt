@@ -30,7 +30,7 @@ history_send =
 plan_send : IsSend plans.the_row
 plan_send = search (sendable, crosses) fits 5000 depth 30
 
-mem_send : IsSend mem.the_row
+pub mem_send : IsSend mem.the_row
 mem_send = declared_send mem.the_type (history_send, (plan_send, tt))
 
 pub disk_send : IsSend (watch.the_row mem.the_row)

@@ -70,7 +70,7 @@ impl Content {
 }
 
 /// What a log that is there holds.
-fn log_text(alloc: Global, disk: &mut MemDisk, name: Name) -> Result<LogText, TestFail> {
+pub(crate) fn log_text(alloc: Global, disk: &mut MemDisk, name: Name) -> Result<LogText, TestFail> {
     match disk.bytes(name) {
         Some(_) => {}
         None => Err("no such file")?,

@@ -8,6 +8,10 @@ mod bench;
 #[cfg(test)]
 mod beside;
 #[cfg(test)]
+mod crew;
+#[cfg(test)]
+mod crowd;
+#[cfg(test)]
 mod entries;
 #[cfg(test)]
 mod faults;
@@ -23,6 +27,8 @@ mod overlap;
 mod puts;
 #[cfg(test)]
 mod rolls;
+#[cfg(test)]
+mod threads;
 #[cfg(test)]
 mod trial;
 #[cfg(test)]

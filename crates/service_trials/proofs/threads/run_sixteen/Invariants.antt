@@ -1,0 +1,15 @@
+use Rattle.std.proofs.Common.{replicate}
+use Rattle.log_device.specs.Whole.{disk_of}
+use Rattle.disk_fakes.specs.Views.{view_of, faults_of}
+use Rattle.service_trials.proofs.threads.run_sixteen.Given as goal
+
+abbrev pub ghosts-over_sixteen : goal.ghosts-over_sixteen
+ghosts-over_sixteen g a = record {
+  ring = a.rings.items.ring.id;
+  hand = a.rings.loads.ring.id;
+  lasts = replicate 16 0;
+  base = (view_of a._found.value).files;
+  start = (view_of (disk_of a.device)).clock;
+  faults = faults_of (disk_of a.device);
+  past = (view_of (disk_of a.device)).image;
+}
