@@ -8,5 +8,4 @@ pub mod FlushLaws
 pub mod ScanLaws
 pub mod Lifts
 pub mod Meeting
-pub mod Making
 pub mod NewPart
