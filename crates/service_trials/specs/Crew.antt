@@ -7,7 +7,7 @@ use Rattle.log_berth.specs.Standing as berth
 use Rattle.log_service.specs.declared.item.Item.{Item}
 use Rattle.log_service.specs.Items.{number_of}
 use Rattle.log_service.specs.Places.{Place, IsSeatOf}
-use Rattle.service_trials.specs.declared.crew.Member.{Member}
+use Rattle.service_trials.specs.declared.member.Member.{Member}
 
 -- its pass and its seat are of this service, and it counts what was pushed for its region
 pub record IsOf (place : Place) (m : Member) : Type 0 where

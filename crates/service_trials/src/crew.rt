@@ -9,6 +9,7 @@ ghost use Rattle.service_trials.specs.Crew.{IsOf};
 
 use crate::bench::TestDisk;
 use crate::entries::{SMALL, truck};
+use crate::member::Member;
 use append_ring::RingPass;
 use log_service::{Helped, Item, LogSeat, LogService, Naming, Waited};
 use std::alloc::Global;
@@ -25,16 +26,6 @@ pub(crate) const FIRST_PUTS: u64 = 64;
 const SINGLE_PUTS: u64 = 500;
 
 const BURST: u64 = 250;
-
-/// What a thread has, how many edits it pushed, how many of them are durable, and how often it found the ring full.
-#[derive(Drop)]
-pub(crate) struct Member {
-    pub(crate) pass: RingPass<Item>,
-    pub(crate) seat: LogSeat,
-    pub(crate) pushed: u64,
-    pub(crate) durable: u64,
-    pub(crate) full: u64,
-}
 
 /// Helps the log once. Where another thread does it, it sleeps until a turn of the device has ended.
 fn help<N: Naming, R: Wait>(rt: &R, service: &LogService<TestDisk, N>, seat: &mut LogSeat)

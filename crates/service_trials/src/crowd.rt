@@ -4,7 +4,7 @@ ghost use Rattle.std.specs.Prelude.{◌≡◌, ◌+◌, ◌≤◌, ◌<◌, [], 
 ghost use Rattle.service_trials.specs.Crew.{AreIn, AreOut, IsOf};
 
 use crate::bench::TestDisk;
-use crate::crew::Member;
+use crate::member::Member;
 use append_ring::RingPasses;
 use log_service::{Item, LogSeats, LogService, Naming};
 use std::sync::Wait;

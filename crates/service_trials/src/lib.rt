@@ -21,6 +21,7 @@ mod filling;
 mod held;
 #[cfg(test)]
 mod image;
+mod member;
 #[cfg(test)]
 mod overlap;
 #[cfg(test)]
@@ -35,3 +36,5 @@ mod trial;
 mod turns;
 #[cfg(test)]
 mod watch;
+
+pub use member::Member;

@@ -9,9 +9,10 @@ ghost use Rattle.disk_fakes.specs.Views.{view_of, faults_of};
 ghost use Rattle.log_service.specs.Begun.{IsFresh, BeginsAs, AreNewParts, AreParts};
 
 use crate::bench::TestDisk;
-use crate::crew::{FIRST_PUTS, Member, PUTS, put_each};
+use crate::crew::{FIRST_PUTS, PUTS, put_each};
 use crate::crowd::{Told, hand_out, take_back};
 use crate::image::log_text;
+use crate::member::Member;
 use disk_fakes::MemDisk;
 use disk_images::{Name, NameKind};
 use log_device::Device;

@@ -2,7 +2,7 @@ use Rattle.std.proofs.Common.{◌≡◌, ℕ, suc, ◌+◌, ◌<◌, List, [], �
 use Rattle.std.specs.Vec.Iter.{into_iter_items}
 use Rattle.append_ring.proofs.Handing.{none_left}
 use Rattle.service_trials.specs.Crew.{AreIn, IsOf}
-use Rattle.service_trials.specs.declared.crew.Member.{Member}
+use Rattle.service_trials.specs.declared.member.Member.{Member}
 use Rattle.service_trials.proofs.crowd.take_back.Goals as goal
 
 pub loop-member-init : goal.loop-member-init
