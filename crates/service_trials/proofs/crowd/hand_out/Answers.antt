@@ -9,7 +9,7 @@ use Rattle.append_ring.proofs.Handing.{next_new}
 use Rattle.log_service.specs.declared.item.Item.{Item}
 use Rattle.log_service.specs.Items.{number_of}
 use Rattle.service_trials.specs.Crew.{IsOf}
-use Rattle.service_trials.specs.declared.crew.Member.{Member}
+use Rattle.service_trials.specs.declared.member.Member.{Member}
 use Rattle.service_trials.proofs.CrewLaws.{seat_out, zeros}
 use Rattle.service_trials.proofs.crowd.hand_out.Goals as goal
 
