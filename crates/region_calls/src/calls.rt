@@ -1,7 +1,7 @@
 //! A server's calls, each on one region.
 
-ghost use Rattle.std.specs.Prelude.{◌≡◌, ◌-◌, ◌≤◌, ◌<◌, ◌^◌, Contains};
-ghost use Rattle.log_service.specs.Places.{IsSeatOf, IsLaterSeat};
+ghost use Rattle.std.specs.Prelude.{◌≡◌, ◌-◌, ◌≤◌, ◌<◌, ◌^◌, ◌⊎◌, Contains, true};
+ghost use Rattle.log_service.specs.Places.{IsSeatOf, IsLaterSeat, FoundTaken, HadTurn, LastFoundTaken, LastHadTurn};
 ghost use Rattle.server_model.specs.Pass.{IsLater};
 ghost use Rattle.server_model.specs.Steps.{IsQuietPass, Puts, Scans, Flushes, Rolls};
 ghost use Rattle.region_lock.specs.Puts.{IsFaultExact};
@@ -193,11 +193,18 @@ impl<
         roll_in(rt, alloc, &self.service, &mut pass.seat)
     }
 
-    /// Helps the log: one turn of each kind.
+    /// Helps the log: one turn of each kind. Busy only where its last exchange on one of the two turn words found the word taken,
+    /// Nothing only where both were found free or the log is broken, and Something only where it had one of the two turns.
     pub fn help<S: Wait>(&self, rt: &S, seat: &mut LogSeat) -> Helped
         requires seat { IsSeatOf self.now seat.old }
         ensures seat { IsSeatOf self.now seat.new }
         ensures later { IsLaterSeat seat.old seat.new }
+        ensures busy { result ≡ Helped.Busy → LastFoundTaken seat.old.consumer.knows seat.new.consumer.knows
+            ⊎ FoundTaken seat.old.device.knows seat.new.device.knows }
+        ensures nothing { result ≡ Helped.Nothing → (seat.new.device.knows.broken ≡ true)
+            ⊎ (LastHadTurn seat.old.consumer.knows seat.new.consumer.knows × HadTurn seat.old.device.knows seat.new.device.knows) }
+        ensures something { result ≡ Helped.Something → LastHadTurn seat.old.consumer.knows seat.new.consumer.knows
+            ⊎ HadTurn seat.old.device.knows seat.new.device.knows }
     {
         self.service.help(rt, seat)
     }

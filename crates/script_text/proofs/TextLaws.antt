@@ -125,6 +125,11 @@ pub first_plain : (bs : List ℕ) → 0 < length bs → is_plain (get_or bs 0 0)
 first_plain [] lt e = absurd omega arith
 first_plain (b ∷ bs) lt e = unescaped_plain b bs e
 
+-- where each byte stands for itself, the bytes are those of the word
+pub plain_word : (bs : List ℕ) → ((k : ℕ) → k < length bs → is_plain (get_or bs k 0) ≡ true) → unescaped bs ≡ Some bs
+plain_word [] all = refl
+plain_word (b ∷ bs) all = unescaped_plain b bs (all 0 (omega arith)) ∙ ap (option_map (λ (t : List ℕ). b ∷ t)) (plain_word bs (λ k h. all (suc k) (omega arith)))
+
 -- one byte more
 pub prepend_more : (acc : List ℕ) (b : ℕ) (o : Option (List ℕ)) → option_map (λ (t : List ℕ). acc ++ t) (option_map (λ (t : List ℕ). b ∷ t) o) ≡ option_map (λ (t : List ℕ). (acc ++ b ∷ []) ++ t) o
 prepend_more acc b None = refl

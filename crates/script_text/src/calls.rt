@@ -11,7 +11,7 @@ ghost use Rattle.script_text.specs.Why.{Tells};
 use crate::faults::{LineError, ScriptWhy};
 use crate::fields::{any_token, mode, ranged};
 use crate::here::{here, mode_here, one_here};
-use kv_cell::{Durability, Octets};
+use kv_cell::Durability;
 use script_calls::Call;
 use script_model::Command;
 use std::alloc::Global;
@@ -225,10 +225,6 @@ fn scan_line(
     here(command)?;
     Ok(Spoken::Calls {
         handler,
-        call: Call::Scan {
-            region,
-            from: Octets::of(from),
-            to: Octets::of(to),
-        },
+        call: Call::Scan { region, from, to },
     })
 }

@@ -9,7 +9,7 @@ ghost use Rattle.script_text.specs.Why.{Tells};
 use crate::faults::{CellField, LineError, ScriptWhy};
 use crate::fields::{kind, sized, stamp};
 use crate::here::kind_here;
-use kv_cell::{Cell, Octets};
+use kv_cell::Cell;
 use script_model::Command;
 use std::alloc::Global;
 
@@ -52,12 +52,12 @@ pub fn cell_line(
     let kind = kind(name)?;
     let value = sized(alloc, value, 0, 65_536, CellField::Value)?;
     let cell = Cell {
-        row: Octets::of(row),
-        family: Octets::of(family),
-        qualifier: Octets::of(qualifier),
+        row,
+        family,
+        qualifier,
         ts,
         kind,
-        value: Octets::of(value),
+        value,
     };
     room(body, &cell)?;
     kind_here(command, kind, name)?;

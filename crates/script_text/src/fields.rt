@@ -13,7 +13,7 @@ ghost use Rattle.script_text.specs.Why.{Tells};
 use crate::faults::{CellField, LineError, ScriptWhy};
 use crate::numbers::number;
 use crate::tokens::token;
-use kv_cell::{Durability, Kind};
+use kv_cell::{Durability, Kind, Octets};
 use std::alloc::Global;
 
 /// A number from `low` to `high`, refused for `out` where it is one and out of this range.
@@ -34,8 +34,8 @@ pub fn ranged(word: &[u8], low: u64, high: u64, out: ScriptWhy) -> Result<u64, L
 
 /// The bytes of a token.
 #[tactic(auto, unfolding(script_model::specs::Fields::token_fault))]
-pub fn any_token(alloc: Global, word: &[u8]) -> Result<Vec<u8>, LineError>
-    ensures value { IfOk result (λ v. v.items ≡ bytes_of word.now) }
+pub fn any_token(alloc: Global, word: &[u8]) -> Result<Octets, LineError>
+    ensures value { IfOk result (λ v. v ≡ bytes_of word.now) }
     ensures exact { Tells result (token_fault word.now) }
 {
     let Some(bytes) = token(alloc, word)? else {
@@ -52,9 +52,9 @@ pub fn sized(
     low: usize,
     high: usize,
     field: CellField,
-) -> Result<Vec<u8>, LineError>
-    ensures value { IfOk result (λ v. v.items ≡ bytes_of word.now) }
-    ensures within { IfOk result (λ v. (low ≤ length v.items) × (length v.items ≤ high)) }
+) -> Result<Octets, LineError>
+    ensures value { IfOk result (λ v. v ≡ bytes_of word.now) }
+    ensures within { IfOk result (λ v. (low ≤ length v) × (length v ≤ high)) }
     ensures exact { Tells result (sized_fault (limit_of field) low high word.now) }
 {
     let Some(bytes) = token(alloc, word)? else {

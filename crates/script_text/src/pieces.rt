@@ -1,10 +1,9 @@
 //! Lines of a text and words of a line.
 
-ghost use Rattle.std.specs.Prelude.{◌≡◌, ◌≢◌, ℕ, ◌+◌, ◌<◌, ◌≤◌, ◌∷◌, length, map, slice_index, take, drop, IfOk};
+ghost use Rattle.std.specs.Prelude.{◌≡◌, ◌≢◌, ℕ, ◌+◌, ◌<◌, ◌≤◌, ◌∷◌, length, map, slice_index, take, drop, OnOk};
 ghost use Rattle.script_model.specs.Text.{lines_of, words_of};
 
 use kv_cell::NoMemory;
-use std::alloc::Global;
 
 /// The place of the first such byte, or how many bytes there are.
 fn find(bytes: &[u8], byte: u8) -> usize
@@ -44,11 +43,11 @@ pub fn next_line(text: &[u8]) -> (&[u8], &[u8])
     cut(text, b'\n')
 }
 
-/// The words of a line.
-pub fn words<'a>(alloc: Global, line: &'a [u8]) -> Result<Vec<&'a [u8]>, NoMemory>
-    ensures { IfOk result (λ words. map (λ w. w.now) words.items ≡ words_of line.now) }
+/// Puts the words of a line into this list, in place of those that it has.
+pub fn split_words<'a>(line: &'a [u8], words: &mut Vec<&'a [u8]>) -> Result<(), NoMemory>
+    ensures { OnOk result (map (λ w. w.now) words.new.items ≡ words_of line.now) }
 {
-    let mut words: Vec<&'a [u8]> = Vec::new(alloc);
+    words.clear();
     let mut rest = line;
     while !rest.is_empty() {
         let (word, behind) = cut(rest, b' ');
@@ -57,5 +56,5 @@ pub fn words<'a>(alloc: Global, line: &'a [u8]) -> Result<Vec<&'a [u8]>, NoMemor
         }
         rest = behind;
     }
-    Ok(words)
+    Ok(())
 }

@@ -1,11 +1,11 @@
 //! The tokens of a text: `-` for no bytes, else bytes that stand for themselves, and `%` with two hexadecimal digits
 //! of either case for any byte.
 
-ghost use Rattle.std.specs.Prelude.{◌≡◌, ℕ, ◌+◌, ◌<◌, ◌≤◌, ◌∷◌, List, Some, None, IfOk, IfSome, MatchOption, length, drop};
+ghost use Rattle.std.specs.Prelude.{◌≡◌, ℕ, ◌+◌, ◌<◌, ◌≤◌, ◌∷◌, List, Some, None, IfOk, IfSome, IsTrue, MatchOption, length, drop, slice_index, true};
 ghost use Rattle.std.specs.Option.{option_map};
 ghost use Rattle.script_model.specs.Text.{hex_of, is_plain, token_of, unescaped};
 
-use kv_cell::NoMemory;
+use kv_cell::{NoMemory, Octets};
 use std::alloc::Global;
 
 /// The value of a hexadecimal digit.
@@ -51,22 +51,44 @@ fn first_byte(rest: &[u8]) -> Option<(u8, usize)>
     Some((16 * high + low, 3))
 }
 
-/// The bytes that a token stands for.
-pub fn token(alloc: Global, word: &[u8]) -> Result<Option<Vec<u8>>, NoMemory>
-    ensures { IfOk result (λ told. MatchOption told (token_of word.now ≡ None) (λ bytes. token_of word.now ≡ Some bytes.items)) }
+/// Whether each byte stands for itself.
+fn are_plain(word: &[u8]) -> bool
+    ensures { IsTrue result → (k : ℕ) → k < length word.now → is_plain (slice_index word.now k) ≡ true }
+{
+    for b in word {
+        if !plain(*b) {
+            return false;
+        }
+    }
+    true
+}
+
+/// The bytes that a token stands for. Memory is taken for more than 16 of them, and for a token in which a byte is escaped.
+pub fn token(alloc: Global, word: &[u8]) -> Result<Option<Octets>, NoMemory>
+    ensures { IfOk result (λ told. MatchOption told (token_of word.now ≡ None) (λ bytes. token_of word.now ≡ Some bytes)) }
 {
     if word.is_empty() {
         return Ok(None);
     }
     if word.len() == 1 && word[0] == b'-' {
-        return Ok(Some(Vec::new(alloc)));
+        return Ok(Some(Octets::of(Vec::new(alloc))));
     }
     unescape(alloc, word)
 }
 
-/// The bytes of a token that isn't `-`.
-fn unescape(alloc: Global, word: &[u8]) -> Result<Option<Vec<u8>>, NoMemory>
-    ensures { IfOk result (λ told. MatchOption told (unescaped word.now ≡ None) (λ bytes. unescaped word.now ≡ Some bytes.items)) }
+/// The bytes of a token that isn't `-`. One whose bytes stand for themselves is copied as it is.
+fn unescape(alloc: Global, word: &[u8]) -> Result<Option<Octets>, NoMemory>
+    ensures { IfOk result (λ told. MatchOption told (unescaped word.now ≡ None) (λ bytes. unescaped word.now ≡ Some bytes)) }
+{
+    if are_plain(word) {
+        return Ok(Some(Octets::copy_of(alloc, word)?));
+    }
+    unescape_each(alloc, word)
+}
+
+/// The bytes of such a token, one after the other.
+fn unescape_each(alloc: Global, word: &[u8]) -> Result<Option<Octets>, NoMemory>
+    ensures { IfOk result (λ told. MatchOption told (unescaped word.now ≡ None) (λ bytes. unescaped word.now ≡ Some bytes)) }
 {
     let mut bytes: Vec<u8> = Vec::with_capacity(alloc, word.len())?;
     let mut rest = word;
@@ -77,5 +99,5 @@ fn unescape(alloc: Global, word: &[u8]) -> Result<Option<Vec<u8>>, NoMemory>
         bytes.push(b)?;
         rest = &rest[n..];
     }
-    Ok(Some(bytes))
+    Ok(Some(Octets::of(bytes)))
 }

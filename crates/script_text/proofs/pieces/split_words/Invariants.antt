@@ -1,6 +1,6 @@
 use Rattle.std.proofs.Common.{◌≡◌, ◌++◌, length, map}
 use Rattle.script_model.specs.Text.{words_of}
-use Rattle.script_text.proofs.pieces.words.Given as goal
+use Rattle.script_text.proofs.pieces.split_words.Given as goal
 
 -- the words so far, and those of the rest
 abbrev pub invariant-loop-rest : goal.invariant-loop-rest
