@@ -1,10 +1,10 @@
-//! Worked files.
+//! Worked log files, cut anywhere and damaged.
 
-ghost use Rattle.std.specs.Prelude.{◌≡◌, ◌+◌, ◌<◌, ◌≤◌, length, OnOk};
+ghost use Rattle.std.specs.Prelude.{◌≡◌, ◌+◌, ◌<◌, length, OnOk};
 ghost use Rattle.entry_frame.specs.Feed.{IsDrained};
 
-use super::*;
-use kv_cell::{Batch, Cell};
+use crate::puts::one_batch;
+use entry_frame::{Entry, Feed, FeedRefusal, FileKey, encode_entry, read_whole};
 use std::alloc::Global;
 use std::process::Abort;
 use std::test::*;
@@ -15,29 +15,13 @@ const ONE_PUT: [u8; 53] = [
     0, 15, 0, 0, 0, 1, 0, 1, b'r', 1, b'f', b'q', 0, 0, 0, 0, 0, 0, 0, 1, 4, b'v',
 ];
 
-fn one_cell(alloc: Global) -> Result<Batch, Fail> {
-    let cell = Cell::new(alloc, b"r", b"f", b"q", 1, 4, b"v")
-        .ok()
-        .ok_or("within the limits")?;
-    let mut cells = Vec::new(alloc);
-    cells.push(cell)?;
-    Ok(Batch::new(cells).ok().ok_or("a batch")?)
-}
-
 #[test]
 fn one_put_is_a_body_of_48_bytes(rt: HostRuntime) -> Result<(), Fail> {
-    let mut bytes = encode_entry(rt.alloc(), 1, 2, 1000, &one_cell(rt.alloc())?)?;
+    let batch = one_batch(rt.alloc())?;
+    assert_eq!(rt; batch.body_len(), 48);
+    let mut bytes = encode_entry(rt.alloc(), 1, 2, 1000, &batch)?;
     bytes.set_number(1);
     assert_eq!(rt; bytes.as_slice(), ONE_PUT.as_slice());
-    Ok(())
-}
-
-#[test]
-fn an_entry_is_read_back_from_its_bytes(rt: HostRuntime) -> Result<(), Fail> {
-    let batch = one_cell(rt.alloc())?;
-    let entry = encode_entry(rt.alloc(), 3, 7, 1000, &batch)?.to_entry(rt.alloc())?;
-    assert_eq!(rt; (entry.region, entry.number, entry.time), (3, 7, 1000));
-    assert!(rt; entry.batch.is_same(&batch));
     Ok(())
 }
 
@@ -166,38 +150,15 @@ fn header_and_gate_have_no_entry_however_they_are_cut(rt: HostRuntime) -> Result
     Ok(())
 }
 
-/// How many entries the front of the ended log has, with some bytes changed, and its end.
-fn read_changed(
-    alloc: Global,
-    changes: &[(usize, u8)],
-    len: usize,
-) -> Result<(usize, Option<u64>), FeedRefusal> {
+/// Why the front of the ended log, with some bytes changed, is no log.
+fn refusal_of(alloc: Global, changes: &[(usize, u8)], len: usize) -> Option<FeedRefusal> {
     let mut bytes = ENDED;
     for (at, byte) in changes {
         if *at < 85 {
             bytes[*at] = *byte;
         }
     }
-    let (entries, ended) = read_whole(alloc, LOG_1, &bytes[..len.min(85)])?;
-    Ok((entries.len(), ended))
-}
-
-/// What is changed, how many bytes are read, and how many entries and which end they have.
-const TEXTS: [(&[(usize, u8)], usize, (usize, Option<u64>)); 5] = [
-    (&[], 85, (1, Some(1))),
-    (&[], 17, (0, None)),
-    (&[(16, 0)], 85, (0, None)),
-    // Before the header and a gate stand, nothing is wrong.
-    (&[(3, b'2')], 17, (0, None)),
-    (&[(3, b'2'), (16, 0)], 17, (0, None)),
-];
-
-#[test]
-fn fronts_are_texts(rt: HostRuntime) -> Result<(), Fail> {
-    for (changes, len, want) in TEXTS {
-        assert_eq!(rt; read_changed(rt.alloc(), changes, len)?, want);
-    }
-    Ok(())
+    read_whole(alloc, LOG_1, &bytes[..len.min(85)]).err()
 }
 
 /// What is changed, how many bytes are read, and where they are damaged.
@@ -214,7 +175,7 @@ const DAMAGED: [(&[(usize, u8)], usize, u64); 4] = [
 #[test]
 fn damage_is_told_at_its_gate(rt: HostRuntime) {
     for (changes, len, at) in DAMAGED {
-        let refusal = read_changed(rt.alloc(), changes, len).err();
+        let refusal = refusal_of(rt.alloc(), changes, len);
         assert_eq!(rt; refusal, Some(FeedRefusal::Damaged { at }));
     }
 }
