@@ -1,4 +1,4 @@
-//! A disk that holds one file, and tells nothing of it.
+//! A disk that holds one file, and tells nothing of it, so that its callers owe no proof of what it holds.
 
 ghost use Rattle.std.specs.Prelude.{◌≤◌, ◌<◌, ◌+◌, ◌^◌, false, length, IsErr, OnOk};
 ghost use Rattle.disk_images.specs.Calls.{Rose};
@@ -6,25 +6,27 @@ ghost use Rattle.disk_images.specs.Calls.{Rose};
 use disk_images::{Disk, Failed, Name, NameList, NamesError};
 use std::alloc::Global;
 
-/// One file, and the size that it tells where that isn't its length; how many calls there were, how many of them wrote and
-/// synced, and how many go well before one fails.
+/// One file, and the size that it tells where that isn't its length; how many calls there were, how many of them read, wrote
+/// and synced, and how many go well before one fails.
 #[derive(Drop)]
-pub(super) struct OneFile {
-    pub(super) bytes: Vec<u8>,
-    pub(super) size: Option<u64>,
-    pub(super) calls: u64,
-    pub(super) writes: u64,
-    pub(super) syncs: u64,
-    pub(super) good: u64,
-    pub(super) faults: u64,
+pub(crate) struct OneFile {
+    pub(crate) bytes: Vec<u8>,
+    pub(crate) size: Option<u64>,
+    pub(crate) calls: u64,
+    pub(crate) reads: u64,
+    pub(crate) writes: u64,
+    pub(crate) syncs: u64,
+    pub(crate) good: u64,
+    pub(crate) faults: u64,
 }
 
 impl OneFile {
-    pub(super) fn of(bytes: Vec<u8>) -> OneFile {
+    pub(crate) fn of(bytes: Vec<u8>) -> OneFile {
         OneFile {
             bytes,
             size: None,
             calls: 0,
+            reads: 0,
             writes: 0,
             syncs: 0,
             good: 100,
@@ -92,6 +94,7 @@ impl Disk for OneFile {
 
     fn read(&mut self, _name: Name, at: u64, into: &mut [u8]) -> Result<usize, Failed> {
         self.turn()?;
+        self.reads = self.reads.saturating_add(1);
         let at = (at as usize).min(self.bytes.len());
         let n = into.len().min(self.bytes.len() - at);
         into[..n].copy_from_slice(&self.bytes[at..at + n]);

@@ -1,12 +1,12 @@
-//! Store files read from a disk that holds one file and tells nothing of it.
+//! Store files that are read.
 
-use super::one_file::OneFile;
-use crate::{ReadRefusal, StoreText, read_store};
+use crate::one_file::OneFile;
 use disk_images::{Name, NameKind};
 use std::alloc::{AllocError, Global};
 use std::test::*;
+use store_file::{ReadRefusal, StoreText, read_store};
 
-const STORE_1: Name = Name {
+pub(crate) const STORE_1: Name = Name {
     kind: NameKind::Store,
     region: 1,
     number: 1,
@@ -14,7 +14,7 @@ const STORE_1: Name = Name {
 
 /// The store of region 1 with the sequence ids 1 to 2, and two puts of column `f:q` at timestamp 1: row `a`, value `v`
 /// with sequence id 2 from offset 33 on, and row `b`, value `w` with sequence id 1 from 65 on.
-const TWO_CELLS: [u8; 97] = [
+pub(crate) const TWO_CELLS: [u8; 97] = [
     0xA5, b'H', b'W', b'S', b'1', 0, 0, 0, 1, 0, 0, 0, 0, 0, 0, 0, 1, 0, 0, 0, 0, 0, 0, 0, 2, 0, 0,
     0, 0, 0, 0, 0, 2, 0, 0, 0, 0, 0, 0, 0, 2, 0, 0, 0, 0x0F, 0, 0, 0, 1, 0, 1, b'a', 1, b'f', b'q',
     0, 0, 0, 0, 0, 0, 0, 1, 4, b'v', 0, 0, 0, 0, 0, 0, 0, 1, 0, 0, 0, 0x0F, 0, 0, 0, 1, 0, 1, b'b',
@@ -76,39 +76,31 @@ fn two_cells_are_read(rt: HostRuntime) -> Result<(), Fail> {
     Ok(())
 }
 
-#[test]
-fn store_without_cells_is_read(rt: HostRuntime) -> Result<(), Fail> {
-    let alloc = rt.alloc();
-    let bytes = changed(alloc, &[(32, 0)])?;
-    let text = read(alloc, front(&bytes, 33))?.ok_or("there")?;
-    assert_eq!(rt; (text.from, text.to, text.cells.len()), (1, 2, 0));
-    Ok(())
-}
+/// What is changed and how many bytes are read, and which numbers and how many cells they are then, or None where no store
+/// is there.
+const FRONTS: &[(&[(usize, u8)], usize, Option<(u64, u64, usize)>)] = &[
+    // No byte, an open gate alone, a closed gate, and another byte for the gate.
+    (&[], 0, None),
+    (&[], 1, None),
+    (&[(0, 0)], 97, None),
+    (&[(0, 0xA4), (1, 0)], 2, None),
+    // No cell.
+    (&[(32, 0)], 33, Some((1, 2, 0))),
+    // Two versions of one key, the one with the higher sequence id first.
+    (&[(83, b'a')], 97, Some((1, 2, 2))),
+];
 
 #[test]
-fn versions_of_one_key_stand_with_the_higher_sequence_id_first(
-    rt: HostRuntime,
-) -> Result<(), Fail> {
+fn stores_are_read_or_are_not_there(rt: HostRuntime) -> Result<(), Fail> {
     let alloc = rt.alloc();
-    let bytes = changed(alloc, &[(83, b'a')])?;
-    let text = read(alloc, &bytes)?.ok_or("there")?;
-    assert_eq!(rt; text.cells.len(), 2);
-    Ok(())
-}
-
-#[test]
-fn no_byte_one_byte_and_a_closed_gate_are_not_there(rt: HostRuntime) -> Result<(), Fail> {
-    let alloc = rt.alloc();
-    assert!(rt; read(alloc, &[])?.is_none(), "no byte");
-    assert!(rt; read(alloc, &[0xA5])?.is_none(), "an open gate alone");
-    assert!(rt;
-        read(alloc, &changed(alloc, &[(0, 0)])?)?.is_none(),
-        "a closed gate"
-    );
-    assert!(rt;
-        read(alloc, &[0xA4, 0])?.is_none(),
-        "another byte for the gate"
-    );
+    for (changes, len, want) in FRONTS {
+        let bytes = changed(alloc, changes)?;
+        let found = match read(alloc, front(&bytes, *len))? {
+            Some(text) => Some((text.from, text.to, text.cells.len())),
+            None => None,
+        };
+        assert_eq!(rt; found, *want, "{changes:?}");
+    }
     Ok(())
 }
 
@@ -193,71 +185,5 @@ fn byte_behind_is_damage(rt: HostRuntime) -> Result<(), Fail> {
     let mut bytes = Vec::from_slice(alloc, &TWO_CELLS)?;
     bytes.push(0)?;
     assert_eq!(rt; damage(alloc, &bytes), Some(97));
-    Ok(())
-}
-
-/// A store of region 1 with five puts of 65,536 bytes each, of rows `a` to `e`: 33 and five times 65,567 bytes.
-fn five_long_cells(alloc: Global) -> Result<Vec<u8>, AllocError> {
-    let mut bytes = Vec::from_slice(alloc, &TWO_CELLS[..32])?;
-    bytes.push(5)?;
-    for row in b"abcde" {
-        bytes.extend_from_slice(&[
-            0, 0, 0, 0, 0, 0, 0, 1, 0, 0, 0, 0x0F, 0, 1, 0, 0, 0, 1, *row,
-        ])?;
-        bytes.extend_from_slice(&TWO_CELLS[52..64])?;
-        let len = bytes.len();
-        if len < 1_000_000 {
-            bytes.resize(len + 65_536, *row)?;
-        }
-    }
-    Ok(bytes)
-}
-
-#[test]
-fn file_of_two_pieces_is_read(rt: HostRuntime) -> Result<(), Fail> {
-    let alloc = rt.alloc();
-    let mut disk = OneFile::of(five_long_cells(alloc)?);
-    assert_eq!(rt; disk.bytes.len(), 327_868);
-    let text = read_store(alloc, &mut disk, STORE_1)?.ok_or("there")?;
-    assert_eq!(rt; disk.calls, 3, "the size and two pieces");
-    assert_eq!(rt; text.cells.len(), 5);
-    for (_, cell) in text.cells.as_slice() {
-        assert_eq!(rt; cell.value.as_slice().len(), 65_536);
-        assert_eq!(rt; cell.value.as_slice().last(), cell.row.as_slice().first());
-    }
-    Ok(())
-}
-
-#[test]
-fn failing_call_is_a_disk_fault(rt: HostRuntime) -> Result<(), Fail> {
-    let alloc = rt.alloc();
-    for good in 0..3 {
-        let mut disk = OneFile::of(five_long_cells(alloc)?);
-        disk.good = good;
-        let refusal = read_store(alloc, &mut disk, STORE_1).err();
-        assert_eq!(rt; refusal, Some(ReadRefusal::DiskFault));
-        assert_eq!(rt; (disk.calls, disk.faults), (good + 1, 1));
-    }
-    Ok(())
-}
-
-#[test]
-fn file_that_cannot_be_held_is_refused_unread(rt: HostRuntime) -> Result<(), Fail> {
-    let alloc = rt.alloc();
-    let mut disk = OneFile::of(Vec::from_slice(alloc, &TWO_CELLS)?);
-    disk.size = Some(0x8000_0000_0000_0000);
-    let refusal = read_store(alloc, &mut disk, STORE_1).err();
-    assert_eq!(rt; refusal, Some(ReadRefusal::Memory));
-    assert_eq!(rt; disk.calls, 1);
-    Ok(())
-}
-
-#[test]
-fn file_that_got_shorter_is_read_as_it_is(rt: HostRuntime) -> Result<(), Fail> {
-    let alloc = rt.alloc();
-    let mut disk = OneFile::of(Vec::from_slice(alloc, &TWO_CELLS)?);
-    disk.size = Some(1000);
-    let text = read_store(alloc, &mut disk, STORE_1)?.ok_or("there")?;
-    assert_eq!(rt; text.cells.len(), 2);
     Ok(())
 }

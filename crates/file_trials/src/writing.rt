@@ -1,13 +1,13 @@
 //! A store file that is written.
 
-use super::one_file::OneFile;
-use crate::{FileRefusal, StoreFile};
+use crate::one_file::OneFile;
 use disk_images::{Name, NameKind};
 use kv_cell::Cell;
 use std::alloc::Global;
 use std::test::*;
+use store_file::{FileRefusal, StoreFile};
 
-const STORE_3: Name = Name {
+pub(crate) const STORE_3: Name = Name {
     kind: NameKind::Store,
     region: 3,
     number: 1,
@@ -15,14 +15,14 @@ const STORE_3: Name = Name {
 
 /// A store of region 3 that covers the numbers 5 to 9, with two cells: number 7 of row `r`, column `f:q`, timestamp 1,
 /// value `v`, and number 6 of row `s`, value `w`.
-const TWO_CELLS: [u8; 97] = [
+pub(crate) const TWO_CELLS: [u8; 97] = [
     0xA5, b'H', b'W', b'S', b'1', 0, 0, 0, 3, 0, 0, 0, 0, 0, 0, 0, 5, 0, 0, 0, 0, 0, 0, 0, 9, 0, 0,
     0, 0, 0, 0, 0, 2, 0, 0, 0, 0, 0, 0, 0, 7, 0, 0, 0, 0x0F, 0, 0, 0, 1, 0, 1, b'r', 1, b'f', b'q',
     0, 0, 0, 0, 0, 0, 0, 1, 4, b'v', 0, 0, 0, 0, 0, 0, 0, 6, 0, 0, 0, 0x0F, 0, 0, 0, 1, 0, 1, b's',
     1, b'f', b'q', 0, 0, 0, 0, 0, 0, 0, 1, 4, b'w',
 ];
 
-fn put(alloc: Global, row: u8, value: &[u8]) -> Result<Cell, Fail> {
+pub(crate) fn put(alloc: Global, row: u8, value: &[u8]) -> Result<Cell, Fail> {
     Ok(
         Cell::new(alloc, &[row], b"f", b"q", 1, 4, value)
             .ok()
