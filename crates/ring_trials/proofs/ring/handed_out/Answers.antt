@@ -1,10 +1,10 @@
 use Rattle.std.proofs.Common.{◌≡◌, ◌∙◌, sym, ap, subst, Some}
 use Rattle.std.proofs.lemmas.Option.{none-some, same_Some}
 use Rattle.append_ring.specs.declared.pass.RingPass.{RingPass}
-use Rattle.append_ring.specs.declared.uses.Stamp.{Stamp}
+use Rattle.ring_trials.specs.declared.stamps.Stamp.{Stamp}
 use Rattle.append_ring.specs.Parts.{first_there, without_first, IsNew}
 use Rattle.append_ring.proofs.Places.{two_new}
-use Rattle.append_ring.proofs.tests.handed_out.Goals as goal
+use Rattle.ring_trials.proofs.ring.handed_out.Goals as goal
 
 pub unreachable-requires : goal.unreachable-requires
 unreachable-requires c =

@@ -1,10 +1,12 @@
+//! The ring: full at its capacity, and two threads that push while one pops.
+
 ghost use Rattle.std.specs.Prelude.{◌≡◌, Some, None, [], ◌∷◌, length, IfOk};
 ghost use Rattle.crossbeam_queue.specs.Passes.{view};
-ghost use Rattle.append_ring.specs.declared.uses.Stamp.{Stamp};
+ghost use Rattle.ring_trials.specs.declared.stamps.Stamp.{Stamp};
 ghost use Rattle.append_ring.specs.Parts.{last_pushed, IsNew, AreNew};
 
-use super::*;
-use crate::uses::{Stamp, push_next, push_three};
+use crate::stamps::{Stamp, push_next, push_three};
+use append_ring::{ConsumerPass, Ring, RingParts, RingPass, RingPasses};
 use std::alloc::{AllocError, Global};
 use std::sync::Wait;
 use std::test::*;

@@ -1,6 +1,6 @@
 use Rattle.std.proofs.Common.{◌≡◌}
 use Rattle.crossbeam_queue.specs.Passes.{view}
-use Rattle.append_ring.proofs.tests.pop_three.Given as goal
+use Rattle.ring_trials.proofs.ring.pop_three.Given as goal
 
 abbrev pub invariant-loop : goal.invariant-loop
 invariant-loop g l = record {

@@ -1,11 +1,10 @@
 //! A caller of the ring: items whose numbers are drawn one after the other.
+
 ghost use Rattle.std.specs.Prelude.{◌≡◌, ◌+◌, ◌^◌, ◌<◌, Some, IsTrue, IsFalse};
-ghost use Rattle.append_ring.specs.declared.uses.Stamp.{Stamp};
+ghost use Rattle.ring_trials.specs.declared.stamps.Stamp.{Stamp};
 ghost use Rattle.append_ring.specs.Parts.{last_pushed};
 
-use crate::item::OfRegion;
-use crate::pass::RingPass;
-use crate::ring::Ring;
+use append_ring::{OfRegion, Ring, RingPass};
 use std::sync::Wait;
 
 /// An item with a number that was drawn for it.

@@ -2,7 +2,7 @@ use Rattle.std.proofs.Common.{◌+◌, ◌∷◌, [], ℕ, zero, suc, List, arit
 use Rattle.log_berth.specs.declared.known.Known.{Known}
 use Rattle.log_berth.specs.Words.{NoMore}
 use Rattle.log_berth.proofs.Numbers.{raised_below}
-use Rattle.log_berth.proofs.uses.count_up.Goals as goal
+use Rattle.ring_trials.proofs.counters.count_up.Goals as goal
 
 counted : (a b : ℕ) → NoMore (a ∷ b ∷ []) ((a + 1) ∷ b ∷ [])
 counted a b zero = omega arith

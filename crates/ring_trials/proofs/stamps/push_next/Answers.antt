@@ -2,10 +2,10 @@ use Rattle.std.proofs.Common.{◌∙◌, ap}
 use Rattle.std.specs.Prelude.{Some}
 use Rattle.crossbeam_queue.specs.Passes.{view}
 use Rattle.append_ring.specs.declared.knows.Knows.{Knows}
-use Rattle.append_ring.specs.declared.uses.Stamp.{Stamp}
+use Rattle.ring_trials.specs.declared.stamps.Stamp.{Stamp}
 use Rattle.append_ring.specs.Rules.{base_of, end_of}
 use Rattle.append_ring.proofs.Lists.{end_of-snoc}
-use Rattle.append_ring.proofs.uses.push_next.Goals as goal
+use Rattle.ring_trials.proofs.stamps.push_next.Goals as goal
 
 pub returns-in-Ok-clause-pushed : goal.returns-in-Ok-clause-pushed
 returns-in-Ok-clause-pushed g c _ =

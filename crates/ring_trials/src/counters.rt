@@ -1,9 +1,8 @@
 //! A caller of the berth: a ware of two numbers that counts up and fails.
+
 ghost use Rattle.std.specs.Prelude.{◌≡◌, false};
 
-use crate::berth::Berth;
-use crate::seats::LogSeat;
-use crate::ware::Ware;
+use log_berth::{Berth, LogSeat, Ware};
 
 /// A ware of two numbers.
 #[derive(Clone, Copy)]

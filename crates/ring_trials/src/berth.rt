@@ -1,8 +1,10 @@
+//! The berth: two seats that take turns, and a fault that ends the raises.
+
 ghost use Rattle.std.specs.Prelude.{◌≡◌, ◌≤◌, false, [], length, IfOk};
 ghost use Rattle.log_berth.specs.Standing.{AreBack};
 
-use super::*;
-use crate::uses::{Counter, count_up, fail};
+use crate::counters::{Counter, count_up, fail};
+use log_berth::{Berth, BerthParts, BerthRefusal, Berthed, LogSeat, LogSeats};
 use std::alloc::Global;
 use std::test::*;
 use std::thread;

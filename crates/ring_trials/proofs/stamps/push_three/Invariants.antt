@@ -1,8 +1,8 @@
 use Rattle.std.proofs.Common.{◌≡◌, ◌+◌, ◌≤◌}
 use Rattle.std.specs.Prelude.{Some}
-use Rattle.append_ring.specs.declared.uses.Stamp.{Stamp}
+use Rattle.ring_trials.specs.declared.stamps.Stamp.{Stamp}
 use Rattle.append_ring.specs.Parts.{last_pushed}
-use Rattle.append_ring.proofs.uses.push_three.Given as goal
+use Rattle.ring_trials.proofs.stamps.push_three.Given as goal
 
 abbrev pub invariant-loop : goal.invariant-loop
 invariant-loop g l = record {
