@@ -1,7 +1,7 @@
 use Rattle.std.proofs.Common.{◌≡◌, ◌+◌, ◌≤◌, [], ◌∷◌, false, arith, ap, length-append}
 use Rattle.write_queue.specs.Numbers.{Queue, write_point}
 use Rattle.write_queue.proofs.Flights.{out_begun}
-use Rattle.write_queue.proofs.tests.begin_all.Goals as goal
+use Rattle.region_trials.proofs.numbers.begin_all.Goals as goal
 
 pub loop-begun-preserved : goal.loop-begun-preserved
 loop-begun-preserved c =

@@ -1,5 +1,5 @@
 use Rattle.write_queue.proofs.Flights.{out_completed}
-use Rattle.write_queue.proofs.tests.complete_all.Goals as goal
+use Rattle.region_trials.proofs.numbers.complete_all.Goals as goal
 
 pub complete-requires : goal.complete-requires
 complete-requires g c = (c.in-Some.ensures.out c.loop-entry.queue.numbers c.loop-entry.invariant).0

@@ -1,12 +1,14 @@
+//! Numbers that are drawn in order and completed in any.
+
 ghost use Rattle.std.specs.Prelude.{◌≡◌, ◌<◌, ◌≤◌, ◌∷◌, [], MatchOption};
 ghost use Rattle.std.specs.VecDeque.{deque_capacity, deque_len};
 ghost use Rattle.write_queue.specs.Numbers.{Numbers};
 ghost use Rattle.write_queue.specs.Flights.{AreOut};
 
-use super::{WriteEntry, WriteQueue};
 use std::collections::VecDeque;
 use std::process::Abort;
 use std::test::Fail;
+use write_queue::{WriteEntry, WriteQueue};
 
 #[test]
 fn completions_in_any_order(rt: HostRuntime) -> Result<(), Fail> {

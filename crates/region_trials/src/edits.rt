@@ -1,10 +1,12 @@
+//! Edits of one region, and what its versions show of them.
+
 ghost use Rattle.std.specs.Prelude.{◌≡◌, [], ◌+◌, ◌<◌, ◌≤◌, ◌^◌, IfOk, OnOk};
 ghost use Rattle.region_state.specs.States.{write_point};
 ghost use Rattle.region_state.specs.Calls.{AreBelow};
 
-use super::{Caller, Ended, RegionState, Version};
 use kv_cell::{Batch, Cell};
 use mem_segments::{Base, Draft, Segment};
+use region_state::{Caller, Ended, RegionState, Version};
 use std::alloc::Global;
 use std::sync::Arc;
 use std::test::Fail;

@@ -1,7 +1,7 @@
 use Rattle.std.proofs.Common.{◌≡◌, ℕ, ◌≤◌, Some, None, sym, ap, ◌∙◌}
 use Rattle.std.specs.FinMap.{get, get-empty}
 use Rattle.cell_model.specs.Order.{Content, version_cmp}
-use Rattle.region_state.proofs.tests.empty_region.Goals as goal
+use Rattle.region_trials.proofs.edits.empty_region.Goals as goal
 
 pub new-requires-3-clause-upto : goal.new-requires-3-clause-upto
 new-requires-3-clause-upto c v p there =

@@ -2,7 +2,7 @@ use Rattle.std.proofs.Common.{◌≡◌, ◌+◌, ◌≤◌}
 use Rattle.std.specs.VecDeque.{deque_capacity, deque_len}
 use Rattle.write_queue.specs.Numbers.{write_point}
 use Rattle.write_queue.specs.Flights.{AreOut}
-use Rattle.write_queue.proofs.tests.begin_all.Given as goal
+use Rattle.region_trials.proofs.numbers.begin_all.Given as goal
 
 abbrev pub invariant-loop-begun : goal.invariant-loop-begun
 invariant-loop-begun l =

@@ -1,4 +1,6 @@
-use super::{Desk, DeskParts};
+//! The hands of a desk.
+
+use hand_register::{Desk, DeskParts};
 use std::test::Fail;
 
 #[test]

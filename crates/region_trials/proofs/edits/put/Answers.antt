@@ -5,7 +5,7 @@ use Rattle.region_state.specs.Calls.{AreBelow}
 use Rattle.region_state.specs.Outcomes.{outcome_at_end}
 use Rattle.region_state.specs.States.{State, write_point}
 use Rattle.region_state.proofs.CallLaws.{next_call, below_put, pending_put}
-use Rattle.region_state.proofs.tests.put.Goals as goal
+use Rattle.region_trials.proofs.edits.put.Goals as goal
 
 pub begin_edit-entry-requires-clause-call : goal.begin_edit-entry-requires-clause-call
 begin_edit-entry-requires-clause-call c =
