@@ -1,7 +1,11 @@
+//! The accounting of a log's files over time: what decides that a file may go, the oldest number while a flush is under way, a flush
+//! that is aborted, many files, and which file goes first.
+
 ghost use Rattle.std.specs.Prelude.{◌≡◌, ◌<◌, ◌≤◌, IfOk, OnOk};
 ghost use Rattle.seq_accounting.specs.Steps.{IsIdle, IsOnly};
 
-use super::{Accounting, Flushing, RegionMark};
+use log_archive::first_to_go;
+use seq_accounting::{Accounting, Flushing, RegionMark};
 use std::alloc::Global;
 use std::process::Abort;
 use std::test::Fail;
@@ -92,33 +96,6 @@ fn next_lower(accounting: &Accounting, after: u64) -> Option<(u64, bool)> {
     }
 }
 
-/// Forgets the next closed file.
-fn forget_next(accounting: &mut Accounting, after: u64) {
-    if let Some(file) = accounting.next_closed(after) {
-        accounting.forget(file);
-    }
-}
-
-#[test]
-fn file_is_lower_once_all_its_regions_are_flushed(rt: HostRuntime) -> Result<(), Fail> {
-    let mut accounting = three_regions(rt.alloc())?;
-    note(&rt, &mut accounting, 1, 1);
-    note(&rt, &mut accounting, 2, 1);
-    note(&rt, &mut accounting, 1, 2);
-    close(&mut accounting, 1)?;
-    note(&rt, &mut accounting, 3, 8);
-    close(&mut accounting, 2)?;
-    assert_eq!(rt; next_lower(&accounting, 0), Some((1, false)));
-    flush(&rt, &mut accounting, 1);
-    assert_eq!(rt; next_lower(&accounting, 0), Some((1, false)));
-    flush(&rt, &mut accounting, 2);
-    assert_eq!(rt; next_lower(&accounting, 0), Some((1, true)));
-    assert_eq!(rt; next_lower(&accounting, 1), Some((2, false)));
-    flush(&rt, &mut accounting, 3);
-    assert_eq!(rt; next_lower(&accounting, 1), Some((2, true)));
-    Ok(())
-}
-
 #[test]
 fn highest_number_decides_and_not_the_lowest(rt: HostRuntime) -> Result<(), Fail> {
     let mut accounting = three_regions(rt.alloc())?;
@@ -173,26 +150,6 @@ fn aborted_flush_keeps_what_is_flushed(rt: HostRuntime) -> Result<(), Fail> {
 }
 
 #[test]
-fn next_closed_is_none_exactly_after_the_last(rt: HostRuntime) -> Result<(), Fail> {
-    let mut accounting = three_regions(rt.alloc())?;
-    assert_eq!(rt; accounting.next_closed(0), None);
-    close(&mut accounting, 3)?;
-    close(&mut accounting, 7)?;
-    close(&mut accounting, 9)?;
-    assert_eq!(rt; accounting.next_closed(0), Some(3));
-    assert_eq!(rt; accounting.next_closed(2), Some(3));
-    assert_eq!(rt; accounting.next_closed(3), Some(7));
-    assert_eq!(rt; accounting.next_closed(8), Some(9));
-    assert_eq!(rt; accounting.next_closed(9), None);
-    forget_next(&mut accounting, 3);
-    assert_eq!(rt; accounting.next_closed(3), Some(9));
-    forget_next(&mut accounting, 3);
-    assert_eq!(rt; accounting.next_closed(3), None);
-    assert_eq!(rt; accounting.next_closed(0), Some(3));
-    Ok(())
-}
-
-#[test]
 fn twenty_files_with_ample_memory(rt: HostRuntime) -> Result<(), Fail> {
     let mut accounting = three_regions(rt.alloc())?;
     for file in 1..21 {
@@ -202,5 +159,36 @@ fn twenty_files_with_ample_memory(rt: HostRuntime) -> Result<(), Fail> {
         assert_eq!(rt; accounting.next_closed(file), Some(file + 1));
     }
     assert_eq!(rt; accounting.next_closed(20), None);
+    Ok(())
+}
+
+/// Forgets the first file that may go.
+fn archive(accounting: &mut Accounting) -> Option<u64>
+    ensures flushing { accounting.new.flushing ≡ accounting.old.flushing }
+    ensures last { accounting.new.last ≡ accounting.old.last }
+{
+    let first = first_to_go(accounting);
+    if let Some(file) = first {
+        accounting.forget(file);
+    }
+    first
+}
+
+#[test]
+fn least_file_goes_first(rt: HostRuntime) -> Result<(), Fail> {
+    let mut accounting = three_regions(rt.alloc())?;
+    note(&rt, &mut accounting, 2, 1);
+    close(&mut accounting, 1)?;
+    note(&rt, &mut accounting, 1, 1);
+    close(&mut accounting, 2)?;
+    note(&rt, &mut accounting, 1, 2);
+    close(&mut accounting, 4)?;
+    flush(&rt, &mut accounting, 1);
+    assert_eq!(rt; archive(&mut accounting), Some(2));
+    assert_eq!(rt; archive(&mut accounting), Some(4));
+    assert_eq!(rt; archive(&mut accounting), None);
+    flush(&rt, &mut accounting, 2);
+    assert_eq!(rt; archive(&mut accounting), Some(1));
+    assert_eq!(rt; archive(&mut accounting), None);
     Ok(())
 }

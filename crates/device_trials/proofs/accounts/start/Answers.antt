@@ -1,7 +1,7 @@
 use Rattle.std.proofs.Common.{◌≡◌, ◌<◌, ◌≤◌, ℕ, List, length, set, ap, ◌∙◌, arith, length-set, get_or-set_same, get_or-set_other}
 use Rattle.seq_accounting.specs.Accounts.{Flush}
 use Rattle.seq_accounting.specs.Steps.{IsIdle, IsOnly}
-use Rattle.seq_accounting.proofs.tests.start.Goals as goal
+use Rattle.device_trials.proofs.accounts.start.Goals as goal
 
 only_this : (old new : List ℕ) (flush : Flush) (r n : ℕ) → IsIdle old → r ≤ 64 → length new ≡ 65 → new ≡ set old r n → flush ≡ record { region = r; number = n } → IsOnly new flush
 only_this old new flush r n idle within wide is token =
