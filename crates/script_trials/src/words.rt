@@ -1,6 +1,6 @@
-//! Words that are taken, and words that aren't.
+//! Words of the command `load` that are taken, and words that aren't.
 
-use super::*;
+use load_words::{WordsRefusal, read_load};
 use made_script::LoadOptions;
 use std::test::Fail;
 
@@ -15,44 +15,53 @@ const WHOLE: [&str; 8] = [
     "10000",
 ];
 
-/// A word out of its range, a word that is no number, an option that is unknown, and one that stands twice.
-const WRONG: [[&str; 5]; 6] = [
-    [
+/// A word out of its range, a word that is no number, an option that is unknown, one that stands twice, and one that is
+/// missing.
+const WRONG: [&[&str]; 7] = [
+    &[
         "load",
         "--start=0",
         "--handlers=17",
         "--regions=1",
         "--count=1",
     ],
-    [
+    &[
         "load",
         "--start=0",
         "--handlers=1",
         "--regions=65",
         "--count=1",
     ],
-    [
+    &[
         "load",
         "--start=0",
         "--handlers=1",
         "--regions=1",
         "--count=0",
     ],
-    [
+    &[
         "load",
         "--start=x",
         "--handlers=1",
         "--regions=1",
         "--count=1",
     ],
-    [
+    &[
         "load",
         "--begin=0",
         "--handlers=1",
         "--regions=1",
         "--count=1",
     ],
-    ["load", "--start=0", "--start=0", "--regions=1", "--count=1"],
+    &["load", "--start=0", "--start=0", "--regions=1", "--count=1"],
+    &[
+        "load",
+        "--start",
+        "18446744073709551615",
+        "--handlers",
+        "16",
+        "--regions=64",
+    ],
 ];
 
 #[test]
@@ -70,18 +79,11 @@ fn takes_its_four_options(rt: HostRuntime) -> Result<(), Fail> {
 
 #[test]
 fn refuses_other_words(rt: HostRuntime) {
-    for words in &WRONG {
+    for words in WRONG {
         assert_eq!(rt;
-            read_load(rt.alloc(), words.as_slice()),
-            Err(WordsRefusal::Usage)
+            read_load(rt.alloc(), words),
+            Err(WordsRefusal::Usage),
+            "{words:?}"
         );
     }
-}
-
-#[test]
-fn refuses_a_missing_option(rt: HostRuntime) {
-    assert_eq!(rt;
-        read_load(rt.alloc(), &WHOLE[..6]),
-        Err(WordsRefusal::Usage)
-    );
 }

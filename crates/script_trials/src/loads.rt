@@ -1,6 +1,6 @@
-//! A load of two calls.
+//! The script of a load of two calls.
 
-use super::*;
+use made_script::{LoadOptions, count_calls, make_script};
 use script_calls::{Call, Script};
 use std::test::Fail;
 
