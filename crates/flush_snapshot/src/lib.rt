@@ -10,6 +10,3 @@ mod laws;
 
 pub use cut::{store_cut, write_cut};
 pub use laws::cut_holds_its_content;
-
-#[cfg(test)]
-mod tests;

@@ -19,6 +19,3 @@ pub use file::LogFile;
 pub use list::{EntryList, LogText};
 pub use read::read_log;
 pub use stage::{STAGE_BYTES, Stage};
-
-#[cfg(test)]
-mod tests;
