@@ -73,7 +73,7 @@ impl OneFile {
 }
 
 impl Disk for OneFile {
-    ghost use Rattle.log_file.specs.Untold.{no_view, untold};
+    ghost use Rattle.file_base.specs.Untold.{no_view, untold};
 
     ghost told = { false };
 

@@ -11,11 +11,11 @@ ghost use Rattle.recovery.specs.Change.{HasText, HasEntries};
 ghost use Rattle.log_file.specs.LogText.{ended_text};
 ghost use Rattle.log_file.specs.Open.{IsOpen, IsStaged, HasEither, HasEnding};
 
-use crate::error::{DiskFault, FileRefusal, StageFull};
-use crate::stage::Stage;
+use crate::stage::{Stage, StageFull};
 use crate::text::{end_text, new_text};
 use disk_images::{Disk, Name, commit_behind_gate, create_durably};
 use entry_frame::EntryBytes;
+use file_base::{DiskFault, FileRefusal};
 use std::alloc::Global;
 use std::marker::Model;
 

@@ -5,6 +5,7 @@ ghost use Rattle.std.specs.Prelude.{◌≡◌, ◌≤◌, ◌<◌, ◌+◌, ℕ,
 use kv_cell::{NoMemory, put};
 use std::alloc::Global;
 use std::marker::Model;
+use thiserror::Error;
 
 /// The bytes of a stage.
 pub const STAGE_BYTES: usize = 4_194_304;
@@ -12,6 +13,11 @@ pub const STAGE_BYTES: usize = 4_194_304;
 const OPEN: u8 = 0xA5;
 
 const CLOSED: u8 = 0;
+
+/// The entry doesn't fit the stage.
+#[derive(Clone, Copy, Debug, PartialEq, Eq, Error)]
+#[error("the stage is full")]
+pub struct StageFull;
 
 /// Room for the bytes of one commit, seen as the bytes that stand in it.
 #[derive(Debug, Drop)]

@@ -15,8 +15,8 @@ ghost use Rattle.store_file.specs.Whole.{IsWholeOrNot};
 use crate::buffer::Buffer;
 use crate::commit::commit_filled;
 use disk_images::{Disk, Name, create_durably, write_behind};
+use file_base::{DiskFault, FileRefusal};
 use kv_cell::Cell;
-use log_file::{DiskFault, FileRefusal};
 use std::alloc::Global;
 use std::marker::Model;
 

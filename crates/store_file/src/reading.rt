@@ -4,12 +4,12 @@ ghost use Rattle.std.specs.Prelude.{◌≡◌, ◌≢◌, ◌↔◌, ◌≤◌, 
 ghost use Rattle.cell_model.specs.Order.{NumberedCell};
 ghost use Rattle.cell_model.specs.Merge.{IsRising};
 ghost use Rattle.log_model.specs.StoreText.{IsThere, IsStoreText, field_fault, IsStoreDamaged};
-ghost use Rattle.log_file.specs.Refusal.{IfDamaged};
+ghost use Rattle.file_base.specs.Refusal.{IfDamaged};
 ghost use Rattle.store_file.specs.Reading.{IsHead, AreFields, FrontsPair, StandsUpTo, NoneIsNext, LacksPair};
 
 use crate::list::StoreText;
+use file_base::ReadRefusal;
 use kv_cell::{Cell, CellRef, NoMemory, NumberedCells, compare_numbered, decode, u32_at, u64_at};
-use log_file::ReadRefusal;
 use std::alloc::Global;
 use std::cmp::Ordering;
 

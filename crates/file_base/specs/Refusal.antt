@@ -2,8 +2,8 @@
 use Rattle.std.specs.Prelude.{ℕ, Result, Ok, Err}
 use Rattle.entry_frame.specs.declared.phase.FeedRefusal.{FeedRefusal}
 use Rattle.entry_frame.specs.declared.phase.FeedRefusal.TheVariants as feed_refusals
-use Rattle.log_file.specs.declared.error.ReadRefusal.{ReadRefusal}
-use Rattle.log_file.specs.declared.error.ReadRefusal.TheVariants as refusals
+use Rattle.file_base.specs.declared.error.ReadRefusal.{ReadRefusal}
+use Rattle.file_base.specs.declared.error.ReadRefusal.TheVariants as refusals
 
 -- a feed's refusal, told of a file
 abbrev pub read_refusal_of : FeedRefusal → ReadRefusal

@@ -1,9 +1,9 @@
-//! Why a log file cannot be begun, written or read.
+//! Why a file cannot be begun, written or read.
 
 ghost use Rattle.std.specs.Prelude.{◌≡◌};
-ghost use Rattle.log_file.specs.declared.error.FileRefusal.TheVariants as file_refusals;
-ghost use Rattle.log_file.specs.declared.error.ReadRefusal.TheVariants as read_refusals;
-ghost use Rattle.log_file.specs.Refusal.{read_refusal_of};
+ghost use Rattle.file_base.specs.declared.error.FileRefusal.TheVariants as file_refusals;
+ghost use Rattle.file_base.specs.declared.error.ReadRefusal.TheVariants as read_refusals;
+ghost use Rattle.file_base.specs.Refusal.{read_refusal_of};
 
 use disk_images::Failed;
 use entry_frame::FeedRefusal;
@@ -15,11 +15,6 @@ use thiserror::Error;
 #[derive(Clone, Copy, Debug, PartialEq, Eq, Error)]
 #[error("a disk call failed")]
 pub struct DiskFault;
-
-/// The entry doesn't fit the stage.
-#[derive(Clone, Copy, Debug, PartialEq, Eq, Error)]
-#[error("the stage is full")]
-pub struct StageFull;
 
 /// Why a file cannot be begun.
 #[derive(Clone, Copy, Debug, PartialEq, Eq, Error)]

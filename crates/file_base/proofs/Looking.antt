@@ -3,7 +3,7 @@ use Rattle.std.proofs.Common.{ℕ, ◌+◌, ◌≤◌, refl, ◌∙◌, arith}
 use Rattle.disk_images.specs.Crash.{DiskView, IsImageNow}
 use Rattle.disk_images.specs.Calls.{Looks}
 use Rattle.disk_images.proofs.Moments.{at_once, goes_on, more_time, at_end, joined, weaker}
-use Rattle.log_file.specs.Looking.{OnlyLooks}
+use Rattle.file_base.specs.Looking.{OnlyLooks}
 
 pub looks_none : (v : DiskView) → OnlyLooks 0 v v
 looks_none v = record { files = refl; gone = λ m h. h; formerly = λ n m h. h; moments = at_once (IsImageNow v) v (λ J now. now) }
