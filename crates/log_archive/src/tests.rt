@@ -61,32 +61,28 @@ fn flush(rt: &impl Abort, accounting: &mut Accounting, region: u32, comes_off: b
     }
 }
 
-/// Forgets the first file that may go.
-fn archive(accounting: &mut Accounting) -> Option<u64>
+/// Forgets the files that may go, and gives their number.
+fn archive(accounting: &mut Accounting) -> u64
     ensures flushing { accounting.new.flushing ≡ accounting.old.flushing }
     ensures last { accounting.new.last ≡ accounting.old.last }
 {
-    let first = first_to_go(accounting);
-    if let Some(file) = first {
-        accounting.forget(file);
-    }
-    first
+    accounting.forget_lower()
 }
 
 #[test]
 fn file_goes_once_both_its_regions_are_flushed(rt: HostRuntime) -> Result<(), Fail> {
     let mut accounting = two_regions(rt.alloc())?;
-    assert_eq!(rt; first_to_go(&accounting), None);
+    assert_eq!(rt; first_to_go(&accounting, 0), None);
     note(&rt, &mut accounting, 1, 1);
     note(&rt, &mut accounting, 2, 1);
     close(&mut accounting, 1)?;
-    assert_eq!(rt; first_to_go(&accounting), None);
+    assert_eq!(rt; first_to_go(&accounting, 0), None);
     flush(&rt, &mut accounting, 1, true);
-    assert_eq!(rt; first_to_go(&accounting), None);
+    assert_eq!(rt; first_to_go(&accounting, 0), None);
     flush(&rt, &mut accounting, 2, false);
-    assert_eq!(rt; first_to_go(&accounting), None);
+    assert_eq!(rt; first_to_go(&accounting, 0), None);
     flush(&rt, &mut accounting, 2, true);
-    assert_eq!(rt; first_to_go(&accounting), Some(1));
+    assert_eq!(rt; first_to_go(&accounting, 0), Some(1));
     Ok(())
 }
 
@@ -100,11 +96,15 @@ fn least_file_goes_first(rt: HostRuntime) -> Result<(), Fail> {
     note(&rt, &mut accounting, 1, 2);
     close(&mut accounting, 4)?;
     flush(&rt, &mut accounting, 1, true);
-    assert_eq!(rt; archive(&mut accounting), Some(2));
-    assert_eq!(rt; archive(&mut accounting), Some(4));
-    assert_eq!(rt; archive(&mut accounting), None);
+    assert_eq!(rt; first_to_go(&accounting, 0), Some(2));
+    assert_eq!(rt; first_to_go(&accounting, 1), Some(2));
+    assert_eq!(rt; first_to_go(&accounting, 2), Some(4));
+    assert_eq!(rt; first_to_go(&accounting, 4), None);
+    assert_eq!(rt; archive(&mut accounting), 2);
+    assert_eq!(rt; first_to_go(&accounting, 0), None);
     flush(&rt, &mut accounting, 2, true);
-    assert_eq!(rt; archive(&mut accounting), Some(1));
-    assert_eq!(rt; archive(&mut accounting), None);
+    assert_eq!(rt; first_to_go(&accounting, 0), Some(1));
+    assert_eq!(rt; archive(&mut accounting), 1);
+    assert_eq!(rt; first_to_go(&accounting, 0), None);
     Ok(())
 }

@@ -120,17 +120,11 @@ fn flush(ledger: &mut Ledger, region: u32) -> Result<(), Fail>
     Ok(())
 }
 
-/// Forgets the first file that may go, and gives its number.
-fn archive(ledger: &mut Ledger) -> Option<u64>
+/// Forgets the files that may go, and gives their number.
+fn archive(ledger: &mut Ledger) -> u64
     ensures { ledger.new.accounts.last ≡ ledger.old.accounts.last }
 {
-    match ledger.first_to_go() {
-        Some(file) => {
-            ledger.forget(file);
-            Some(file)
-        }
-        None => None,
-    }
+    ledger.forget_flushed()
 }
 
 /// The number and the row of each cell that a flush of the region would take.
@@ -219,13 +213,15 @@ fn file_goes_once_each_of_its_regions_is_flushed(rt: HostRuntime) -> Result<(), 
     let mut ledger = two_files(rt.alloc())?;
     assert!(rt; told(&ledger, 1) == [1, 1, 0, 0, 1, 1]);
     assert!(rt; told(&ledger, 2) == [7, 7, 5, 5, 7, 4]);
-    assert!(rt; archive(&mut ledger) == None);
+    assert!(rt; archive(&mut ledger) == 0);
     flush(&mut ledger, 1)?;
-    assert!(rt; archive(&mut ledger) == None);
+    assert!(rt; archive(&mut ledger) == 0);
     flush(&mut ledger, 2)?;
-    assert!(rt; archive(&mut ledger) == Some(1));
-    assert!(rt; archive(&mut ledger) == Some(2));
-    assert!(rt; archive(&mut ledger) == None);
+    assert!(rt; ledger.first_to_go(0) == Some(1));
+    assert!(rt; ledger.first_to_go(1) == Some(2));
+    assert!(rt; ledger.first_to_go(2) == None);
+    assert!(rt; archive(&mut ledger) == 2);
+    assert!(rt; ledger.first_to_go(0) == None);
     Ok(())
 }
 
@@ -233,10 +229,11 @@ fn file_goes_once_each_of_its_regions_is_flushed(rt: HostRuntime) -> Result<(), 
 fn later_file_goes_before_an_earlier_one(rt: HostRuntime) -> Result<(), Fail> {
     let mut ledger = two_files(rt.alloc())?;
     flush(&mut ledger, 2)?;
-    assert!(rt; archive(&mut ledger) == Some(2));
-    assert!(rt; archive(&mut ledger) == None);
+    assert!(rt; ledger.first_to_go(0) == Some(2));
+    assert!(rt; archive(&mut ledger) == 1);
     flush(&mut ledger, 1)?;
-    assert!(rt; archive(&mut ledger) == Some(1));
+    assert!(rt; ledger.first_to_go(0) == Some(1));
+    assert!(rt; archive(&mut ledger) == 1);
     Ok(())
 }
 
@@ -249,8 +246,8 @@ fn empty_file_takes_no_number(rt: HostRuntime) -> Result<(), Fail> {
     close(&mut ledger, 1)?;
     ledger.close_empty();
     flush(&mut ledger, 1)?;
-    assert!(rt; archive(&mut ledger) == Some(1));
-    assert!(rt; archive(&mut ledger) == None);
+    assert!(rt; archive(&mut ledger) == 1);
+    assert!(rt; archive(&mut ledger) == 0);
     assert!(rt; told(&ledger, 1) == [1, 1, 1, 1, 1, 2]);
     Ok(())
 }

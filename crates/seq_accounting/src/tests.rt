@@ -92,13 +92,6 @@ fn next_lower(accounting: &Accounting, after: u64) -> Option<(u64, bool)> {
     }
 }
 
-/// Forgets the next closed file.
-fn forget_next(accounting: &mut Accounting, after: u64) {
-    if let Some(file) = accounting.next_closed(after) {
-        accounting.forget(file);
-    }
-}
-
 #[test]
 fn file_is_lower_once_all_its_regions_are_flushed(rt: HostRuntime) -> Result<(), Fail> {
     let mut accounting = three_regions(rt.alloc())?;
@@ -184,11 +177,26 @@ fn next_closed_is_none_exactly_after_the_last(rt: HostRuntime) -> Result<(), Fai
     assert_eq!(rt; accounting.next_closed(3), Some(7));
     assert_eq!(rt; accounting.next_closed(8), Some(9));
     assert_eq!(rt; accounting.next_closed(9), None);
-    forget_next(&mut accounting, 3);
-    assert_eq!(rt; accounting.next_closed(3), Some(9));
-    forget_next(&mut accounting, 3);
-    assert_eq!(rt; accounting.next_closed(3), None);
-    assert_eq!(rt; accounting.next_closed(0), Some(3));
+    Ok(())
+}
+
+#[test]
+fn flushed_files_are_forgotten(rt: HostRuntime) -> Result<(), Fail> {
+    let mut accounting = three_regions(rt.alloc())?;
+    note(&rt, &mut accounting, 1, 1);
+    close(&mut accounting, 3)?;
+    note(&rt, &mut accounting, 2, 1);
+    close(&mut accounting, 7)?;
+    note(&rt, &mut accounting, 1, 2);
+    close(&mut accounting, 9)?;
+    assert_eq!(rt; accounting.forget_lower(), 0);
+    flush(&rt, &mut accounting, 1);
+    assert_eq!(rt; accounting.forget_lower(), 2);
+    assert_eq!(rt; accounting.next_closed(0), Some(7));
+    assert_eq!(rt; accounting.next_closed(7), None);
+    flush(&rt, &mut accounting, 2);
+    assert_eq!(rt; accounting.forget_lower(), 1);
+    assert_eq!(rt; accounting.next_closed(0), None);
     Ok(())
 }
 
