@@ -150,6 +150,26 @@ fn aborted_flush_keeps_what_is_flushed(rt: HostRuntime) -> Result<(), Fail> {
 }
 
 #[test]
+fn flushed_files_are_forgotten(rt: HostRuntime) -> Result<(), Fail> {
+    let mut accounting = three_regions(rt.alloc())?;
+    note(&rt, &mut accounting, 1, 1);
+    close(&mut accounting, 3)?;
+    note(&rt, &mut accounting, 2, 1);
+    close(&mut accounting, 7)?;
+    note(&rt, &mut accounting, 1, 2);
+    close(&mut accounting, 9)?;
+    assert_eq!(rt; accounting.forget_lower(), 0);
+    flush(&rt, &mut accounting, 1);
+    assert_eq!(rt; accounting.forget_lower(), 2);
+    assert_eq!(rt; accounting.next_closed(0), Some(7));
+    assert_eq!(rt; accounting.next_closed(7), None);
+    flush(&rt, &mut accounting, 2);
+    assert_eq!(rt; accounting.forget_lower(), 1);
+    assert_eq!(rt; accounting.next_closed(0), None);
+    Ok(())
+}
+
+#[test]
 fn twenty_files_with_ample_memory(rt: HostRuntime) -> Result<(), Fail> {
     let mut accounting = three_regions(rt.alloc())?;
     for file in 1..21 {
@@ -162,18 +182,6 @@ fn twenty_files_with_ample_memory(rt: HostRuntime) -> Result<(), Fail> {
     Ok(())
 }
 
-/// Forgets the first file that may go.
-fn archive(accounting: &mut Accounting) -> Option<u64>
-    ensures flushing { accounting.new.flushing ≡ accounting.old.flushing }
-    ensures last { accounting.new.last ≡ accounting.old.last }
-{
-    let first = first_to_go(accounting);
-    if let Some(file) = first {
-        accounting.forget(file);
-    }
-    first
-}
-
 #[test]
 fn least_file_goes_first(rt: HostRuntime) -> Result<(), Fail> {
     let mut accounting = three_regions(rt.alloc())?;
@@ -184,11 +192,15 @@ fn least_file_goes_first(rt: HostRuntime) -> Result<(), Fail> {
     note(&rt, &mut accounting, 1, 2);
     close(&mut accounting, 4)?;
     flush(&rt, &mut accounting, 1);
-    assert_eq!(rt; archive(&mut accounting), Some(2));
-    assert_eq!(rt; archive(&mut accounting), Some(4));
-    assert_eq!(rt; archive(&mut accounting), None);
+    assert_eq!(rt; first_to_go(&accounting, 0), Some(2));
+    assert_eq!(rt; first_to_go(&accounting, 1), Some(2));
+    assert_eq!(rt; first_to_go(&accounting, 2), Some(4));
+    assert_eq!(rt; first_to_go(&accounting, 4), None);
+    assert_eq!(rt; accounting.forget_lower(), 2);
+    assert_eq!(rt; first_to_go(&accounting, 0), None);
     flush(&rt, &mut accounting, 2);
-    assert_eq!(rt; archive(&mut accounting), Some(1));
-    assert_eq!(rt; archive(&mut accounting), None);
+    assert_eq!(rt; first_to_go(&accounting, 0), Some(1));
+    assert_eq!(rt; accounting.forget_lower(), 1);
+    assert_eq!(rt; first_to_go(&accounting, 0), None);
     Ok(())
 }

@@ -79,20 +79,6 @@ fn flush(ledger: &mut Ledger, region: u32) -> Result<(), Fail>
     ledger.flush(region);
     Ok(())
 }
-
-/// Forgets the first file that may go, and gives its number.
-fn archive(ledger: &mut Ledger) -> Option<u64>
-    ensures { ledger.new.accounts.last ≡ ledger.old.accounts.last }
-{
-    match ledger.first_to_go() {
-        Some(file) => {
-            ledger.forget(file);
-            Some(file)
-        }
-        None => None,
-    }
-}
-
 /// The numbers of a region: the last one staged, and the last one committed; what is flushed, what the last flush gave,
 /// and what was committed at the roll; and the number of the next store file.
 fn told(ledger: &Ledger, region: u32) -> [u64; 6]
@@ -143,9 +129,10 @@ fn two_files(alloc: Global) -> Result<Ledger, Fail> {
 fn later_file_goes_before_an_earlier_one(rt: HostRuntime) -> Result<(), Fail> {
     let mut ledger = two_files(rt.alloc())?;
     flush(&mut ledger, 2)?;
-    assert!(rt; archive(&mut ledger) == Some(2));
-    assert!(rt; archive(&mut ledger) == None);
+    assert!(rt; ledger.first_to_go(0) == Some(2));
+    assert!(rt; ledger.forget_flushed() == 1);
     flush(&mut ledger, 1)?;
-    assert!(rt; archive(&mut ledger) == Some(1));
+    assert!(rt; ledger.first_to_go(0) == Some(1));
+    assert!(rt; ledger.forget_flushed() == 1);
     Ok(())
 }
