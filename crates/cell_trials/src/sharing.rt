@@ -21,25 +21,6 @@ fn rows_made(list: &SegmentList) -> usize {
 }
 
 #[test]
-fn what_is_not_merged_is_shared(rt: HostRuntime) -> Result<(), Fail> {
-    let alloc = rt.alloc();
-    let four = segment(alloc, &[(3, b'c'), (1, b'a'), (2, b'b'), (4, b'd')])?;
-    let newer = segment(alloc, &[(5, b'e')])?;
-    let last = segment(alloc, &[(6, b'f')])?;
-    if four.is_empty() || newer.is_empty() || last.is_empty() {
-        return Err("cells in each")?;
-    }
-    let first = SegmentList::new(alloc).with_newer(alloc, four)?;
-    assert_eq!(rt; rows_made(&first), 4);
-    let second = first.with_newer(alloc, newer)?;
-    assert_eq!(rt; rows_made(&second), 1);
-    let third = second.with_newer(alloc, last)?;
-    assert_eq!(rt; rows_made(&third), 2);
-    assert_eq!(rt; rows_made(&third.share(alloc)?), 0);
-    Ok(())
-}
-
-#[test]
 fn ten_thousand_edits_stand_in_few_segments(rt: HostRuntime) -> Result<(), Fail> {
     let alloc = rt.alloc();
     let mut list = SegmentList::new(alloc);

@@ -25,3 +25,6 @@ pub use page::Page;
 pub use row::Row;
 pub use segment::{Base, Segment};
 pub use shared::SharedCells;
+
+#[cfg(test)]
+mod tests;
