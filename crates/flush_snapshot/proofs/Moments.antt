@@ -7,10 +7,10 @@ use Rattle.disk_images.specs.Crash.{DiskView, IsInNoImage, Throughout, OnlyAt}
 use Rattle.disk_images.proofs.Moments.{more_time}
 use Rattle.disk_images.proofs.Torn.{then_only}
 use Rattle.recovery.specs.Kept.{IsNotThere}
-use Rattle.store_file.specs.Open.{OpenStore, IsFilling, store_of}
+use Rattle.store_file.specs.Open.{OpenStore, IsAlike, IsFilling, store_of}
 use Rattle.store_file.specs.Whole.{IsWholeOrNot}
 use Rattle.store_file.proofs.Stores.{not_begun, or_whole}
-use Rattle.store_file.proofs.Writing.{IsAlike, same_store}
+use Rattle.store_file.proofs.Writing.{same_store}
 use Rattle.flush_snapshot.specs.Cut.{ordered_cells, cut_store}
 
 -- the calls left it not there

@@ -9,7 +9,8 @@ ghost use Rattle.recovery.specs.Change.{HasText};
 ghost use Rattle.disk_images.specs.Crash.{Throughout, OnlyAt};
 ghost use Rattle.disk_images.specs.OneFile.{Touches};
 ghost use Rattle.disk_images.specs.Calls.{HasCause};
-ghost use Rattle.log_file.specs.Open.{AreEntriesOf, IsOpen, IsStaged, HasEither};
+ghost use Rattle.log_file.specs.Open.{AreEntriesOf, IsOpen, IsStaged};
+ghost use Rattle.log_file.specs.Calls.{IsSameFile};
 ghost use Rattle.recovery.specs.Alike.{AllAlike};
 ghost use Rattle.wal_split.specs.Held.{IsHeld};
 ghost use Rattle.wal_split.specs.Some.{HasSome};
@@ -139,7 +140,7 @@ fn stage_into_empty(log: &mut LogFile, bytes: &EntryBytes, len: usize)
     requires empty { IsStaged log.old [] }
     requires len { (len ≡ length bytes.now) × (len ≤ 1048581) }
     ensures staged { (e : TheEntry) → bytes.now ≡ entry_frame e → IsEntryOf (key_of log.old.name) e → IsStaged log.new (e ∷ []) }
-    ensures elsewhere { (log.new.name ≡ log.old.name) × (log.new.gate ≡ log.old.gate) × (log.new.entries ≡ log.old.entries) }
+    ensures same_file { IsSameFile log.old log.new }
 {
     match log.stage(bytes) {
         Ok(()) => {}

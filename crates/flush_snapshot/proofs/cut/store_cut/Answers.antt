@@ -17,13 +17,13 @@ returns-in_err-store-clause-store g c other = cut_is_store c.args.name c.args.fr
 
 pub returns-in_err-store-clause-any_moment : goal.returns-in_err-store-clause-any_moment
 returns-in_err-store-clause-any_moment g c told =
-    filled_moments c.args.name (store_text (cut_store c.args.name c.args.from c.args.to c.args.cut)) 3 (7 + length (ordered_cells c.args.cut)) (g.D.Disk.view c.args.disk.now) (g.D.Disk.view c.begin.new.disk) (omega arith) (c.begin.ensures.any_moment told)
+    filled_moments c.args.name (store_text (cut_store c.args.name c.args.from c.args.to c.args.cut)) 3 (7 + length (ordered_cells c.args.cut)) (g.D.Disk.view c.args.disk.now) (g.D.Disk.view c.begin.new.disk) (omega arith) (c.begin.ensures.begins told).never_there
 
 pub write_rows-requires-clause-whole : goal.write_rows-requires-clause-whole
 write_rows-requires-clause-whole g c =
     let shape = c.in_ok-store.ensures.shape in
     let of : IsOfCut c.in_ok-store.store c.rows-rows.result.now c.args.name c.args.from c.args.to c.args.cut =
-    record { name_is = shape.0; from_is = shape.1; to_is = shape.2; rows_are = c.rows-rows.ensures ∙ ap (λ (m : Content). cells_of m) c.in_ok-segment.ensures.content } in
+    record { name_is = shape.name_is; from_is = shape.from_is; to_is = shape.to_is; rows_are = c.rows-rows.ensures ∙ ap (λ (m : Content). cells_of m) c.in_ok-segment.ensures.content } in
     subst IsStore (sym (same_cut c.in_ok-store.store c.rows-rows.result.now c.args.name c.args.from c.args.to c.args.cut of))
     (cut_is_store c.args.name c.args.from c.args.to c.args.cut (omega arith) c.requires.range c.requires.within c.in_ok-segment.ensures.within)
 
@@ -34,8 +34,8 @@ pub returns-in_err-write_rows-clause-any_moment : goal.returns-in_err-write_rows
 returns-in_err-write_rows-clause-any_moment g c told =
     let shape = c.in_ok-store.ensures.shape in
     cut_moments c.in_ok-store.store c.rows-rows.result.now c.args.name c.args.from c.args.to c.args.cut (g.D.Disk.view c.args.disk.now) (g.D.Disk.view c.begin.new.disk) (g.D.Disk.view c.write_rows.new.disk)
-    (record { name_is = shape.0; from_is = shape.1; to_is = shape.2; rows_are = c.rows-rows.ensures ∙ ap (λ (m : Content). cells_of m) c.in_ok-segment.ensures.content })
-    (c.begin.ensures.any_moment told) (c.write_rows.ensures.any_moment told)
+    (record { name_is = shape.name_is; from_is = shape.from_is; to_is = shape.to_is; rows_are = c.rows-rows.ensures ∙ ap (λ (m : Content). cells_of m) c.in_ok-segment.ensures.content })
+    (c.begin.ensures.begins told).never_there (c.write_rows.ensures.any_moment told)
 
 pub returns-clause-store : goal.returns-clause-store
 returns-clause-store g c other = cut_is_store c.args.name c.args.from c.args.to c.args.cut (omega arith) c.requires.range c.requires.within c.in_ok-segment.ensures.within
@@ -44,5 +44,5 @@ pub returns-clause-any_moment : goal.returns-clause-any_moment
 returns-clause-any_moment g c told =
     let shape = c.in_ok-store.ensures.shape in
     cut_moments c.in_ok-store.store c.rows-rows.result.now c.args.name c.args.from c.args.to c.args.cut (g.D.Disk.view c.args.disk.now) (g.D.Disk.view c.begin.new.disk) (g.D.Disk.view c.write_rows.new.disk)
-    (record { name_is = shape.0; from_is = shape.1; to_is = shape.2; rows_are = c.rows-rows.ensures ∙ ap (λ (m : Content). cells_of m) c.in_ok-segment.ensures.content })
-    (c.begin.ensures.any_moment told) (c.write_rows.ensures.any_moment told)
+    (record { name_is = shape.name_is; from_is = shape.from_is; to_is = shape.to_is; rows_are = c.rows-rows.ensures ∙ ap (λ (m : Content). cells_of m) c.in_ok-segment.ensures.content })
+    (c.begin.ensures.begins told).never_there (c.write_rows.ensures.any_moment told)

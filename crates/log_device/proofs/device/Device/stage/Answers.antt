@@ -21,7 +21,7 @@ invariant_of-self-in-Ok g c = record {
   numbered = λ file is.
       subst (λ (f : OpenLog). IsNumbered f c.stage-in-Ok.new.self) (same_file c.stage.new.self file is)
       (numbered_staged c.in-Some.log c.stage.new.self c.args.self.now.ledger.value c.stage-in-Ok.new.self (c.args.self.now.numbered c.in-Some.log c.in-Some.is)
-      c.stage.ensures.elsewhere.0 (rw c.deref_mut.ensures.value at c.stage-in-Ok.ensures.grows) (rw c.deref_mut.ensures.value at c.stage-in-Ok.ensures.files.last));
+      c.stage.ensures.same_file.name (rw c.deref_mut.ensures.value at c.stage-in-Ok.ensures.grows) (rw c.deref_mut.ensures.value at c.stage-in-Ok.ensures.files.last));
 }
 
 pub invariant_of-self-in-Err : goal.invariant_of-self-in-Err
@@ -43,6 +43,6 @@ returns-in-Ok-clause-staged g c told h e whole entry bytes region number =
           (let drawn = whole.counted.drawn e.region (subst (λ (r : ℕ). IsServed c.args.self.now.ledger.value r) (sym region) c.requires.served) in
           let at : get_or c.args.self.now.ledger.value.drawn e.region 0 ≡ get_or c.args.self.now.ledger.value.drawn c.args.truck.value.region 0 = ap (λ (r : ℕ). get_or c.args.self.now.ledger.value.drawn r 0) region in
           omega (arith, c.requires.above, drawn, number, at))
-          c.stage.ensures.elsewhere (c.in-Ok.ensures.staged h.kept.staged e keeps.staged (its ∙ bytes) (of_log c.in-Some.log e numbered.region entry)));
+          c.stage.ensures.same_file (c.in-Ok.ensures.staged h.kept.staged e keeps.staged (its ∙ bytes) (of_log c.in-Some.log e numbered.region entry)));
       counted = (rw c.deref_mut.ensures.value at c.stage-in-Ok.ensures.counted) h e whole.counted entry bytes region number;
     }
