@@ -4,6 +4,7 @@ pub mod Leaves
 pub mod Flushed
 pub mod Numbered
 pub mod Whole
+pub mod Calls
 pub mod Opened
 pub mod Refusal
 pub mod Laws

@@ -1,11 +1,8 @@
-use Rattle.std.proofs.Common.{◌≡◌, ℕ, List, length, refl, sym, ap, ◌∙◌, subst, arith}
+use Rattle.std.proofs.Common.{ℕ, List, length, refl, sym, ap, ◌∙◌, subst}
 use Rattle.std.specs.Prelude.{sum}
 use Rattle.std.specs.Option.{is_some}
 use Rattle.std.proofs.Math.Logic.{∥∥₁_map}
-use Rattle.disk_images.specs.Crash.{Throughout}
-use Rattle.log_file.specs.Open.{OpenLog}
 use Rattle.log_ledger.specs.History.{with_logs}
-use Rattle.log_device.specs.Bears.{Bears}
 use Rattle.log_device.specs.Keeps.{Keeps}
 use Rattle.log_device.proofs.Calls.{archive_leaves}
 use Rattle.log_device.proofs.Going.{keeps_those}
@@ -24,37 +21,32 @@ invariant_of-self-in-Ok g c = record {
       numbered_still file file c.args.self.now.ledger.value c.forget_flushed.new.self (c.args.self.now.numbered file is) refl refl (ap sum (rw c.deref_mut.ensures.value at c.forget_flushed.ensures.same.drawn)) (rw c.deref_mut.ensures.value at c.forget_flushed.ensures.last);
 }
 
-pub returns-in-Ok-clause-any_moment : goal.returns-in-Ok-clause-any_moment
-returns-in-Ok-clause-any_moment g c told h whole =
-    archive_leaves whole.file (g.D.Disk.view c.args.self.now.disk) h c.args.self.now.ledger.value whole.keeps whole.counted (g.met.D.Disk.is_true c.args.self.now.disk told) (length h.logs)
-    (g.D.Disk.view c.args.self.now.disk) (g.D.Disk.view c.rename_flushed.new.disk) ((rw c.deref.ensures at c.rename_flushed.ensures.any_moment) told whole.file h whole.keeps whole.counted)
+pub returns-in-Ok-clause-archives : goal.returns-in-Ok-clause-archives
+returns-in-Ok-clause-archives g c told h whole = record {
+  any_moment = archive_leaves whole.file (g.D.Disk.view c.args.self.now.disk) h c.args.self.now.ledger.value whole.keeps whole.counted (g.met.D.Disk.is_true c.args.self.now.disk told) (length h.logs)
+      (g.D.Disk.view c.args.self.now.disk) (g.D.Disk.view c.rename_flushed.new.disk) ((rw c.deref.ensures at c.rename_flushed.ensures.any_moment) told whole.file h whole.keeps whole.counted);
+  names = λ file is. (rw c.deref.ensures at c.rename_flushed.ensures.names) told file h (kept_file c.args.self.now (g.D.Disk.view c.args.self.now.disk) h file is whole) whole.counted;
+  archived =
+      let w = g.D.Disk.view c.rename_flushed.new.disk in
+      let kept = (rw c.deref.ensures at c.in-Ok.ensures.kept) told whole.file h whole.keeps whole.counted in
+      let forgot = (rw c.deref_mut.ensures.value at c.forget_flushed.ensures.counted) h whole.counted in (
+        forgot.0,
+        forgot.1,
+        forgot.2,
+        record {
+          file = whole.file;
+          is = whole.is;
+          keeps = subst (λ (ns : List ℕ). Keeps whole.file w (with_logs h forgot.0) ns) (sym (rw c.deref_mut.ensures.value at c.forget_flushed.ensures.same.next_store))
+              (keeps_those whole.file w h c.args.self.now.ledger.value.next_store kept.0 forgot.0 kept.1 forgot.1 kept.2);
+          counted = forgot.3;
+        },
+      );
+}
 
-pub returns-in-Ok-clause-names : goal.returns-in-Ok-clause-names
-returns-in-Ok-clause-names g c told h file whole is =
-    (rw c.deref.ensures at c.rename_flushed.ensures.names) told file h (kept_file c.args.self.now (g.D.Disk.view c.args.self.now.disk) h file is whole) whole.counted
-
-pub returns-in-Ok-clause-archived : goal.returns-in-Ok-clause-archived
-returns-in-Ok-clause-archived g c told h whole =
-    let w = g.D.Disk.view c.rename_flushed.new.disk in
-    let kept = (rw c.deref.ensures at c.in-Ok.ensures.kept) told whole.file h whole.keeps whole.counted in
-    let forgot = (rw c.deref_mut.ensures.value at c.forget_flushed.ensures.counted) h whole.counted in (
-      forgot.0,
-      forgot.1,
-      forgot.2,
-      record {
-        file = whole.file;
-        is = whole.is;
-        keeps = subst (λ (ns : List ℕ). Keeps whole.file w (with_logs h forgot.0) ns) (sym (rw c.deref_mut.ensures.value at c.forget_flushed.ensures.same.next_store))
-            (keeps_those whole.file w h c.args.self.now.ledger.value.next_store kept.0 forgot.0 kept.1 forgot.1 kept.2);
-        counted = forgot.3;
-      },
-    )
-
-pub returns-in-Err-clause-any_moment : goal.returns-in-Err-clause-any_moment
-returns-in-Err-clause-any_moment g c told h whole =
-    archive_leaves whole.file (g.D.Disk.view c.args.self.now.disk) h c.args.self.now.ledger.value whole.keeps whole.counted (g.met.D.Disk.is_true c.args.self.now.disk told) (length h.logs)
-    (g.D.Disk.view c.args.self.now.disk) (g.D.Disk.view c.rename_flushed.new.disk) ((rw c.deref.ensures at c.rename_flushed.ensures.any_moment) told whole.file h whole.keeps whole.counted)
-
-pub returns-in-Err-clause-names : goal.returns-in-Err-clause-names
-returns-in-Err-clause-names g c told h file whole is =
-    (rw c.deref.ensures at c.rename_flushed.ensures.names) told file h (kept_file c.args.self.now (g.D.Disk.view c.args.self.now.disk) h file is whole) whole.counted
+pub returns-in-Err-clause-archives : goal.returns-in-Err-clause-archives
+returns-in-Err-clause-archives g c told h whole = record {
+  any_moment = archive_leaves whole.file (g.D.Disk.view c.args.self.now.disk) h c.args.self.now.ledger.value whole.keeps whole.counted (g.met.D.Disk.is_true c.args.self.now.disk told) (length h.logs)
+      (g.D.Disk.view c.args.self.now.disk) (g.D.Disk.view c.rename_flushed.new.disk) ((rw c.deref.ensures at c.rename_flushed.ensures.any_moment) told whole.file h whole.keeps whole.counted);
+  names = λ file is. (rw c.deref.ensures at c.rename_flushed.ensures.names) told file h (kept_file c.args.self.now (g.D.Disk.view c.args.self.now.disk) h file is whole) whole.counted;
+  archived = tt;
+}
