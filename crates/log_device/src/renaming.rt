@@ -10,7 +10,7 @@ ghost use Rattle.log_ledger.specs.Counted.{IsCounted, LogsLeft};
 ghost use Rattle.log_device.specs.Bears.{Bears};
 ghost use Rattle.log_device.specs.Keeps.{Keeps, Shows};
 
-use disk_images::{Disk, Failed, Name, NameKind};
+use disk_images::{Disk, Failed, Name, NameKind, rename_durable};
 use log_ledger::Ledger;
 
 /// Renames each closed log that is wholly flushed, the oldest first. It looks at each closed file of the ledger once, makes
@@ -68,5 +68,5 @@ fn rename_log<D: Disk>(disk: &mut D, number: u64) -> Result<(), Failed>
         region: 0,
         number,
     };
-    disk.rename(log, old)
+    rename_durable(disk, log, old)
 }
