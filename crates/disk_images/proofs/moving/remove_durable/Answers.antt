@@ -1,5 +1,5 @@
 use Rattle.std.proofs.Math.Logic.{∥∥₁_map}
-use Rattle.disk_images.proofs.Moving.{removing}
+use Rattle.disk_images.proofs.RenamedOrGone.{removing}
 use Rattle.disk_images.proofs.moving.remove_durable.Goals as goal
 
 pub remove-requires : goal.remove-requires

@@ -1,6 +1,6 @@
 use Rattle.std.proofs.Common.{◌≡◌, ◌⊎◌, inl, inr}
 use Rattle.std.proofs.Math.Logic.{∥∥₁_map, ∥∥₁_elim}
-use Rattle.disk_images.proofs.Moving.{renaming}
+use Rattle.disk_images.proofs.RenamedOrGone.{renaming}
 use Rattle.disk_images.proofs.moving.rename_durable.Goals as goal
 
 pub rename-requires-clause-from : goal.rename-requires-clause-from
@@ -19,9 +19,12 @@ returns-clause-touches g c told =
       gone = renames.gone;
       formerly = λ n m former. elim (renames.formerly n m former) as (λ _. u.formerly n m ⊎ ((n ≡ c.args.to) × (m ≡ c.args.from))) [
         | inl before ↦ inl before
-        | inr new ↦ inr (new.0, elim new.1 as (λ _. m ≡ c.args.from) [
-          | inl is ↦ is
-          | inr once ↦ absurd (∥∥₁_elim (c.requires.durable told) (λ a b. absurd a) (λ r. r.1.unmoved m once))
-        ])
+        | inr new ↦ inr (
+          new.0,
+          elim new.1 as (λ _. m ≡ c.args.from) [
+            | inl is ↦ is
+            | inr once ↦ absurd (∥∥₁_elim (c.requires.durable told) (λ a b. absurd a) (λ r. r.1.unmoved m once))
+          ],
+        )
       ];
     }

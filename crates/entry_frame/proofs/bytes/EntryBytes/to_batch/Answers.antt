@@ -4,7 +4,7 @@ use Rattle.log_model.specs.Entry.{Entry}
 use Rattle.log_model.proofs.FrameLaws.{same_body}
 use Rattle.entry_frame.specs.Spelling.{IsSpelling}
 use Rattle.entry_frame.proofs.SpellingLaws.{spelling_bounds, body_behind}
-use Rattle.entry_frame.proofs.bytes.EntryBytes.to_entry.Goals as goal
+use Rattle.entry_frame.proofs.bytes.EntryBytes.to_batch.Goals as goal
 
 least : (items bytes : List ℕ) → IsSpelling items → bytes ≡ items → 29 ≤ length bytes
 least items bytes h same = omega (arith, (spelling_bounds items h).least, ap length same)
@@ -23,4 +23,4 @@ returns c = λ e is same.
     let found = c.in-Some.ensures in
     let read : Entry = found.0 in
     let one : read ≡ e = same_body read e found.1 is (sym found.3 ∙ body_behind c.deref.result.now e (c.deref.ensures.value ∙ (c.self.view_is ∙ same))) in
-    subst (λ (x : Entry). IfOk c.own_entry.result (λ own. own ≡ x)) one (c.own_entry.ensures read found.1 found.2)
+    subst (λ (x : Entry). IfOk c.own_batch.result (λ own. own ≡ x.cells)) one (c.own_batch.ensures read found.1 found.2)
