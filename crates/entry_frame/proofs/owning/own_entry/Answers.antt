@@ -1,4 +1,4 @@
-use Rattle.std.proofs.Common.{◌≡◌, ◌∙◌, ◌≤◌, List, length, arith, ap, sym, subst}
+use Rattle.std.proofs.Common.{◌≡◌, ◌∙◌, List, length, arith, ap, sym, subst}
 use Rattle.cell_model.specs.Cell.{Cell}
 use Rattle.log_model.specs.Entry.{Entry, IsEntry, frame, entry_frame}
 use Rattle.log_model.proofs.FrameLaws.{length-body}

@@ -1,4 +1,4 @@
-use Rattle.std.proofs.Common.{◌≡◌, ◌∙◌, ◌≤◌, length, ap, arith}
+use Rattle.std.proofs.Common.{◌∙◌, length, ap, arith}
 use Rattle.log_model.specs.Entry.{entry_frame}
 use Rattle.log_model.proofs.FrameLaws.{length-body}
 use Rattle.entry_frame.proofs.entry.Entry.bytes.Goals as goal
