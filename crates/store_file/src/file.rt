@@ -17,10 +17,9 @@ use crate::commit::commit_filled;
 use disk_images::{Disk, Name, create_durably, write_behind};
 use file_base::{DiskFault, FileRefusal};
 use kv_cell::Cell;
+use log_model::CLOSED_GATE;
 use std::alloc::Global;
 use std::marker::Model;
-
-const CLOSED: u8 = 0;
 
 /// A store file that is written: its gate stands closed, and cells go behind it.
 #[derive(Debug, Drop)]
@@ -92,7 +91,7 @@ impl StoreFile {
         ensures cause { HasCause (D.faults disk.old) (D.faults disk.new) (IsErr result) }
     {
         // Until the sync a crash leaves no file, or one of at most this byte, a closed gate: neither is there.
-        create_durably(disk, name, &[CLOSED])?;
+        create_durably(disk, name, &[CLOSED_GATE])?;
         let mut buffer = buffer;
         buffer.add_fields(name.region, from, to, count);
         Ok(StoreFile {
