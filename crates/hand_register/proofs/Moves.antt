@@ -10,7 +10,7 @@ use Rattle.hand_register.specs.declared.known.Record.{Record}
 use Rattle.atomic_table.specs.Seated.{TableId}
 use Rattle.hand_register.specs.Views.{HandView}
 use Rattle.hand_register.specs.Desks.{AreFresh}
-use Rattle.hand_register.specs.Rule.{empty, nobody, hand_of, desk_of, with_one_more, newest, received, sent, handed_back, Fits, Kept, Met, Added, Amended, Marked, changed, said_or, but_last}
+use Rattle.hand_register.specs.Rule.{empty, nobody, desk_of, with_one_more, newest, received, sent, handed_back, Fits, Kept, Met, Added, Amended, Marked, changed, said_or, but_last}
 
 module _ {A : Type 0} where
   pub length-set : (l : List A) (i : ℕ) (a : A) → length (set l i a) ≡ length l

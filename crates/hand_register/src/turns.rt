@@ -1,6 +1,6 @@
 //! How a hand's seat comes to the desk's and goes again.
 
-ghost use Rattle.std.specs.Prelude.{◌≡◌, ◌+◌, ◌-◌, ◌<◌, ◌^◌, [], ◌∷◌, length, true};
+ghost use Rattle.std.specs.Prelude.{◌≡◌, ◌+◌, ◌<◌, ◌^◌, [], ◌∷◌, length, true};
 ghost use Rattle.hand_register.specs.Rule.{empty, desk_of, with_one_more, view_in, received, sent, handed_back};
 
 use crate::hand::Hand;
