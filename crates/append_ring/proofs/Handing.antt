@@ -3,7 +3,7 @@ use Rattle.std.proofs.Common.{◌≡◌, ℕ, zero, suc, ◌+◌, ◌<◌, List,
 use Rattle.std.specs.Prelude.{Option, Some, None, slice_get}
 use Rattle.atomic_table.specs.Seated.{TableId}
 use Rattle.append_ring.specs.declared.pass.RingPass.{RingPass}
-use Rattle.append_ring.specs.Parts.{first_there, without_first, AreOut, AreBack, EachThere, IsNew, AreNewAfter}
+use Rattle.append_ring.specs.Parts.{first_there, without_first, AreOut, ArePlacesBack, EachThere, IsNew, AreNewAfter}
 
 module _ {T : Type 0} (id : TableId) (lasts : List ℕ) where
   -- what `next` gives after n calls, and what it leaves
@@ -29,7 +29,7 @@ module _ {T : Type 0} (id : TableId) (lasts : List ℕ) where
 
 module _ {A : Type 0} (is_so : A → Type 0) where
   -- the place of the next one is empty, and it may come back there
-  pub back_next : (n : ℕ) (places : List (Option A)) (a : A) → AreBack is_so n places → n < length places → is_so a → (slice_get places n ≡ Some None) × AreBack is_so (suc n) (set places n (Some a))
+  pub back_next : (n : ℕ) (places : List (Option A)) (a : A) → ArePlacesBack is_so n places → n < length places → is_so a → (slice_get places n ≡ Some None) × ArePlacesBack is_so (suc n) (set places n (Some a))
   back_next zero [] a back low here = absurd (omega arith)
   back_next zero (None ∷ places) a back low here = (refl, (here, back))
   back_next zero (Some b ∷ places) a back low here = absurd back
@@ -37,7 +37,7 @@ module _ {A : Type 0} (is_so : A → Type 0) where
   back_next (suc n) (None ∷ places) a back low here = absurd back
   back_next (suc n) (Some b ∷ places) a back low here = let r = back_next n places a back.1 (omega arith) here in (r.0, (back.0, r.1))
 
-  pub all_back : (n : ℕ) (places : List (Option A)) → AreBack is_so n places → n ≡ length places → EachThere is_so places
+  pub all_back : (n : ℕ) (places : List (Option A)) → ArePlacesBack is_so n places → n ≡ length places → EachThere is_so places
   all_back zero [] back e = tt
   all_back zero (x ∷ places) back e = absurd (omega (arith, e))
   all_back (suc n) [] back e = absurd back

@@ -9,7 +9,7 @@ use Rattle.std.specs.Prelude.{Option}
 use Rattle.crossbeam_queue.specs.Fifo.{Pushes, Pops, Forks, Merges, Learns}
 use Rattle.crossbeam_queue.proofs.Lists.{at_set}
 use Rattle.append_ring.specs.declared.knows.Knows.{Knows}
-use Rattle.append_ring.specs.Rules.{knows, newcomer, nobody, based, one_more, next_region, compared, HasPushed, base_of, of, Totals, end_of, Follows, IsGood, Runs, Fits, Kept, HasPopped, Possible}
+use Rattle.append_ring.specs.Rules.{knows, new_pass, nobody, based, one_more, next_region, compared, HasPushed, base_of, of, Totals, end_of, Follows, IsGood, Runs, Fits, Kept, HasPopped, Possible}
 use Rattle.append_ring.proofs.Lists.{put, put_same, put_other, at_snoc_end, of-append, of_here, of_else, runs_snoc, runs_mid}
 
 module _ {T : Type 0} (place : T → ℕ) (number : T → Option ℕ) (is_whole : T → Type 0) (in_order : List ℕ → List T → Type 0) (order_empty : (lasts : List ℕ) → in_order lasts []) (order_front : (lasts : List ℕ) (xs ys : List T) → in_order lasts (xs ++ ys) → in_order lasts xs) where
@@ -29,7 +29,7 @@ module _ {T : Type 0} (place : T → ℕ) (number : T → Option ℕ) (is_whole 
   off : false ≡ true → ⊥
   off e = true≢false (sym e)
 
-  pub begins : K [] (newcomer ∷ [])
+  pub begins : K [] (new_pass ∷ [])
   begins = record {
     lasts = [];
     made = 0;
@@ -45,8 +45,8 @@ module _ {T : Type 0} (place : T → ℕ) (number : T → Option ℕ) (is_whole 
     each = one;
   }
     where
-      one : (j : ℕ) (u : V) → get_elem? (newcomer ∷ []) j ≡ some u → Fits place number is_whole in_order [] 0 0 (λ _. 0) (λ _. []) [] j u
-      one zero u e = subst (Fits place number is_whole in_order [] 0 0 (λ _. 0) (λ _. []) [] 0) (some-injective newcomer u e) record { writes = λ no. absurd (no refl); reads = λ _. (refl, refl, refl, refl) }
+      one : (j : ℕ) (u : V) → get_elem? (new_pass ∷ []) j ≡ some u → Fits place number is_whole in_order [] 0 0 (λ _. 0) (λ _. []) [] j u
+      one zero u e = subst (Fits place number is_whole in_order [] 0 0 (λ _. 0) (λ _. []) [] 0) (some-injective new_pass u e) record { writes = λ no. absurd (no refl); reads = λ _. (refl, refl, refl, refl) }
       one (suc j) u e = absurd (some-ne-none u (sym e))
 
   pub pushes : (room pass : ℕ) (v : V) (x : T) → 0 < v.region → v.region ≤ length v.lasts → place x ≡ v.region → is_whole x → in_order v.lasts (v.pushed ++ x ∷ []) → Follows number (end_of number (base_of v.lasts v.region) v.pushed) x

@@ -26,11 +26,11 @@ module _ {A : Type 0} where
   AreOut (suc n) (Some a ∷ places) = ⊥
 
   -- the first n are back, and each is so; the others are handed out
-  abbrev pub AreBack : (A → Type 0) → ℕ → List (Option A) → Type 0
-  AreBack is_so zero places = AreOut (length places) places
-  AreBack is_so (suc n) [] = ⊥
-  AreBack is_so (suc n) (None ∷ places) = ⊥
-  AreBack is_so (suc n) (Some a ∷ places) = is_so a × AreBack is_so n places
+  abbrev pub ArePlacesBack : (A → Type 0) → ℕ → List (Option A) → Type 0
+  ArePlacesBack is_so zero places = AreOut (length places) places
+  ArePlacesBack is_so (suc n) [] = ⊥
+  ArePlacesBack is_so (suc n) (None ∷ places) = ⊥
+  ArePlacesBack is_so (suc n) (Some a ∷ places) = is_so a × ArePlacesBack is_so n places
 
   -- all are there, and each is so
   abbrev pub EachThere : (A → Type 0) → List (Option A) → Type 0

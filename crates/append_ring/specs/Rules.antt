@@ -19,8 +19,8 @@ module _ {T : Type 0} where
   knows r b m ls xs ys = record { region = r; pops = b; made = m; lasts = ls; pushed = xs; popped = ys }
 
   -- the view of the first pass
-  abbrev pub newcomer : Knows T
-  newcomer = knows 0 true 0 [] [] []
+  abbrev pub new_pass : Knows T
+  new_pass = knows 0 true 0 [] [] []
 
   -- the view of a pass that may do nothing
   abbrev pub nobody : Knows T

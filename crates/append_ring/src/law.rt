@@ -10,11 +10,11 @@ pub struct Law<T> {
 }
 
 impl<T: OfRegion> Protocol<T, Knows<T>> for Law<T> {
-    ghost use Rattle.append_ring.specs.Rules.{newcomer, Kept};
+    ghost use Rattle.append_ring.specs.Rules.{new_pass, Kept};
 
     ghost holds = { Kept T.place T.number T.is_whole T.in_order };
 
-    ghost first = { newcomer };
+    ghost first = { new_pass };
 }
 
 /// A push, and what is learned where the ring is full.

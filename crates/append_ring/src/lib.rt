@@ -23,8 +23,3 @@ pub use opening::RingParts;
 pub use pass::{ConsumerPass, RingPass};
 pub use passes::RingPasses;
 pub use ring::{Full, Ring};
-
-#[cfg(test)]
-mod tests;
-#[cfg(test)]
-mod uses;

@@ -1,7 +1,7 @@
 //! How a ring is made.
 ghost use Rattle.std.specs.Prelude.{◌≡◌, ◌+◌, ◌<◌, ◌≤◌, [], length, true, false, IfOk};
 ghost use Rattle.crossbeam_queue.specs.Passes.{view, IsPassOf};
-ghost use Rattle.append_ring.specs.Rules.{knows, newcomer};
+ghost use Rattle.append_ring.specs.Rules.{knows, new_pass};
 ghost use Rattle.append_ring.specs.Parts.{AreNew};
 
 use crate::item::OfRegion;
@@ -28,7 +28,7 @@ pub struct RingParts<T: OfRegion> {
 // Lets the first pass know the bases.
 fn opened<T: OfRegion, B: Bases>(queue: &Queue<T>, pass: &mut Pass<T, Knows<T>>, lasts: &[u64])
     requires bases { lasts.now ≡ B.lasts }
-    requires pass { IsPassOf queue.now pass.old × (view pass.old ≡ newcomer) }
+    requires pass { IsPassOf queue.now pass.old × (view pass.old ≡ new_pass) }
     ensures { IsPassOf queue.now pass.new × (view pass.new ≡ knows 0 true 0 lasts.now [] []) }
 {
     let _ = lasts;

@@ -5,7 +5,7 @@ use Rattle.log_model.specs.LogText.{IsDamaged}
 use Rattle.log_model.specs.Files.{Files, Reads, key_of, size_of}
 use Rattle.disk_images.specs.Crash.{DiskView}
 use Rattle.disk_images.specs.Calls.{Looks}
-use Rattle.log_file.specs.Looking.{OnlyLooks}
+use Rattle.file_base.specs.Looking.{OnlyLooks}
 use Rattle.script_model.specs.Outputs.{refused_memory, refused_disk}
 use Rattle.command_ends.specs.Invocation.{invocation, IsUnchanged, KeepsImages, taken_of}
 use Rattle.command_ends.specs.Prints.{Prints}

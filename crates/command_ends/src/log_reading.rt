@@ -3,7 +3,7 @@
 ghost use Rattle.std.specs.Prelude.{◌≡◌, ◌+◌, ℕ, List, length, IsTrue, IfOk, IfErr, IsErrOf, MatchOption};
 ghost use Rattle.log_model.specs.Files.{IsAbsent, Reads};
 ghost use Rattle.disk_images.specs.Calls.{HasCause};
-ghost use Rattle.log_file.specs.Looking.{OnlyLooks};
+ghost use Rattle.file_base.specs.Looking.{OnlyLooks};
 ghost use Rattle.command_ends.specs.Invocation.{IsUnchanged, KeepsImages};
 ghost use Rattle.command_ends.specs.LogFiles.{IsFound, IsDamagedLog, IsLogDamage, IsLogRefusal, ReportsDamage};
 ghost use Rattle.command_ends.specs.Status.{IsDamageOf};

@@ -1,7 +1,10 @@
 //! Trials of a device on a disk in memory that tells what it holds: worked files, faults of each disk call, crashes at
-//! each moment, ample memory. A library of tests alone, at the top, so that no crate waits for it.
+//! each moment, ample memory; and of its numbers over time, without a disk: accounting and ledger. A library of tests
+//! alone, at the top, so that no crate waits for it.
 #![tactic(auto)]
 
+#[cfg(test)]
+mod accounts;
 #[cfg(test)]
 mod bench;
 #[cfg(test)]
@@ -10,6 +13,8 @@ mod entries;
 mod faults;
 #[cfg(test)]
 mod image;
+#[cfg(test)]
+mod ledgers;
 #[cfg(test)]
 mod script;
 #[cfg(test)]

@@ -1,5 +1,5 @@
 -- What a disk with fixed room tells.
-use Rattle.std.specs.Prelude.{◌≡◌, ◌≤◌, ◌<◌, ◌+◌, ℕ, List, [], ◌∷◌, ◌++◌, vec_len, vec_capacity}
+use Rattle.std.specs.Prelude.{◌≡◌, ◌≤◌, ◌+◌, ℕ, List, [], ◌∷◌, ◌++◌, length, vec_len, vec_capacity}
 use Rattle.log_model.specs.Files.{Files}
 use Rattle.disk_images.specs.Crash.{DiskView}
 use Rattle.disk_fakes.specs.declared.safe_call.SafeCall.{SafeCall}
@@ -15,13 +15,18 @@ safe_files disk = files_after disk.arena.items no_files disk.calls.items
 abbrev pub disk_faults : SafeDisk → ℕ
 disk_faults disk = disk.faults
 
--- one call more with so many bytes fits
-pub record HasRoom (disk : SafeDisk) (bytes : ℕ) : Type 0 where
-  pub call : vec_len disk.calls < vec_capacity disk.calls
+-- so many calls more, with so many bytes in all, fit
+pub record HasRoom (disk : SafeDisk) (calls bytes : ℕ) : Type 0 where
+  pub calls_fit : vec_len disk.calls + calls ≤ vec_capacity disk.calls
   pub bytes_fit : vec_len disk.arena + bytes ≤ vec_capacity disk.arena
+
+-- a call took no more of the room than so many calls and bytes: what there was beyond them is left
+abbrev pub TakesAtMost : ℕ → ℕ → SafeDisk → SafeDisk → Type 0
+TakesAtMost calls bytes old new = (more_calls more_bytes : ℕ) → HasRoom old (calls + more_calls) (bytes + more_bytes) → HasRoom new more_calls more_bytes
 
 -- one call more, with these bytes
 pub record Noted (call : SafeCall) (bytes : List ℕ) (old new : SafeDisk) : Type 0 where
+  pub room : TakesAtMost 1 (length bytes) old new
   pub calls : new.calls.items ≡ old.calls.items ++ call ∷ []
   pub arena : new.arena.items ≡ old.arena.items ++ bytes
   pub faults : new.faults ≡ old.faults

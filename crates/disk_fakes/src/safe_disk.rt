@@ -41,7 +41,7 @@ impl SafeDisk {
         ensures quiet { IfOk result (λ disk. IsQuiet (safe_view disk)) }
         ensures clock { IfOk result (λ disk. (safe_view disk).clock ≡ 0) }
         ensures faults { IfOk result (λ disk. disk_faults disk ≡ 0) }
-        ensures room { (bytes : ℕ) → 0 < capacity → bytes ≤ capacity → IfOk result (λ disk. HasRoom disk bytes) }
+        ensures room { (calls bytes : ℕ) → calls ≤ capacity → bytes ≤ capacity → IfOk result (λ disk. HasRoom disk calls bytes) }
     {
         Ok(SafeDisk {
             calls: Vec::with_capacity(alloc, capacity)?,
@@ -61,8 +61,8 @@ impl SafeDisk {
     }
 
     fn has_room(&self, bytes: usize) -> bool
-        ensures room { IsTrue result → HasRoom self.now bytes }
-        ensures full { HasRoom self.now bytes → IsTrue result }
+        ensures room { IsTrue result → HasRoom self.now 1 bytes }
+        ensures full { HasRoom self.now 1 bytes → IsTrue result }
     {
         self.calls.len() < self.calls.capacity()
             && bytes <= self.arena.capacity() - self.arena.len()
@@ -70,7 +70,7 @@ impl SafeDisk {
 
     /// Keeps a call and its bytes, for which there is room.
     fn note(&mut self, call: SafeCall, bytes: &[u8])
-        requires room { HasRoom self.old (length bytes.now) }
+        requires room { HasRoom self.old 1 (length bytes.now) }
         requires met { Met (self.old.arena.items ++ bytes.now) (safe_files self.old) call }
         ensures { Noted call bytes.now self.old self.new }
     {
@@ -154,7 +154,9 @@ impl SafeDisk {
 /// Adds bytes, for which there is room.
 fn keep(arena: &mut Vec<u8>, bytes: &[u8])
     requires { vec_len arena.old + length bytes.now ≤ vec_capacity arena.old }
-    ensures { arena.new.items ≡ arena.old.items ++ bytes.now }
+    ensures items { arena.new.items ≡ arena.old.items ++ bytes.now }
+    ensures len { vec_len arena.new ≡ vec_len arena.old + length bytes.now }
+    ensures capacity { vec_capacity arena.old ≤ vec_capacity arena.new }
 {
     match arena.extend_from_slice(bytes) {
         Ok(()) => {}
@@ -168,7 +170,7 @@ impl Disk for SafeDisk {
     ghost use Rattle.log_model.specs.Files.{IsAbsent, Reads, IsName, content, size_of};
     ghost use Rattle.disk_images.specs.Calls.{HasCause, Looks, Creates, Writes, Syncs, Renames, Removes, Settles};
     ghost use Rattle.disk_fakes.specs.SafeLaws.{safe_is_true};
-    ghost use Rattle.disk_fakes.specs.SafeViews.{safe_view, safe_files, disk_faults, HasRoom};
+    ghost use Rattle.disk_fakes.specs.SafeViews.{safe_view, safe_files, disk_faults, HasRoom, TakesAtMost};
 
     ghost told = { true };
 
@@ -182,7 +184,7 @@ impl Disk for SafeDisk {
         ensures names { IfOk result (λ names. names ≡ keys (safe_view self.old).files) }
         ensures looks { Looks (safe_view self.old) (safe_view self.new) }
         ensures cause { HasCause (disk_faults self.old) (disk_faults self.new) (IsErrOf result NamesError.Failed) }
-        ensures calm { disk_faults self.new ≡ disk_faults self.old }
+        ensures same { self.new ≡ self.old }
     {
         let Ok(table) = self.replayed(alloc) else {
             return Err(NamesError::Memory);
@@ -197,7 +199,7 @@ impl Disk for SafeDisk {
         ensures size { IfOk result (λ size. size ≡ size_of (content (safe_view self.old).files name)) }
         ensures looks { Looks (safe_view self.old) (safe_view self.new) }
         ensures cause { HasCause (disk_faults self.old) (disk_faults self.new) (IsErr result) }
-        ensures calm { disk_faults self.new ≡ disk_faults self.old }
+        ensures same { self.new ≡ self.old }
     {
         Ok(self.size_of(name))
     }
@@ -209,7 +211,7 @@ impl Disk for SafeDisk {
         ensures bytes { (c : List ℕ) → Reads (safe_view self.old).files name c → IfOk result (λ n. into.new ≡ take n (drop at c) ++ drop n into.old) }
         ensures looks { Looks (safe_view self.old) (safe_view self.new) }
         ensures cause { HasCause (disk_faults self.old) (disk_faults self.new) (IsErr result) }
-        ensures calm { disk_faults self.new ≡ disk_faults self.old }
+        ensures same { self.new ≡ self.old }
     {
         Ok(self.read_from(name, at, into))
     }
@@ -219,7 +221,8 @@ impl Disk for SafeDisk {
         requires named { IsName name }
         ensures creates { Creates name result (safe_view self.old) (safe_view self.new) }
         ensures cause { HasCause (disk_faults self.old) (disk_faults self.new) (IsErr result) }
-        ensures calm { HasRoom self.old 0 → disk_faults self.new ≡ disk_faults self.old }
+        ensures calm { HasRoom self.old 1 0 → disk_faults self.new ≡ disk_faults self.old }
+        ensures room { TakesAtMost 1 0 self.old self.new }
     {
         if !self.has_room(0) {
             return Err(self.fault());
@@ -234,7 +237,8 @@ impl Disk for SafeDisk {
         ensures fits { OnOk result (at + length bytes.now < 2 ^ 63) }
         ensures writes { Writes name at bytes.now result (safe_view self.old) (safe_view self.new) }
         ensures cause { HasCause (disk_faults self.old) (disk_faults self.new) (IsErr result) }
-        ensures calm { HasRoom self.old (length bytes.now) → at + length bytes.now < 2 ^ 63 → disk_faults self.new ≡ disk_faults self.old }
+        ensures calm { HasRoom self.old 1 (length bytes.now) → at + length bytes.now < 2 ^ 63 → disk_faults self.new ≡ disk_faults self.old }
+        ensures room { TakesAtMost 1 (length bytes.now) self.old self.new }
     {
         if at >= LIMIT || bytes.len() as u64 >= LIMIT - at {
             return Err(self.fault());
@@ -251,7 +255,7 @@ impl Disk for SafeDisk {
         requires { ∥ ((c : List ℕ) × Reads (safe_view self.old).files name c) ∥₁ }
         ensures syncs { Syncs name result (safe_view self.old) (safe_view self.new) }
         ensures cause { HasCause (disk_faults self.old) (disk_faults self.new) (IsErr result) }
-        ensures calm { disk_faults self.new ≡ disk_faults self.old }
+        ensures same { self.new ≡ self.old }
     {
         Ok(())
     }
@@ -262,7 +266,8 @@ impl Disk for SafeDisk {
         requires named { IsName to }
         ensures renames { Renames from to result (safe_view self.old) (safe_view self.new) }
         ensures cause { HasCause (disk_faults self.old) (disk_faults self.new) (IsErr result) }
-        ensures calm { HasRoom self.old 0 → disk_faults self.new ≡ disk_faults self.old }
+        ensures calm { HasRoom self.old 1 0 → disk_faults self.new ≡ disk_faults self.old }
+        ensures room { TakesAtMost 1 0 self.old self.new }
     {
         if !self.has_room(0) {
             return Err(self.fault());
@@ -275,7 +280,8 @@ impl Disk for SafeDisk {
         requires { ∥ ((c : List ℕ) × Reads (safe_view self.old).files name c) ∥₁ }
         ensures removes { Removes name result (safe_view self.old) (safe_view self.new) }
         ensures cause { HasCause (disk_faults self.old) (disk_faults self.new) (IsErr result) }
-        ensures calm { HasRoom self.old 0 → disk_faults self.new ≡ disk_faults self.old }
+        ensures calm { HasRoom self.old 1 0 → disk_faults self.new ≡ disk_faults self.old }
+        ensures room { TakesAtMost 1 0 self.old self.new }
     {
         if !self.has_room(0) {
             return Err(self.fault());
@@ -287,7 +293,7 @@ impl Disk for SafeDisk {
     fn settle(&mut self) -> Result<(), Failed>
         ensures settles { Settles result (safe_view self.old) (safe_view self.new) }
         ensures cause { HasCause (disk_faults self.old) (disk_faults self.new) (IsErr result) }
-        ensures calm { disk_faults self.new ≡ disk_faults self.old }
+        ensures same { self.new ≡ self.old }
     {
         Ok(())
     }

@@ -1,5 +1,6 @@
--- A gate: one byte of a file that stands closed until what is behind it is durable. It is open if it is 165.
+-- A gate: one byte of a file that stands closed until what is behind it is durable. It is open if it is OPEN_GATE.
 use Rattle.std.specs.Prelude.{◌≡◌, ◌≢◌, ◌⊎◌, ◌≤◌, ℕ, List, length, ◌∷◌, ◌++◌, Option, Some}
+use Rattle.log_model.specs.declared.format.TheConstants.{OPEN_GATE}
 use Rattle.log_model.specs.declared.name.Name.{Name}
 use Rattle.log_model.specs.Files.{Files, content, Reads}
 use Rattle.disk_images.specs.Crash.{DiskView, IsImageNow}
@@ -9,12 +10,12 @@ use Rattle.disk_images.specs.OneFile.{IsUnmoved}
 pub record IsShut (front text : List ℕ) : Type 0 where
   pub gate : ℕ
   pub rest : List ℕ
-  pub shut : gate ≢ 165
+  pub shut : gate ≢ OPEN_GATE
   pub is : text ≡ front ++ gate ∷ rest
 
 -- in an image the gate behind this front is closed, or open with these bytes behind it
 abbrev pub ClosedOrOpen : List ℕ → List ℕ → Option (List ℕ) → Type 0
-ClosedOrOpen front behind image = (text : List ℕ) × (image ≡ Some text) × (IsShut front text ⊎ (text ≡ front ++ 165 ∷ behind))
+ClosedOrOpen front behind image = (text : List ℕ) × (image ≡ Some text) × (IsShut front text ⊎ (text ≡ front ++ OPEN_GATE ∷ behind))
 
 -- in an image the file begins with this
 abbrev pub IsFronted : List ℕ → Option (List ℕ) → Type 0

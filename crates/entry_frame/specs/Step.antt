@@ -1,5 +1,6 @@
 -- What a reader finds in bytes of which more may come.
 use Rattle.std.specs.Prelude.{◌≡◌, ℕ, ◌<◌, List, [], ◌∷◌, ◌++◌, length, drop, Some, None}
+use Rattle.log_model.specs.declared.format.TheConstants.{OPEN_GATE}
 use Rattle.log_model.specs.Entry.{Entry, IsEntry, entry_frame, end_frame}
 use Rattle.log_model.specs.LogText.{FileKey, IsEntryOf, IsClosed, Ends, opened, IsLogText, IsDamaged}
 use Rattle.log_model.specs.Frame.{IsStop}
@@ -19,7 +20,7 @@ abbrev pub IsAtGate : FileKey → ℕ → ℕ → List ℕ → Step → Type 0
 IsAtGate key count at bytes (steps.Entry entry used) = (e : Entry) × IsEntryOf key e × IsRefOf entry e × (used < length bytes) × (bytes ≡ opened (entry_frame e) ++ drop used bytes)
 IsAtGate key count at bytes (steps.Ended told) = (more : List ℕ) → Ends count (bytes ++ more) told
 IsAtGate key count at bytes (steps.Damaged place) = (place ≡ at) × ((more : List ℕ) → IsDead key count (bytes ++ more))
-IsAtGate key count at bytes (steps.Wait None) = bytes ≡ 165 ∷ []
+IsAtGate key count at bytes (steps.Wait None) = bytes ≡ OPEN_GATE ∷ []
 IsAtGate key count at bytes (steps.Wait (Some place)) = (place ≡ at) × IsDead key count bytes
 
 -- what comes next of a file that was fed so

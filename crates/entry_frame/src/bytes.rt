@@ -4,11 +4,10 @@ ghost use Rattle.std.specs.Prelude.{◌≡◌, ◌≤◌, ◌<◌, ◌^◌, leng
 ghost use Rattle.log_model.specs.Entry.{Entry as TheEntry, IsEntry, entry_frame};
 ghost use Rattle.entry_frame.specs.Spelling.{IsSpelling, renumbered};
 
-use crate::entry::Entry;
-use crate::owning::own_entry;
+use crate::owning::own_batch;
 use crate::reading::entry_in;
 use byteorder::{BigEndian, ByteOrder};
-use kv_cell::NoMemory;
+use kv_cell::{Batch, NoMemory};
 use std::alloc::Global;
 use std::marker::Model;
 
@@ -55,12 +54,12 @@ impl EntryBytes {
         self.bytes.as_slice()
     }
 
-    /// The entry that these bytes spell, with cells of its own.
-    pub fn to_entry(&self, alloc: Global) -> Result<Entry, NoMemory>
-        ensures { (e : TheEntry) → IsEntry e → self.now ≡ entry_frame e → IfOk result (λ own. own ≡ e) }
+    /// The cells of the entry that these bytes spell, copied.
+    pub fn to_batch(&self, alloc: Global) -> Result<Batch, NoMemory>
+        ensures { (e : TheEntry) → IsEntry e → self.now ≡ entry_frame e → IfOk result (λ own. own ≡ e.cells) }
     {
         match entry_in(&self.bytes[5..]) {
-            Some(entry) => own_entry(alloc, &entry),
+            Some(entry) => own_batch(alloc, &entry),
             None => unreachable!(),
         }
     }

@@ -13,6 +13,7 @@ use crate::phase::FileKey;
 use crate::reading::next_frame;
 use byteorder::{BigEndian, ByteOrder};
 use kv_cell::u32_at;
+use log_model::OPEN_GATE;
 
 /// What a reader does next.
 #[derive(Debug, Drop)]
@@ -76,7 +77,7 @@ fn step_at_gate(file: FileKey, count: u64, at: u64, bytes: &[u8]) -> Step<'_>
     requires { 0 < length bytes.now }
     ensures { IsAtGate (key_of file) count at bytes.now result }
 {
-    if bytes[0] != 0xA5 {
+    if bytes[0] != OPEN_GATE {
         return Step::Ended(None);
     }
     if bytes.len() < 7 {
@@ -94,7 +95,7 @@ fn step_at_gate(file: FileKey, count: u64, at: u64, bytes: &[u8]) -> Step<'_>
 
 /// The same where a whole frame and its next gate are there.
 fn step_at_frame(file: FileKey, count: u64, at: u64, bytes: &[u8]) -> Step<'_>
-    requires gate { slice_index bytes.now 0 ≡ 165 }
+    requires gate { slice_index bytes.now 0 ≡ OPEN_GATE }
     requires whole { 7 + number_at 2 4 bytes.now ≤ length bytes.now }
     ensures { IsAtGate (key_of file) count at bytes.now result }
 {

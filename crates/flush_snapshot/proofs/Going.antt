@@ -7,8 +7,8 @@ use Rattle.disk_images.specs.OneFile.{Touches}
 use Rattle.disk_images.proofs.Moments.{more_time}
 use Rattle.disk_images.proofs.Torn.{then_only}
 use Rattle.recovery.specs.Kept.{IsNotThere}
-use Rattle.store_file.specs.Open.{OpenStore, IsFilling}
-use Rattle.store_file.proofs.Writing.{IsAlike, still_shut}
+use Rattle.store_file.specs.Open.{OpenStore, IsAlike, IsFilling}
+use Rattle.store_file.proofs.Writing.{still_shut}
 
 -- so many of the rows are put in, by at most as many calls
 pub record Going (told : Type 0) (begun o : OpenStore) (first now : DiskView) (rows : List NumberedCell) (count : ℕ) : Type 0 where

@@ -1,17 +1,17 @@
 -- Each moment of writing a cut, from those of its parts.
 use Rattle.std.proofs.Common.{◌≡◌, ℕ, ◌+◌, ◌≤◌, List, length, sym, ap, ◌∙◌, subst, arith}
-use Rattle.cell_model.specs.Order.{NumberedCell}
+use Rattle.cell_model.specs.Order.{NumberedCell, Content, cells_of}
 use Rattle.log_model.specs.declared.name.Name.{Name}
 use Rattle.log_model.specs.StoreText.{Store, IsStore, store_text}
 use Rattle.disk_images.specs.Crash.{DiskView, IsInNoImage, Throughout, OnlyAt}
 use Rattle.disk_images.proofs.Moments.{more_time}
 use Rattle.disk_images.proofs.Torn.{then_only}
 use Rattle.recovery.specs.Kept.{IsNotThere}
-use Rattle.store_file.specs.Open.{OpenStore, IsFilling, store_of}
+use Rattle.store_file.specs.Open.{OpenStore, IsAlike, IsFilling, store_of}
 use Rattle.store_file.specs.Whole.{IsWholeOrNot}
 use Rattle.store_file.proofs.Stores.{not_begun, or_whole}
-use Rattle.store_file.proofs.Writing.{IsAlike, same_store}
-use Rattle.flush_snapshot.specs.Cut.{ordered_cells, cut_store}
+use Rattle.store_file.proofs.Writing.{same_store}
+use Rattle.flush_snapshot.specs.Cut.{segment_store}
 
 -- the calls left it not there
 pub filled_moments : (name : Name) (text : List ℕ) (m n : ℕ) (u v : DiskView) → m ≤ n → Throughout (OnlyAt name IsNotThere u) m u v → Throughout (OnlyAt name (IsWholeOrNot text) u) n u v
@@ -34,27 +34,27 @@ rows_moments o now u v w rows same whole count filling first second =
     (subst (λ (n : Name). Throughout (OnlyAt n (IsWholeOrNot (store_text (store_of o rows))) v) 4 v w) same.name
     (subst (λ (s : Store). Throughout (OnlyAt now.name (IsWholeOrNot (store_text s)) v) 4 v w) is over))
 
--- the store of a cut, as it was begun with these rows
-pub record IsOfCut (o : OpenStore) (rows : List NumberedCell) (name : Name) (from to : ℕ) (cut : List NumberedCell) : Type 0 where
+-- the store of a segment, as it was begun with these rows
+pub record IsOfSegment (o : OpenStore) (rows : List NumberedCell) (name : Name) (from to : ℕ) (segment : Content) : Type 0 where
   pub name_is : o.name ≡ name
   pub from_is : o.from ≡ from
   pub to_is : o.to ≡ to
-  pub rows_are : rows ≡ ordered_cells cut
+  pub rows_are : rows ≡ cells_of segment
 
-pub same_cut : (o : OpenStore) (rows : List NumberedCell) (name : Name) (from to : ℕ) (cut : List NumberedCell) → IsOfCut o rows name from to cut → store_of o rows ≡ cut_store name from to cut
-same_cut o rows name from to cut of =
+pub same_segment : (o : OpenStore) (rows : List NumberedCell) (name : Name) (from to : ℕ) (segment : Content) → IsOfSegment o rows name from to segment → store_of o rows ≡ segment_store name from to segment
+same_segment o rows name from to segment of =
     let store : ℕ → ℕ → ℕ → List NumberedCell → Store = λ region first last cells. record { region = region; from = first; to = last; cells = cells } in
     ap (λ (n : Name). store n.region o.from o.to rows) of.name_is ∙ ap (λ (n : ℕ). store name.region n o.to rows) of.from_is ∙ ap (λ (n : ℕ). store name.region from n rows) of.to_is
     ∙ ap (λ (l : List NumberedCell). store name.region from to l) of.rows_are
 
-pub cut_moments : (o : OpenStore) (rows : List NumberedCell) (name : Name) (from to : ℕ) (cut : List NumberedCell) (u v w : DiskView) → IsOfCut o rows name from to cut → Throughout (OnlyAt name IsNotThere u) 3 u v
+pub segment_moments : (o : OpenStore) (rows : List NumberedCell) (name : Name) (from to : ℕ) (segment : Content) (u v w : DiskView) → IsOfSegment o rows name from to segment → Throughout (OnlyAt name IsNotThere u) 3 u v
     → Throughout (OnlyAt o.name (IsWholeOrNot (store_text (store_of o rows))) v) (length rows + 4) v w
-    → Throughout (OnlyAt name (IsWholeOrNot (store_text (cut_store name from to cut))) u) (7 + length (ordered_cells cut)) u w
-cut_moments o rows name from to cut u v w of first second =
-    let text : List ℕ = store_text (cut_store name from to cut) in
-    let over = subst (λ (s : Store). Throughout (OnlyAt name (IsWholeOrNot (store_text s)) v) (length rows + 4) v w) (same_cut o rows name from to cut of)
+    → Throughout (OnlyAt name (IsWholeOrNot (store_text (segment_store name from to segment))) u) (7 + length (cells_of segment)) u w
+segment_moments o rows name from to segment u v w of first second =
+    let text : List ℕ = store_text (segment_store name from to segment) in
+    let over = subst (λ (s : Store). Throughout (OnlyAt name (IsWholeOrNot (store_text s)) v) (length rows + 4) v w) (same_segment o rows name from to segment of)
     (subst (λ (n : Name). Throughout (OnlyAt n (IsWholeOrNot (store_text (store_of o rows))) v) (length rows + 4) v w) of.name_is second) in
-    more_time (OnlyAt name (IsWholeOrNot text) u) (3 + (length rows + 4)) (7 + length (ordered_cells cut)) u w (omega (arith, ap length of.rows_are))
+    more_time (OnlyAt name (IsWholeOrNot text) u) (3 + (length rows + 4)) (7 + length (cells_of segment)) u w (omega (arith, ap length of.rows_are))
     (committed_moments name text 3 (length rows + 4) u v w first over)
 
 -- nothing is begun

@@ -2,7 +2,7 @@
 use Rattle.std.specs.Prelude.{◌≤◌, ℕ, List}
 use Rattle.std.specs.List.{AllByRecursion}
 use Rattle.std.specs.FinMap.{empty}
-use Rattle.cell_model.specs.Order.{NumberedCell, cells_of}
+use Rattle.cell_model.specs.Order.{Content, NumberedCell, cells_of}
 use Rattle.cell_model.specs.Merge.{put_numbered}
 use Rattle.log_model.specs.declared.name.Name.{Name}
 use Rattle.log_model.specs.StoreText.{Store}
@@ -11,8 +11,12 @@ use Rattle.log_model.specs.StoreText.{Store}
 abbrev pub ordered_cells : List NumberedCell → List NumberedCell
 ordered_cells cut = cells_of (put_numbered empty cut)
 
+-- the store of a segment's cells
+abbrev pub segment_store : Name → ℕ → ℕ → Content → Store
+segment_store name from to segment = record { region = name.region; from = from; to = to; cells = cells_of segment }
+
 abbrev pub cut_store : Name → ℕ → ℕ → List NumberedCell → Store
-cut_store name from to cut = record { region = name.region; from = from; to = to; cells = ordered_cells cut }
+cut_store name from to cut = segment_store name from to (put_numbered empty cut)
 
 -- each cell's sequence id lies between these
 abbrev pub IsWithin : ℕ → ℕ → List NumberedCell → Type 0

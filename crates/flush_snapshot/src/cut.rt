@@ -2,6 +2,7 @@
 
 ghost use Rattle.std.specs.Prelude.{◌≡◌, ◌≤◌, ◌<◌, ◌+◌, ◌^◌, ℕ, length, IsTrue, IfOk, OnOk, IsErrOf};
 ghost use Rattle.std.specs.FinMap.{empty};
+ghost use Rattle.cell_model.specs.Order.{cells_of};
 ghost use Rattle.cell_model.specs.Merge.{put_numbered};
 ghost use Rattle.log_model.specs.declared.name.NameKind.TheVariants as kinds;
 ghost use Rattle.log_model.specs.Files.{IsAbsent};
@@ -10,7 +11,7 @@ ghost use Rattle.disk_images.specs.Crash.{Throughout, OnlyAt};
 ghost use Rattle.disk_images.specs.OneFile.{Touches, IsDurableFile};
 ghost use Rattle.disk_images.specs.Calls.{HasCause};
 ghost use Rattle.store_file.specs.Whole.{IsWholeOrNot};
-ghost use Rattle.flush_snapshot.specs.Cut.{cut_store, ordered_cells, IsWithin};
+ghost use Rattle.flush_snapshot.specs.Cut.{cut_store, segment_store, ordered_cells, IsWithin};
 
 use crate::filling::write_rows;
 use disk_images::{Disk, Name};
@@ -78,9 +79,38 @@ pub fn store_cut<D: Disk>(
     ensures cause { HasCause (D.faults disk.old) (D.faults disk.new) (IsErrOf result FileRefusal.DiskFault) }
 {
     let segment = Segment::of_cells(alloc, cut)?;
+    write_segment(alloc, disk, name, from, to, &segment)?;
+    Ok(segment)
+}
+
+/// Writes the cells of a segment, whose sequence ids lie from `from` to `to`, as one store file whose name is neither there
+/// nor gone. They are in order already. Memory is taken before the first disk call.
+pub fn write_segment<D: Disk>(
+    alloc: Global,
+    disk: &mut D,
+    name: Name,
+    from: u64,
+    to: u64,
+    segment: &Segment,
+) -> Result<(), FileRefusal>
+    requires absent { IsTrue D.told → IsAbsent (D.view disk.old).files name × (¬ (D.view disk.old).gone name) }
+    requires kind { name.kind ≡ kinds.Store }
+    requires range { (1 ≤ from) × (from ≤ to) × (to < 2 ^ 48) }
+    requires store { IsStore (segment_store name from to segment.now) }
+
+    ensures stored { IsTrue D.told → OnOk result (IsDurableFile (D.view disk.new) name (store_text (segment_store name from to segment.now))) }
+
+    // At each moment each image of the file isn't there, or is the whole store.
+    ensures any_moment { IsTrue D.told
+        → Throughout (OnlyAt name (IsWholeOrNot (store_text (segment_store name from to segment.now))) (D.view disk.old))
+        (7 + length (cells_of segment.now)) (D.view disk.old) (D.view disk.new) }
+    ensures touches { IsTrue D.told → Touches name (D.view disk.old) (D.view disk.new) }
+    ensures memory { IsErrOf result FileRefusal.Memory → disk.new ≡ disk.old }
+    ensures cause { HasCause (D.faults disk.old) (D.faults disk.new) (IsErrOf result FileRefusal.DiskFault) }
+{
     let rows = segment.rows();
     let count = rows.len() as u64;
     let store = StoreFile::begin(alloc, disk, name, from, to, count)?;
     write_rows(disk, store, rows)?;
-    Ok(segment)
+    Ok(())
 }

@@ -7,7 +7,7 @@ ghost use Rattle.disk_images.specs.Crash.{Throughout, OnlyAt};
 ghost use Rattle.disk_images.specs.OneFile.{Touches, IsDurableFile};
 ghost use Rattle.disk_images.specs.Calls.{HasCause};
 ghost use Rattle.recovery.specs.Kept.{IsNotThere};
-ghost use Rattle.store_file.specs.Open.{IsFilling, store_of};
+ghost use Rattle.store_file.specs.Open.{IsAlike, IsFilling, store_of};
 ghost use Rattle.store_file.specs.Whole.{IsWholeOrNot};
 
 use disk_images::Disk;
@@ -43,8 +43,7 @@ fn fill_rows<D: Disk>(disk: &mut D, store: &mut StoreFile, rows: &[Row]) -> Resu
 
     ensures filled { IsTrue D.told → OnOk result (IsFilling store.new (D.view disk.new) rows.now) }
     ensures any_moment { IsTrue D.told → Throughout (OnlyAt store.old.name IsNotThere (D.view disk.old)) (length rows.now) (D.view disk.old) (D.view disk.new) }
-    ensures shape { (store.new.name ≡ store.old.name) × (store.new.from ≡ store.old.from) × (store.new.to ≡ store.old.to)
-        × (store.new.count ≡ store.old.count) }
+    ensures shape { IsAlike store.old store.new }
     ensures counted { OnOk result (store.new.filled ≡ store.old.filled + length rows.now) }
     ensures touches { IsTrue D.told → Touches store.old.name (D.view disk.old) (D.view disk.new) }
     ensures cause { HasCause (D.faults disk.old) (D.faults disk.new) (IsErr result) }

@@ -7,7 +7,7 @@ use Rattle.disk_images.specs.Crash.{DiskView}
 use Rattle.disk_images.specs.Settled.{Watches}
 use Rattle.disk_images.proofs.Reading.{reads_some}
 use Rattle.disk_images.proofs.Watching.{watches_none, watches_joined}
-use Rattle.log_file.specs.Looking.{OnlyLooks}
+use Rattle.file_base.specs.Looking.{OnlyLooks}
 use Rattle.found_files.specs.Watching.{OnlyWatches}
 
 watches_of : (n : ℕ) (v w : DiskView) → OnlyLooks n v w → Watches n v w

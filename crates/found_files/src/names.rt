@@ -5,13 +5,11 @@ ghost use Rattle.log_model.specs.declared.name.Name.{Name as TheName};
 ghost use Rattle.found_files.specs.Names.{AreOldNumbers, HasOld, IsBadAmong, IsInOrder};
 
 use kv_cell::NoMemory;
-use log_model::{Name, NameKind};
+use log_model::{Name, NameKind, REGIONS};
 use std::alloc::Global;
 
 /// The greatest number of a name.
 const LAST_NUMBER: u64 = 0x4000_0000_0000_0000;
-
-const LAST_REGION: u32 = 64;
 
 /// The numbers of the old logs among these names, in order.
 pub(crate) fn old_numbers(alloc: Global, names: &[Name]) -> Result<Vec<u64>, NoMemory>
@@ -58,7 +56,7 @@ pub(crate) fn is_bad(name: Name, olds: &[u64]) -> bool
     match name.kind {
         NameKind::Log => has_number(olds, name.number),
         NameKind::Old => false,
-        NameKind::Store | NameKind::Edits => name.region == 0 || name.region > LAST_REGION,
+        NameKind::Store | NameKind::Edits => name.region == 0 || name.region > REGIONS,
     }
 }
 

@@ -8,9 +8,9 @@ use Rattle.atomic_table.proofs.Lists.{at_set, set_here, set_else, set_again, at_
 use Rattle.hand_register.specs.declared.known.Known.{Known}
 use Rattle.hand_register.specs.declared.known.Record.{Record}
 use Rattle.atomic_table.specs.Seated.{TableId}
-use Rattle.hand_register.specs.declared.hand.Hand.{Hand}
+use Rattle.hand_register.specs.Views.{HandView}
 use Rattle.hand_register.specs.Desks.{AreFresh}
-use Rattle.hand_register.specs.Rule.{empty, view_in, nobody, hand_of, desk_of, with_one_more, newest, received, sent, handed_back, Fits, Kept, Met, Added, Amended, Marked, changed, said_or, but_last}
+use Rattle.hand_register.specs.Rule.{empty, nobody, desk_of, with_one_more, newest, received, sent, handed_back, Fits, Kept, Met, Added, Amended, Marked, changed, said_or, but_last}
 
 module _ {A : Type 0} where
   pub length-set : (l : List A) (i : ℕ) (a : A) → length (set l i a) ≡ length l
@@ -233,9 +233,9 @@ module _ {X : Type 0} where
   pub marks_at : (id slots : ℕ) (me : Known X × List (ℕ × X)) (v : Known X) (st : Step X) (f : ℕ → ℕ) → me ≡ (v, []) → v.role ≡ 1 → v.inside ≡ true → Allows Kept slots id me 0 f (λ _. Marked st me st.first)
   marks_at id slots me v st f is role inside = subst (λ (m : Known X × List (ℕ × X)). Allows Kept slots id m 0 f (λ _. Marked st m st.first)) (sym is) (turns id slots v (record { list = v.mine.list; mark = st.first }) f role inside)
 
-  pub fresh_more : (id : TableId) (n p : ℕ) (hs : List (Hand X)) (h : Hand X) → AreFresh id n hs → h.number ≡ n + length hs → h.badge.views ≡ hand_of p empty ∷ [] → h.badge.table_id ≡ id → AreFresh id n (hs ++ h ∷ [])
-  fresh_more id n p [] h f num views tid = (omega arith, ap (λ (l : List (Known X)). (view_in l).mine) views, tid, tt)
-  fresh_more id n p (k ∷ hs) h f num views tid = (f.0, f.1, f.2, fresh_more id (n + 1) p hs h f.3 (omega arith) views tid)
+  pub fresh_more : (id : TableId) (n : ℕ) (hs : List (HandView X)) (h : HandView X) → AreFresh id n hs → h.number ≡ n + length hs → h.record ≡ empty → h.desk ≡ id → AreFresh id n (hs ++ h ∷ [])
+  fresh_more id n [] h f num blank of = (omega arith, blank, of, tt)
+  fresh_more id n (k ∷ hs) h f num blank of = (f.0, f.1, f.2, fresh_more id (n + 1) hs h f.3 (omega arith) blank of)
 
   replicate_more : (n : ℕ) (r : Record X) → replicate n r ++ r ∷ [] ≡ replicate (suc n) r
   replicate_more zero r = refl

@@ -1,7 +1,6 @@
 //! The desk.
 
 ghost use Rattle.std.specs.Prelude.{◌≡◌, ◌+◌, ◌<◌, ◌≤◌, [], length, Some, IfOk};
-ghost use Rattle.hand_register.specs.Rule.{desk_of};
 
 use crate::error::NoMemory;
 use crate::hand::{Hand, HandList};
@@ -10,15 +9,26 @@ use crate::turns::{Board, hand_back, make, take_in};
 use atomic_table::{Badge, Seat, Table};
 use std::alloc::Global;
 use std::collections::VecDeque;
+use std::marker::Model;
 use std::mem;
 
-/// The desk of one region.
+/// The desk of one region. Contracts see which table it is, and each hand's record.
 #[derive(Drop)]
 pub struct Desk<X: Drop> {
     table: Board<X>,
-    pub seat: Seat<X, Known<X>>,
-    ghost seated: { (seat.table_id ≡ table.shared.table_id) × (table.shared.table_id.words ≡ 1) × (table.shared.table_id.slots ≡ 0) },
-    ghost posed: { seat.me ≡ (desk_of seat.me.0.all seat.me.0.outs, []) },
+    seat: Seat<X, Known<X>>,
+}
+
+impl<X: Drop> Model for Desk<X> {
+    ghost use Rattle.std.specs.Prelude.{◌≡◌, []};
+    ghost use Rattle.hand_register.specs.Rule.{desk_of};
+    ghost use Rattle.hand_register.specs.Views.{DeskView};
+
+    ghost Value = { DeskView X };
+
+    ghost view = { λ d. record { id = d.seat.table_id; records = d.seat.me.0.all } };
+
+    ghost invariant = { λ d. (d.seat.table_id ≡ d.table.shared.table_id) × (d.table.shared.table_id.words ≡ 1) × (d.table.shared.table_id.slots ≡ 0) × (d.seat.me ≡ (desk_of d.seat.me.0.all d.seat.me.0.outs, [])) };
 }
 
 /// A desk and its hands.
@@ -29,7 +39,7 @@ pub struct DeskParts<X: Drop> {
 }
 
 impl<X: Drop> Desk<X> {
-    ghost use Rattle.hand_register.specs.Desks.{AreParts, records, record_of, record_at, with_record, OfDesk, IsSameHand, with_value, with_last, with_mark};
+    ghost use Rattle.hand_register.specs.Desks.{AreParts, record_at, with_record, OfDesk, IsSameHand, with_value, with_last, with_mark};
 
     /// A desk with hands 1 to `hands`, at least one. Each record has the empty list and the mark 0.
     pub fn new(alloc: Global, hands: u32) -> Result<DeskParts<X>, NoMemory>
@@ -51,8 +61,9 @@ impl<X: Drop> Desk<X> {
     /// The desk's record of the hand's number is the hand's record. It takes no memory, as each call below.
     pub fn meet(&mut self, hand: &mut Hand<X>)
         requires { OfDesk self.old hand.old }
-        ensures met { record_at (records self.old) hand.old.number ≡ Some (record_of hand.old) }
-        ensures same { (records self.new ≡ records self.old) × (record_of hand.new ≡ record_of hand.old) }
+        ensures given { 1 ≤ hand.old.number }
+        ensures met { record_at self.old.records hand.old.number ≡ Some hand.old.record }
+        ensures same { (self.new.records ≡ self.old.records) × (hand.new.record ≡ hand.old.record) }
         ensures still { IsSameHand self.old hand.old self.new hand.new }
     {
         let badge = mem::replace(&mut hand.badge, Badge::blank());
@@ -65,9 +76,10 @@ impl<X: Drop> Desk<X> {
     /// As `meet`; then what the value shows stands behind the list in both records.
     pub fn add(&mut self, hand: &mut Hand<X>, value: &X)
         requires { OfDesk self.old hand.old }
-        ensures met { record_at (records self.old) hand.old.number ≡ Some (record_of hand.old) }
-        ensures hand { record_of hand.new ≡ with_value (record_of hand.old) value.now }
-        ensures desk { records self.new ≡ with_record (records self.old) hand.old.number (record_of hand.new) }
+        ensures given { 1 ≤ hand.old.number }
+        ensures met { record_at self.old.records hand.old.number ≡ Some hand.old.record }
+        ensures hand { hand.new.record ≡ with_value hand.old.record value.now }
+        ensures desk { self.new.records ≡ with_record self.old.records hand.old.number hand.new.record }
         ensures still { IsSameHand self.old hand.old self.new hand.new }
     {
         let badge = mem::replace(&mut hand.badge, Badge::blank());
@@ -82,10 +94,11 @@ impl<X: Drop> Desk<X> {
     /// The same, in place of the last value.
     pub fn amend(&mut self, hand: &mut Hand<X>, value: &X)
         requires desk { OfDesk self.old hand.old }
-        requires some { 1 ≤ length (record_of hand.old).list }
-        ensures met { record_at (records self.old) hand.old.number ≡ Some (record_of hand.old) }
-        ensures hand { record_of hand.new ≡ with_last (record_of hand.old) value.now }
-        ensures desk { records self.new ≡ with_record (records self.old) hand.old.number (record_of hand.new) }
+        requires some { 1 ≤ length hand.old.record.list }
+        ensures given { 1 ≤ hand.old.number }
+        ensures met { record_at self.old.records hand.old.number ≡ Some hand.old.record }
+        ensures hand { hand.new.record ≡ with_last hand.old.record value.now }
+        ensures desk { self.new.records ≡ with_record self.old.records hand.old.number hand.new.record }
         ensures still { IsSameHand self.old hand.old self.new hand.new }
     {
         let badge = mem::replace(&mut hand.badge, Badge::blank());
@@ -100,9 +113,10 @@ impl<X: Drop> Desk<X> {
     /// As `meet`; then both records have this mark.
     pub fn mark(&mut self, hand: &mut Hand<X>, mark: u64)
         requires { OfDesk self.old hand.old }
-        ensures met { record_at (records self.old) hand.old.number ≡ Some (record_of hand.old) }
-        ensures hand { record_of hand.new ≡ with_mark (record_of hand.old) mark }
-        ensures desk { records self.new ≡ with_record (records self.old) hand.old.number (record_of hand.new) }
+        ensures given { 1 ≤ hand.old.number }
+        ensures met { record_at self.old.records hand.old.number ≡ Some hand.old.record }
+        ensures hand { hand.new.record ≡ with_mark hand.old.record mark }
+        ensures desk { self.new.records ≡ with_record self.old.records hand.old.number hand.new.record }
         ensures still { IsSameHand self.old hand.old self.new hand.new }
     {
         let badge = mem::replace(&mut hand.badge, Badge::blank());

@@ -12,6 +12,3 @@ pub use desk::{Desk, DeskParts};
 pub use error::NoMemory;
 pub use hand::{Hand, HandList};
 pub use known::{Known, Record};
-
-#[cfg(test)]
-mod tests;

@@ -1,7 +1,7 @@
 //! How a hand's seat comes to the desk's and goes again.
 
-ghost use Rattle.std.specs.Prelude.{◌≡◌, ◌+◌, ◌-◌, ◌<◌, ◌^◌, [], ◌∷◌, length, true};
-ghost use Rattle.hand_register.specs.Rule.{empty, desk_of, hand_of, with_one_more, view_in, received, sent, handed_back};
+ghost use Rattle.std.specs.Prelude.{◌≡◌, ◌+◌, ◌<◌, ◌^◌, [], ◌∷◌, length, true};
+ghost use Rattle.hand_register.specs.Rule.{empty, desk_of, with_one_more, view_in, received, sent, handed_back};
 
 use crate::hand::Hand;
 use crate::known::{Comes, Goes, Known, Law, Makes};
@@ -44,7 +44,7 @@ pub(crate) fn make<X: Drop>(table: &Board<X>, seat: &mut Seat<X, Known<X>>, made
     requires limit { made + 1 < 2 ^ 32 }
     ensures same { seat.new.table_id ≡ seat.old.table_id }
     ensures desk { seat.new.me ≡ (with_one_more seat.old.me.0, []) }
-    ensures hand { (result.number ≡ made + 1) × (result.badge.views ≡ hand_of made empty ∷ []) × (result.badge.table_id ≡ seat.old.table_id) }
+    ensures hand { (result.number ≡ made + 1) × (result.record ≡ empty) × (result.desk ≡ seat.old.table_id) }
 {
     Hand {
         number: made + 1,

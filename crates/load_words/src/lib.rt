@@ -6,6 +6,3 @@ mod numbers;
 mod words;
 
 pub use words::{WordsRefusal, read_load};
-
-#[cfg(test)]
-mod tests;

@@ -1,18 +1,19 @@
--- The first closed file that is wholly flushed.
-use Rattle.std.specs.Prelude.{◌≡◌, ℕ, ◌≤◌, Contains}
+-- The first closed file above a number that is wholly flushed.
+use Rattle.std.specs.Prelude.{◌≡◌, ℕ, ◌<◌, ◌≤◌, Contains}
 use Rattle.seq_accounting.specs.Accounts.{Accounts, ClosedFile, AreLower}
 
 -- all that the file has is flushed
 abbrev pub IsFlushedFile : Accounts → ClosedFile → Type 0
 IsFlushedFile a c = AreLower c.highest a.flushed
 
-abbrev pub NoneToGo : Accounts → Type 0
-NoneToGo a = (c : ClosedFile) → Contains a.closed c → IsFlushedFile a c → ⊥
+abbrev pub NoneToGo : Accounts → ℕ → Type 0
+NoneToGo a above = (c : ClosedFile) → Contains a.closed c → above < c.file → IsFlushedFile a c → ⊥
 
--- the least closed file of which all is flushed
-pub record IsFirstToGo (a : Accounts) (file : ℕ) : Type 0 where
+-- the least closed file above this number of which all is flushed
+pub record IsFirstToGo (a : Accounts) (above file : ℕ) : Type 0 where
   pub which : ClosedFile
   pub there : Contains a.closed which
   pub named : which.file ≡ file
+  pub later : above < file
   pub lower : IsFlushedFile a which
-  pub least : (c : ClosedFile) → Contains a.closed c → IsFlushedFile a c → file ≤ c.file
+  pub least : (c : ClosedFile) → Contains a.closed c → above < c.file → IsFlushedFile a c → file ≤ c.file

@@ -4,6 +4,3 @@
 mod first;
 
 pub use first::first_to_go;
-
-#[cfg(test)]
-mod tests;

@@ -12,7 +12,7 @@ use Rattle.atomic_table.specs.Table.{State, Me, step, Act, keeps, takes, gives, 
 use Rattle.atomic_table.proofs.Lists.{at_set, set_here, set_else, exchanged}
 use Rattle.log_berth.specs.declared.known.Known.{Known}
 use Rattle.log_berth.specs.declared.known.Plan.{Plan}
-use Rattle.log_berth.specs.Words.{known, newcomer, nobody, less_one, one_part, saw, missed, fault_set, without_turn, looked, tried, starts, noted, NoMore, Same, parts_of, HasHolder, Fits, Backs, Kept, sees_word, sees_fault, raised, broke, gave, took, greater, lesser, reached, informed}
+use Rattle.log_berth.specs.Words.{known, new_seat, nobody, less_one, one_part, saw, missed, fault_set, without_turn, looked, tried, starts, noted, NoMore, Same, parts_of, HasHolder, Fits, Backs, Kept, sees_word, sees_fault, raised, broke, gave, took, greater, lesser, reached, informed}
 use Rattle.log_berth.proofs.Numbers.{noted_same, noted_other, noted_each, greater_at, lesser_at, set_elsewhere, set_at, at_front, at_end, at_snoc_end, parts_set, parts_snoc, parts_two, each_set, had, holder_set, starts_below}
 
 module _ {W : Type 0} (numbers_of : W → List ℕ) (is_broken : W → Bool) where
@@ -396,7 +396,7 @@ module _ {W : Type 0} (numbers_of : W → List ℕ) (is_broken : W → Bool) whe
           omega (arith, kept.all))
 
   pub begins : (plan : Plan) (ware : W) → length plan.words.items ≡ plan.regions + 2 → take plan.regions plan.words.items ≡ starts plan.regions (numbers_of ware) → get_or plan.words.items plan.regions 0 ≡ 0 → get_or plan.words.items (plan.regions + 1) 0 ≡ 0
-      → is_broken ware ≡ false → K (plan.regions, plan.seats) record { words = plan.words.items; homes = some (Some ware) ∷ []; views = newcomer plan ∷ [] }
+      → is_broken ware ≡ false → K (plan.regions, plan.seats) record { words = plan.words.items; homes = some (Some ware) ∷ []; views = new_seat plan ∷ [] }
   begins plan ware wide start fault turn whole = record {
     wide = wide;
     home = λ _. (ware, refl, record { below = subst (λ (l : List ℕ). NoMore l (numbers_of ware)) (sym start) (starts_below n (numbers_of ware)); same = whole ∙ sym (ne_eqb (get_or ws n 0) 1 (λ e. omega arith)) });
@@ -413,10 +413,10 @@ module _ {W : Type 0} (numbers_of : W → List ℕ) (is_broken : W → Bool) whe
       ws : List ℕ
       ws = plan.words.items
 
-      quiet : (j : ℕ) (u : Known) → get_elem? (newcomer plan ∷ []) j ≡ some u → u.turn ≡ false
-      quiet zero u e = ap (λ (y : Known). y.turn) (sym (some-injective (newcomer plan) u e))
+      quiet : (j : ℕ) (u : Known) → get_elem? (new_seat plan ∷ []) j ≡ some u → u.turn ≡ false
+      quiet zero u e = ap (λ (y : Known). y.turn) (sym (some-injective (new_seat plan) u e))
       quiet (suc j) u e = absurd (some-ne-none u (sym e))
 
-      fits : (j : ℕ) (u : Known) → get_elem? (newcomer plan ∷ []) j ≡ some u → Fits (take n ws) (get_or ws n 0) u
-      fits zero u e = subst (Fits (take n ws) (get_or ws n 0)) (some-injective (newcomer plan) u e) record { seen = λ i. le_refl (get_or (take n ws) i 0); stands = λ b. absurd (true≢false (sym b)); exact = λ t. absurd (true≢false (sym t)) }
+      fits : (j : ℕ) (u : Known) → get_elem? (new_seat plan ∷ []) j ≡ some u → Fits (take n ws) (get_or ws n 0) u
+      fits zero u e = subst (Fits (take n ws) (get_or ws n 0)) (some-injective (new_seat plan) u e) record { seen = λ i. le_refl (get_or (take n ws) i 0); stands = λ b. absurd (true≢false (sym b)); exact = λ t. absurd (true≢false (sym t)) }
       fits (suc j) u e = absurd (some-ne-none u (sym e))

@@ -56,8 +56,8 @@ abbrev pub known : ℕ → Bool → List ℕ → Bool → List ℕ → Tally →
 known p t xs b ys z = record { parts = p; turn = t; seen = xs; broken = b; last = ys; tally = z }
 
 -- the first seat has all parts, and knows the words at the start
-abbrev pub newcomer : Plan → Known
-newcomer k = known k.seats false (take k.regions k.words.items) false [] idle
+abbrev pub new_seat : Plan → Known
+new_seat k = known k.seats false (take k.regions k.words.items) false [] idle
 
 -- a seat that may do nothing
 abbrev pub nobody : Known

@@ -10,11 +10,11 @@ pub struct Law<W> {
 }
 
 impl<W: Ware> TableRule<Option<W>, Known, Plan> for Law<W> {
-    ghost use Rattle.log_berth.specs.Words.{newcomer, keeps_plan};
+    ghost use Rattle.log_berth.specs.Words.{new_seat, keeps_plan};
 
     ghost holds = { keeps_plan W.numbers W.is_broken };
 
-    ghost first = { newcomer };
+    ghost first = { new_seat };
 }
 
 /// A load of a synced word.

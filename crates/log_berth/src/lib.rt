@@ -23,8 +23,3 @@ pub use opening::{BerthParts, BerthRefusal};
 pub use seats::{LogSeat, LogSeats};
 pub use synced::SyncedList;
 pub use ware::Ware;
-
-#[cfg(test)]
-mod tests;
-#[cfg(test)]
-mod uses;

@@ -1,16 +1,17 @@
 -- What renaming a closed log leaves.
-use Rattle.std.proofs.Common.{◌≡◌, ◌≢◌, ◌⊎◌, inl, inr, ℕ, ◌<◌, ◌≤◌, ◌==◌, Bool, true, false, not, List, [], length, Contains, Option, Some, None, Result, refl, sym, ap, ◌∙◌, subst, arith}
+use Rattle.std.proofs.Common.{◌≡◌, ◌≢◌, ◌⊎◌, inl, inr, ℕ, ◌<◌, ◌≤◌, ◌==◌, Bool, true, false, not, List, [], length, Contains, Option, Some, None, refl, sym, ap, ◌∙◌, subst, arith}
 use Rattle.std.proofs.lemmas.List.{append-nil}
 use Rattle.std.proofs.lemmas.Bool.{eq-eqb}
 use Rattle.std.proofs.lemmas.Bool.Decides.{nat_tests}
 use Rattle.log_model.specs.declared.name.Name.{Name}
 use Rattle.log_model.specs.declared.name.NameKind.TheVariants as kinds
-use Rattle.log_model.specs.Files.{Files, content, IsAbsent, Same, IsPresent}
+use Rattle.log_model.specs.Files.{Files, content, IsAbsent, Reads, Same, IsPresent}
 use Rattle.log_model.specs.Recovered.{IsWhollyFlushed}
 use Rattle.disk_images.specs.Crash.{DiskView, IsImageNow, Throughout}
-use Rattle.disk_images.specs.Calls.{Renames, Renamed, MovedIn}
+use Rattle.disk_images.specs.Calls.{Renamed}
 use Rattle.disk_images.specs.OneFile.{IsDurableFile}
-use Rattle.disk_images.proofs.Moments.{in_one_call}
+use Rattle.disk_images.specs.Moved.{HasEitherName, TouchesBoth}
+use Rattle.disk_images.proofs.Moments.{weaker, at_end}
 use Rattle.recovery.specs.Change.{HasText}
 use Rattle.recovery.proofs.Names.{name_cases}
 use Rattle.recovery.proofs.Logs.{grown}
@@ -25,8 +26,9 @@ use Rattle.log_device.specs.Keeps.{Keeps, Shows, IsClosedLog, log_name, old_name
 use Rattle.log_device.proofs.Bearing.{bears_same, bears_moved}
 use Rattle.log_device.proofs.Lists.{passes, passed}
 
-module _ {T E : Type 0} {result : Result T E} (log : OpenLog) (u v : DiskView) (h : History) (ns : List ℕ) (keeps : Keeps log u h ns) (c : ClosedLog) (is_closed : Contains h.logs c)
-    (flushed : IsWhollyFlushed h.kept.flushed c.entries) (renames : Renames (log_name c.number) (old_name c.number) result u v) where
+module _ (log : OpenLog) (u v : DiskView) (h : History) (ns : List ℕ) (keeps : Keeps log u h ns) (c : ClosedLog) (is_closed : Contains h.logs c)
+    (flushed : IsWhollyFlushed h.kept.flushed c.entries) (over : Throughout (HasEitherName (log_name c.number) (old_name c.number) (ended_text c.number c.entries) u) 1 u v)
+    (touches : TouchesBoth (log_name c.number) (old_name c.number) u v) where
   abbrev pub name : Name
   name = log_name c.number
 
@@ -74,45 +76,44 @@ module _ {T E : Type 0} {result : Result T E} (log : OpenLog) (u v : DiskView) (
         ];
       }
 
-  moved_from : (I J : Files) → MovedIn name old (u.formerly name) I J → (IsAbsent J name) × ((m : Name) → m ≢ name → m ≢ old → content J m ≡ content I m)
-  moved_from I J m = elim m.borne as (λ _. (IsAbsent J name) × ((n : Name) → n ≢ name → n ≢ old → content J n ≡ content I n)) [
-    | inl is ↦ (subst (λ (n : Name). IsAbsent J n) is m.left, λ n apart far. m.elsewhere n (λ at. apart (at ∙ is)) far)
-    | inr former ↦ absurd (closed.file.unmoved m.name former)
+  stays_in : (J : Files) (at : HasEitherName name old (ended_text c.number c.entries) u J) → Reads J name (ended_text c.number c.entries) → IsAbsent J old → Same at.base J
+  stays_in J at reads none m = elim (name_cases m name) as (λ _. content J m ≡ content at.base m) [
+    | inl is ↦ subst (λ (n : Name). content J n ≡ content at.base n) (sym is) (reads ∙ sym at.had)
+    | inr far ↦ elim (name_cases m old) as (λ _. content J m ≡ content at.base m) [
+      | inl is ↦ subst (λ (n : Name). content J n ≡ content at.base n) (sym is) (none ∙ sym at.free)
+      | inr off ↦ at.elsewhere m far off
+    ]
   ]
 
-  image_after : (J : Files) → IsImageNow v J → Shows h.kept log.name h.current J
-  image_after J now =
-      let from = renames.crash J now in
-      elim from.2 as (λ _. Shows h.kept log.name h.current J) [
-        | inl same ↦ as_before from.0 J from.1 same
-        | inr m ↦ let at = moved_from from.0 J m in moved from.0 J from.1 at.0 at.1
-      ]
+  image_of : (J : Files) → HasEitherName name old (ended_text c.number c.entries) u J → Shows h.kept log.name h.current J
+  image_of J at = elim at.here as (λ _. Shows h.kept log.name h.current J) [
+    | inl stays ↦ as_before at.base J at.was (stays_in J at stays.0 stays.1)
+    | inr moves ↦ moved at.base J at.was moves.0 at.elsewhere
+  ]
 
-  names_after : (J : Files) → IsImageNow v J → Bears h.kept.base ns log.name.number J
-  names_after J there =
-      let from = renames.crash J there in
-      elim from.2 as (λ _. Bears h.kept.base ns log.name.number J) [
-        | inl same ↦ bears_same h.kept.base ns log.name.number from.0 J same (keeps.names from.0 from.1)
-        | inr m ↦ let at = moved_from from.0 J m in bears_moved h.kept.base ns log.name.number c.number from.0 J low at.0 at.1 (keeps.names from.0 from.1)
-      ]
+  names_of : (J : Files) → HasEitherName name old (ended_text c.number c.entries) u J → Bears h.kept.base ns log.name.number J
+  names_of J at = elim at.here as (λ _. Bears h.kept.base ns log.name.number J) [
+    | inl stays ↦ bears_same h.kept.base ns log.name.number at.base J (stays_in J at stays.0 stays.1) (keeps.names at.base at.was)
+    | inr moves ↦ bears_moved h.kept.base ns log.name.number c.number at.base J low moves.0 at.elsewhere (keeps.names at.base at.was)
+  ]
+
+  now_either : (J : Files) → IsImageNow v J → HasEitherName name old (ended_text c.number c.entries) u J
+  now_either = at_end (HasEitherName name old (ended_text c.number c.entries) u) 1 u v over
 
   pub rename_names : Throughout (Bears h.kept.base ns log.name.number) 1 u v
-  rename_names = in_one_call (Bears h.kept.base ns log.name.number) u v keeps.names renames.time names_after
+  rename_names = weaker (HasEitherName name old (ended_text c.number c.entries) u) (Bears h.kept.base ns log.name.number) 1 u v names_of over
 
   pub rename_moments : Throughout (Shows h.kept log.name h.current) 1 u v
-  rename_moments = in_one_call (Shows h.kept log.name h.current) u v keeps.images renames.time image_after
+  rename_moments = weaker (HasEitherName name old (ended_text c.number c.entries) u) (Shows h.kept log.name h.current) 1 u v image_of over
 
   -- another log stays durable
   still : (m : Name) (bytes : List ℕ) → m.kind ≡ kinds.Log → m ≢ name → IsDurableFile u m bytes → IsDurableFile v m bytes
   still m bytes kind far file = record {
-    reads = renames.others m far (no_old m kind) ∙ file.reads;
+    reads = touches.others m far (no_old m kind) ∙ file.reads;
     durable = λ J now.
-        let from = renames.crash J now in
-        elim from.2 as (λ _. content J m ≡ Some bytes) [
-          | inl same ↦ same m ∙ file.durable from.0 from.1
-          | inr moves ↦ (moved_from from.0 J moves).1 m far (no_old m kind) ∙ file.durable from.0 from.1
-        ];
-    unmoved = λ n former. elim (renames.formerly m n former) as (λ _. ⊥) [
+        let at = now_either J now in
+        at.elsewhere m far (no_old m kind) ∙ file.durable at.base at.was;
+    unmoved = λ n former. elim (touches.formerly m n former) as (λ _. ⊥) [
       | inl before ↦ file.unmoved n before
       | inr new ↦ no_old m kind new.0
     ];
@@ -138,7 +139,7 @@ module _ {T E : Type 0} {result : Result T E} (log : OpenLog) (u v : DiskView) (
 
   module _ (renamed : Renamed name old u.files v.files) where
     present_was : (m : Name) → m ≢ name → m ≢ old → IsPresent v.files m → IsPresent u.files m
-    present_was m far off there none = there (renames.others m far off ∙ none)
+    present_was m far off there none = there (touches.others m far off ∙ none)
 
     pub archived_kept : Keeps log v (archived_in h c.number) ns
     archived_kept = record {
@@ -147,8 +148,8 @@ module _ {T E : Type 0} {result : Result T E} (log : OpenLog) (u v : DiskView) (
       open_log = record { each = keeps.open_log.each; file = still log.name (at_rest log.name.number h.current) keeps.kind log_apart keeps.open_log.file; gate = keeps.open_log.gate; count = keeps.open_log.count };
       staged = keeps.staged;
       orderly = keeps.orderly;
-      images = image_after;
-      names = names_after;
+      images = λ J now. image_of J (now_either J now);
+      names = λ J now. names_of J (now_either J now);
       served = keeps.served;
       few = keeps.few;
       logs = λ d member.
@@ -163,7 +164,7 @@ module _ {T E : Type 0} {result : Result T E} (log : OpenLog) (u v : DiskView) (
           | inr one ↦ inr (one.0, stays_left one.0 one.1 (λ same. far (sym one.2 ∙ ap log_name same)), one.2)
         ]
       ];
-      gone = λ m is. elim (renames.gone m is) as (λ _. (m.kind ≡ kinds.Log) × (m.region ≡ 0) × (m.number < log.name.number)) [
+      gone = λ m is. elim (touches.gone m is) as (λ _. (m.kind ≡ kinds.Log) × (m.region ≡ 0) × (m.number < log.name.number)) [
         | inl before ↦ keeps.gone m before
         | inr at ↦ let number : m.number ≡ c.number = ap (λ (n : Name). n.number) at in (ap (λ (n : Name). n.kind) at, ap (λ (n : Name). n.region) at, omega (arith, number, low))
       ];

@@ -1,97 +1,127 @@
--- What archiving has done so far.
-use Rattle.std.proofs.Common.{◌≡◌, ◌⊎◌, inl, inr, ℕ, ◌+◌, ◌<◌, ◌^◌, true, not, List, [], ◌∷◌, length, Contains, refl, sym, ap, ◌∙◌, subst, arith}
-use Rattle.std.proofs.lemmas.Bool.{cases_eq, ne_eqb}
+-- What renaming closed logs has done so far.
+use Rattle.std.proofs.Common.{◌≡◌, ◌⊎◌, inl, inr, ℕ, ◌+◌, ◌<◌, ◌≤◌, ◌==◌, Bool, true, false, not, List, length, Contains, refl, sym, ap, ◌∙◌, subst, arith}
+use Rattle.std.proofs.lemmas.Bool.{cases_eq, cases_lt, eq-eqb, ne_eqb}
+use Rattle.std.proofs.lemmas.List.Filters.{length-filter_both}
 use Rattle.log_model.specs.Recovered.{IsWhollyFlushed}
 use Rattle.disk_images.specs.Crash.{DiskView, Throughout}
 use Rattle.disk_images.proofs.Moments.{at_once, joined}
-use Rattle.seq_accounting.specs.Accounts.{ClosedFile}
 use Rattle.log_file.specs.Open.{OpenLog}
-use Rattle.log_ledger.specs.History.{ClosedLog, History, archived_in, is_other}
-use Rattle.log_ledger.specs.Books.{Books}
-use Rattle.log_ledger.specs.Counted.{AreCounted, MayGo}
-use Rattle.log_device.specs.declared.device.Device.{Device}
+use Rattle.log_ledger.specs.History.{ClosedLog, History, archived_in, is_other, with_logs}
+use Rattle.log_ledger.specs.Counted.{NoneMayGoAbove, GoesNext, LogsLeft}
 use Rattle.log_device.specs.Bears.{Bears}
-use Rattle.log_device.specs.Keeps.{Shows}
-use Rattle.log_device.specs.Archived.{LogsLeft}
-use Rattle.log_device.specs.Whole.{IsWhole, IsBroken, log_of, books_of}
+use Rattle.log_device.specs.Keeps.{Keeps, Shows, log_name}
 use Rattle.log_device.proofs.Lists.{passes, passed}
 
-abbrev pub with_logs : History → List ClosedLog → History
-with_logs h left = record { kept = h.kept; logs = left; current = h.current }
-
--- these logs are left, and those that aren't are wholly flushed
-pub record AreLeft (h : History) (left : List ClosedLog) : Type 0 where
-  pub stays : (c : ClosedLog) → Contains left c → Contains h.logs c
-  pub went : (c : ClosedLog) → Contains h.logs c → Contains left c ⊎ IsWhollyFlushed h.kept.flushed c.entries
-
--- what is so whatever the disk tells
-pub record Going {D : Type 0} (start d : Device D) (count : ℕ) : Type 0 where
-  pub log : log_of d ≡ log_of start
-  pub synced : (books_of d).synced ≡ (books_of start).synced
-  pub stored : (books_of d).stored ≡ (books_of start).stored
-  pub closed : (books_of d).closed ≡ (books_of start).closed
-  pub drawn : (books_of d).drawn ≡ (books_of start).drawn
-  pub served : (books_of d).next_store ≡ (books_of start).next_store
-  pub unbroken : IsBroken d → ⊥
-  pub total : count + length (books_of d).accounts.closed ≡ length (books_of start).accounts.closed
-  pub few : (count ≡ 0) ⊎ (length (books_of start).accounts.closed < 2 ^ 64)
-
-pub record SoFar {D : Type 0} (d : Device D) (u v : DiskView) (h : History) (file : OpenLog) (count : ℕ) : Type 0 where
+-- some logs up to this number were renamed, and none of those left up to it may go
+pub record SoFar (log : OpenLog) (u v : DiskView) (h : History) (ns : List ℕ) (above : ℕ) : Type 0 where
   pub left : List ClosedLog
-  pub now : IsWhole d v (with_logs h left)
-  pub gone : AreLeft h left
-  pub total : length left + count ≡ length h.logs
-  pub moments : Throughout (Shows h.kept file.name h.current) count u v
-  pub names : Throughout (Bears h.kept.base (books_of d).next_store file.name.number) count u v
+  pub calls : ℕ
+  pub keeps : Keeps log v (with_logs h left) ns
+  pub stays : (c : ClosedLog) → Contains left c → Contains h.logs c
+  pub went : (c : ClosedLog) → Contains h.logs c → Contains left c ⊎ (IsWhollyFlushed h.kept.flushed c.entries × (c.number ≤ above))
+  pub low : (c : ClosedLog) → Contains left c → 1 ≤ c.number → c.number ≤ above → IsWhollyFlushed h.kept.flushed c.entries → ⊥
+  pub total : length left + calls ≤ length h.logs
+  pub moments : Throughout (Shows h.kept log.name h.current) calls u v
+  pub names : Throughout (Bears h.kept.base ns log.name.number) calls u v
 
-pub counted_length : (b : Books) (cs : List ClosedFile) (ls : List ClosedLog) → AreCounted b cs ls → length cs ≡ length ls
-counted_length b [] [] are = refl
-counted_length b [] (l ∷ ls) are = absurd are
-counted_length b (c ∷ cs) [] are = absurd are
-counted_length b (c ∷ cs) (l ∷ ls) are = let rest = counted_length b cs ls are.1 in omega (arith, rest)
-
-pub nothing_gone : {D : Type 0} (d : Device D) (u : DiskView) (h : History) (whole : IsWhole d u h) → SoFar d u u h whole.file 0
-nothing_gone d u h whole = record {
+pub nothing_gone : (log : OpenLog) (u : DiskView) (h : History) (ns : List ℕ) → Keeps log u h ns → SoFar log u u h ns 0
+nothing_gone log u h ns keeps = record {
   left = h.logs;
-  now = record { file = whole.file; is = whole.is; keeps = whole.keeps; counted = whole.counted };
-  gone = record { stays = λ c has. has; went = λ c has. inl has };
+  calls = 0;
+  keeps = keeps;
+  stays = λ c has. has;
+  went = λ c has. inl has;
+  low = λ c has given below whole. absurd (omega (arith, given, below));
   total = omega arith;
-  moments = at_once (Shows h.kept whole.file.name h.current) u whole.keeps.images;
-  names = at_once (Bears h.kept.base (books_of d).next_store whole.file.name.number) u whole.keeps.names;
+  moments = at_once (Shows h.kept log.name h.current) u keeps.images;
+  names = at_once (Bears h.kept.base ns log.name.number) u keeps.names;
 }
 
-other_test : (c : ClosedLog) (n : ℕ) → (c.number ≡ n → ⊥) → is_other n c ≡ true
-other_test c n differs = ap not (ne_eqb c.number n differs)
+twice : (b : Bool) → b ≡ not (not b)
+twice true = refl
+twice false = refl
 
--- one more is gone
-pub one_gone : {D : Type 0} (d after : Device D) (u v w : DiskView) (h : History) (file : OpenLog) (count n : ℕ) (so_far : SoFar d u v h file count) → MayGo (with_logs h so_far.left) n
-    → IsWhole after w (archived_in (with_logs h so_far.left) n) → length (books_of after).accounts.closed + 1 ≡ length (books_of d).accounts.closed
-    → (books_of after).next_store ≡ (books_of d).next_store → Throughout (Shows h.kept file.name h.current) 1 v w → Throughout (Bears h.kept.base (books_of d).next_store file.name.number) 1 v w → SoFar after u w h file (count + 1)
-one_gone d after u v w h file count n so_far go whole fewer stores over named =
-    let left = (archived_in (with_logs h so_far.left) n).logs in
-    let was = counted_length (books_of d) (books_of d).accounts.closed so_far.left so_far.now.counted.logs in
-    let is = counted_length (books_of after) (books_of after).accounts.closed left whole.counted.logs in
-    record {
-      left = left;
-      now = record { file = whole.file; is = whole.is; keeps = whole.keeps; counted = whole.counted };
-      gone = record {
-        stays = λ c has. so_far.gone.stays c (passed (is_other n) so_far.left c has).0;
-        went = λ c has. elim (so_far.gone.went c has) as (λ _. Contains left c ⊎ IsWhollyFlushed h.kept.flushed c.entries) [
-          | inl stayed ↦ elim (cases_eq c.number n) as (λ _. Contains left c ⊎ IsWhollyFlushed h.kept.flushed c.entries) [
-            | inl same ↦ inr (subst (λ (x : ClosedLog). IsWhollyFlushed h.kept.flushed x.entries) (sym (so_far.now.keeps.one c go.0 stayed go.1 (same ∙ sym go.2))) go.3)
-            | inr other ↦ inl (passes (is_other n) so_far.left c stayed (other_test c n other))
-          ]
-          | inr flushed ↦ inr flushed
+-- another number is another log's
+apart : (c : ClosedLog) (n : ℕ) → is_other n c ≡ true → c.number ≡ n → ⊥
+apart c n other same = cc (ap not (eq-eqb c.number n same), other)
+
+module _ (log : OpenLog) (u v : DiskView) (h : History) (ns : List ℕ) (above n : ℕ) (so_far : SoFar log u v h ns above) (next : GoesNext h above n) (later : above < n) where
+  -- the log that goes next is left
+  pub is_left : Contains so_far.left next.log
+  is_left = elim (so_far.went next.log next.member) as (λ _. Contains so_far.left next.log) [
+    | inl stayed ↦ stayed
+    | inr gone ↦ absurd (omega (arith, gone.1, next.number, later))
+  ]
+
+  abbrev left : List ClosedLog
+  left = (archived_in (with_logs h so_far.left) n).logs
+
+  fewer : length left + 1 ≤ length so_far.left
+  fewer =
+      let those = length-filter_both (is_other n) (λ (c : ClosedLog). c.number == n) (λ c. twice (c.number == n)) so_far.left in
+      let one = passes (λ (c : ClosedLog). c.number == n) so_far.left next.log is_left (eq-eqb next.log.number n next.number) in
+      omega (arith, those, one.1)
+
+  -- one more is gone
+  pub one_gone : (w : DiskView) → Keeps log w (archived_in (with_logs h so_far.left) n) ns → Throughout (Shows h.kept log.name h.current) 1 v w → Throughout (Bears h.kept.base ns log.name.number) 1 v w → SoFar log u w h ns n
+  one_gone w keeps over named = record {
+    left = left;
+    calls = so_far.calls + 1;
+    keeps = keeps;
+    stays = λ c has. so_far.stays c (passed (is_other n) so_far.left c has).0;
+    went = λ c has. elim (so_far.went c has) as (λ _. Contains left c ⊎ (IsWhollyFlushed h.kept.flushed c.entries × (c.number ≤ n))) [
+      | inl stayed ↦ elim (cases_eq c.number n) as (λ _. Contains left c ⊎ (IsWhollyFlushed h.kept.flushed c.entries × (c.number ≤ n))) [
+        | inl same ↦ inr (subst (λ (x : ClosedLog). IsWhollyFlushed h.kept.flushed x.entries) (so_far.keeps.one next.log c is_left stayed (next.number ∙ sym same)) next.flushed, omega (arith, same))
+        | inr other ↦ inl (passes (is_other n) so_far.left c stayed (ap not (ne_eqb c.number n other)))
+      ]
+      | inr gone ↦ inr (gone.0, omega (arith, gone.1, later))
+    ];
+    low = λ c has given below whole.
+        let was = passed (is_other n) so_far.left c has in
+        elim (cases_lt above c.number) as (λ _. ⊥) [
+          | inl lt ↦ apart c n was.1 (omega (arith, below, next.least c (so_far.stays c was.0) lt whole))
+          | inr le ↦ so_far.low c was.0 given le whole
         ];
-      };
-      total = omega (arith, so_far.total, was, is, fewer);
-      moments = joined (Shows h.kept file.name h.current) count 1 u v w so_far.moments over;
-      names = subst (λ (ns : List ℕ). Throughout (Bears h.kept.base ns file.name.number) (count + 1) u w) (sym stores) (joined (Bears h.kept.base (books_of d).next_store file.name.number) count 1 u v w so_far.names named);
-    }
+    total = omega (arith, fewer, so_far.total);
+    moments = joined (Shows h.kept log.name h.current) so_far.calls 1 u v w so_far.moments over;
+    names = joined (Bears h.kept.base ns log.name.number) so_far.calls 1 u v w so_far.names named;
+  }
 
--- where no log that is left may go, those that are left are those that aren't wholly flushed
-pub all_gone : (h : History) (left : List ClosedLog) → AreLeft h left → ((c : ClosedLog) → Contains left c → IsWhollyFlushed h.kept.flushed c.entries → ⊥) → LogsLeft h left
-all_gone h left are none c = (
-  λ has. (are.stays c has, none c has),
-  λ has. elim (are.went c has.0) as (λ _. Contains left c) [ inl stayed ↦ stayed | inr flushed ↦ absurd (has.1 flushed) ],
+-- where no log above may go, those that are left are those that aren't wholly flushed
+pub all_gone : (log : OpenLog) (u v : DiskView) (h : History) (ns : List ℕ) (above : ℕ) (so_far : SoFar log u v h ns above) → ((c : ClosedLog) → Contains h.logs c → 1 ≤ c.number) → NoneMayGoAbove h above → LogsLeft h so_far.left
+all_gone log u v h ns above so_far given none c = (
+  λ has. (
+    so_far.stays c has,
+    λ whole. elim (cases_lt above c.number) as (λ _. ⊥) [
+      | inl lt ↦ none c (so_far.stays c has) lt whole
+      | inr le ↦ so_far.low c has (given c (so_far.stays c has)) le whole
+    ],
+  ),
+  λ has. elim (so_far.went c has.0) as (λ _. Contains so_far.left c) [ inl stayed ↦ stayed | inr gone ↦ absurd (has.1 gone.0) ],
 )
+
+-- what a device keeps asks only which closed logs there are
+pub keeps_those : (log : OpenLog) (disk : DiskView) (h : History) (ns : List ℕ) (left others : List ClosedLog) → LogsLeft h left → LogsLeft h others → Keeps log disk (with_logs h left) ns → Keeps log disk (with_logs h others) ns
+keeps_those log disk h ns left others these those keeps = record {
+  kind = keeps.kind;
+  region = keeps.region;
+  open_log = keeps.open_log;
+  staged = keeps.staged;
+  orderly = keeps.orderly;
+  images = keeps.images;
+  names = keeps.names;
+  served = keeps.served;
+  few = keeps.few;
+  logs = λ c has. keeps.logs c (to c has);
+  one = λ c d c_in d_in. keeps.one c d (to c c_in) (to d d_in);
+  there = λ m kind there. elim (keeps.there m kind there) as (λ _. (m ≡ log.name) ⊎ ((c : ClosedLog) × Contains others c × (log_name c.number ≡ m))) [
+    | inl is ↦ inl is
+    | inr one ↦ inr (one.0, (those one.0).1 ((these one.0).0 one.1), one.2)
+  ];
+  gone = keeps.gone;
+  olds = λ m kind there. let o = keeps.olds m kind there in (o.0, λ c has. o.1 c (to c has));
+  stores = keeps.stores;
+}
+  where
+    to : (c : ClosedLog) → Contains others c → Contains left c
+    to c has = (these c).1 ((those c).0 has)

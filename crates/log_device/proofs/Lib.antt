@@ -7,6 +7,7 @@ pub mod NextLog
 pub mod Archived
 pub mod Stored
 pub mod Leaving
+pub mod Results
 pub mod Calls
 pub mod Staged
 pub mod Numbering

@@ -8,6 +8,7 @@ use Rattle.disk_images.specs.Crash.{DiskView}
 use Rattle.recovery.specs.Kept.{Kept, IsLike, lasts, with_staged}
 use Rattle.recovery.proofs.Likes.{orderly_staged}
 use Rattle.log_file.specs.Open.{OpenLog, IsStaged}
+use Rattle.log_file.specs.Calls.{IsSameFile}
 use Rattle.log_file.proofs.Committed.{open_still}
 use Rattle.log_ledger.specs.History.{ClosedLog, History, staged_in}
 use Rattle.log_device.specs.Bears.{Bears}
@@ -21,21 +22,21 @@ shows_still : (k : Kept) (e : Entry) (log : Name) (current : List Entry) (J : Fi
 shows_still k e log current J shows = record { like = like_still k e J shows.like; ended = shows.ended; text = shows.text; up_to = shows.up_to }
 
 pub staged_kept : (file now : OpenLog) (v : DiskView) (h : History) (ns : List ℕ) (e : Entry) → Keeps file v h ns → lasts (lasts h.kept.first h.kept.durable) h.kept.staged e.region < e.number
-    → (now.name ≡ file.name) × (now.gate ≡ file.gate) × (now.entries ≡ file.entries) → IsStaged now (h.kept.staged ++ e ∷ []) → Keeps now v (staged_in h e) ns
+    → IsSameFile file now → IsStaged now (h.kept.staged ++ e ∷ []) → Keeps now v (staged_in h e) ns
 staged_kept file now v h ns e keeps above same staged =
-    let number : now.name.number ≡ file.name.number = ap (λ (n : Name). n.number) same.0 in record {
-      kind = ap (λ (n : Name). n.kind) same.0 ∙ keeps.kind;
-      region = ap (λ (n : Name). n.region) same.0 ∙ keeps.region;
+    let number : now.name.number ≡ file.name.number = ap (λ (n : Name). n.number) same.name in record {
+      kind = ap (λ (n : Name). n.kind) same.name ∙ keeps.kind;
+      region = ap (λ (n : Name). n.region) same.name ∙ keeps.region;
       open_log = open_still file now v h.current same keeps.open_log;
       staged = staged;
       orderly = orderly_staged h.kept e keeps.orderly above;
-      images = λ J there. subst (λ (n : Name). Shows (with_staged h.kept e) n h.current J) (sym same.0) (shows_still h.kept e file.name h.current J (keeps.images J there));
+      images = λ J there. subst (λ (n : Name). Shows (with_staged h.kept e) n h.current J) (sym same.name) (shows_still h.kept e file.name h.current J (keeps.images J there));
       names = λ J there. subst (λ (n : ℕ). Bears h.kept.base ns n J) (sym number) (keeps.names J there);
       served = keeps.served;
-      few = λ n found. omega (arith, keeps.few n found, number, same.2, staged.count, keeps.staged.count, length-append h.kept.staged (e ∷ []), length-append h.kept.durable h.kept.staged, length-append h.kept.durable (h.kept.staged ++ e ∷ []));
+      few = λ n found. omega (arith, keeps.few n found, number, same.entries, staged.count, keeps.staged.count, length-append h.kept.staged (e ∷ []), length-append h.kept.durable h.kept.staged, length-append h.kept.durable (h.kept.staged ++ e ∷ []));
       logs = λ c member. let l = keeps.logs c member in (l.0, omega (arith, l.1, number));
       one = keeps.one;
-      there = λ m kind there. subst (λ (n : Name). (m ≡ n) ⊎ ((c : ClosedLog) × Contains h.logs c × (log_name c.number ≡ m))) (sym same.0) (keeps.there m kind there);
+      there = λ m kind there. subst (λ (n : Name). (m ≡ n) ⊎ ((c : ClosedLog) × Contains h.logs c × (log_name c.number ≡ m))) (sym same.name) (keeps.there m kind there);
       gone = λ m is. let g = keeps.gone m is in (g.0, g.1, omega (arith, g.2, number));
       olds = λ m kind there. let o = keeps.olds m kind there in (omega (arith, o.0, number), o.1);
       stores = keeps.stores;

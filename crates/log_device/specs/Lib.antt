@@ -4,7 +4,7 @@ pub mod Leaves
 pub mod Flushed
 pub mod Numbered
 pub mod Whole
-pub mod Archived
+pub mod Calls
 pub mod Opened
 pub mod Refusal
 pub mod Laws

@@ -1,8 +1,8 @@
 -- Why a device can't be started.
 use Rattle.disk_images.specs.declared.disk.NamesError.{NamesError}
 use Rattle.disk_images.specs.declared.disk.NamesError.TheVariants as names_errors
-use Rattle.log_file.specs.declared.error.FileRefusal.{FileRefusal}
-use Rattle.log_file.specs.declared.error.FileRefusal.TheVariants as file_refusals
+use Rattle.file_base.specs.declared.error.FileRefusal.{FileRefusal}
+use Rattle.file_base.specs.declared.error.FileRefusal.TheVariants as file_refusals
 use Rattle.log_device.specs.declared.error.DeviceWhy.{DeviceWhy}
 use Rattle.log_device.specs.declared.error.DeviceWhy.TheVariants as whys
 

@@ -1,17 +1,17 @@
 //! A region's entries go into a store file.
 
-ghost use Rattle.std.specs.Prelude.{◌≡◌, ◌≤◌, ◌<◌, ◌+◌, ◌↔◌, ◌⊎◌, ◌++◌, ℕ, [], Contains, get_or, slice_set, Some, Ok, Err, IsTrue, IfOk, OnOk, OnErr, IsErrOf};
-ghost use Rattle.log_model.specs.Entry.{Entry};
+ghost use Rattle.std.specs.Prelude.{◌≡◌, ◌≤◌, ◌<◌, ◌+◌, ◌↔◌, ◌⊎◌, ℕ, [], get_or, slice_set, Some, Ok, Err, IsTrue, IfOk, OnOk, OnErr, IsErrOf};
 ghost use Rattle.recovery.specs.Kept.{flushed_to};
 ghost use Rattle.log_file.specs.Open.{OpenLog};
 ghost use Rattle.flush_snapshot.specs.Cut.{IsWithin};
-ghost use Rattle.log_ledger.specs.History.{History, committed_in, flushed_in};
+ghost use Rattle.log_ledger.specs.History.{History, flushed_in};
 ghost use Rattle.log_ledger.specs.Books.{IsServed, AreInOrder};
-ghost use Rattle.log_ledger.specs.Counted.{IsHighestKept, PutsCut};
+ghost use Rattle.log_ledger.specs.Counted.{PutsCut};
 ghost use Rattle.log_device.specs.Bears.{Bears, AreStoresFew};
 ghost use Rattle.log_device.specs.Keeps.{Between};
-ghost use Rattle.log_device.specs.Flushed.{NoneKept, HasStore};
-ghost use Rattle.log_device.specs.Whole.{IsBroken, IsCommitted, IsIdle, NoneFell, log_of, books_of, HasHistory, EachImage, LeavesAt, CausesFault, view_of};
+ghost use Rattle.log_device.specs.Flushed.{HasStore};
+ghost use Rattle.log_device.specs.Whole.{IsBroken, log_of, books_of, HasHistory, EachImage, CausesFault, view_of};
+ghost use Rattle.log_device.specs.Calls.{Flushes, FlushesBooks};
 
 use crate::device::Device;
 use crate::error::DeviceFlush;
@@ -30,45 +30,14 @@ impl<D: Disk> Device<D> {
         requires served { IsServed (books_of self.old) region }
         requires whole { IsTrue D.told → (IsBroken self.old → ⊥) → ∥ ((h : History) × HasHistory D.Disk self.old h) ∥₁ }
 
-        ensures any_moment { IsTrue D.told → (h : History) → HasHistory D.Disk self.old h → (bound : ℕ)
-            × EachImage D.Disk (LeavesAt D.Disk self.old h.kept.staged) bound self.old self.new }
-        ensures names { IsTrue D.told → (h : History) (file : OpenLog) → HasHistory D.Disk self.old h
-            → log_of self.old ≡ Some file → (bound : ℕ)
-            × EachImage D.Disk (Bears h.kept.base (books_of self.old).next_store file.name.number) bound self.old self.new }
-        ensures flushed { IsTrue D.told → (h : History) → HasHistory D.Disk self.old h → IfOk result
-            (λ n. IsHighestKept (committed_in h).kept region n
-            × HasHistory D.Disk self.new (flushed_in (committed_in h) region n)) }
-        ensures nothing { IsTrue D.told → (h : History) (n : ℕ) → HasHistory D.Disk self.old h
-            → result ≡ Err (DeviceFlush.Nothing n) → (n ≡ h.kept.flushed region) × NoneKept (committed_in h).kept region }
-        ensures refused { IsTrue D.told → (h : History) → HasHistory D.Disk self.old h
-            → OnErr result ((IsBroken self.new → ⊥) → HasHistory D.Disk self.new (committed_in h)) }
-        ensures store { IsTrue D.told → (h : History) → HasHistory D.Disk self.old h → IfOk result
-            (λ n. HasStore (view_of D.Disk self.new) region (get_or (books_of self.old).next_store region 0) (h.kept.flushed region + 1) n) }
-        ensures number { IfOk result (λ n. n ≡ get_or (books_of self.old).drawn region 0) }
-        ensures nothing_number { (n : ℕ) → result ≡ Err (DeviceFlush.Nothing n)
-            → get_or (books_of self.old).drawn region 0 ≤ n }
-        ensures stored { IfOk result (λ n. get_or (books_of self.new).stored region 0 ≡ n) }
-        ensures stored_nothing { (n : ℕ) → result ≡ Err (DeviceFlush.Nothing n)
-            → get_or (books_of self.new).stored region 0 ≡ n }
-        ensures others { (r : ℕ) → (r ≡ region → ⊥)
-            → get_or (books_of self.new).stored r 0 ≡ get_or (books_of self.old).stored r 0 }
-        ensures closed { (books_of self.new).closed ≡ (books_of self.old).closed }
-        ensures stored_still { (IsErrOf result DeviceFlush.Memory ⊎ IsErrOf result DeviceFlush.WriteFault)
-            → (books_of self.new).stored ≡ (books_of self.old).stored }
-        ensures synced { (IsBroken self.new → ⊥) → (books_of self.new).synced ≡ (books_of self.old).drawn }
-        ensures synced_either { ((books_of self.new).synced ≡ (books_of self.old).synced) ⊎ ((books_of self.new).synced ≡ (books_of self.old).drawn) }
-        ensures later { NoneFell (books_of self.old) (books_of self.new) }
-        ensures emptied { IsIdle (log_of self.new) }
-        ensures file { (file : OpenLog) → log_of self.old ≡ Some file → (IsBroken self.new → ⊥)
-            → IsCommitted file (log_of self.new) }
-        ensures next_store { OnOk result ((books_of self.new).next_store
-            ≡ slice_set (books_of self.old).next_store region (get_or (books_of self.old).next_store region 0 + 1)) }
-        ensures few { (limit : ℕ) → AreStoresFew limit (books_of self.old) → AreStoresFew limit (books_of self.new) }
-        ensures next_store_still { OnErr result ((books_of self.new).next_store ≡ (books_of self.old).next_store) }
-        ensures drawn { (books_of self.new).drawn ≡ (books_of self.old).drawn }
-        ensures served { (r : ℕ) → IsServed (books_of self.old) r → IsServed (books_of self.new) r }
-        ensures broken { IsErrOf result DeviceFlush.WriteFault ↔ IsBroken self.new }
+        // What the disk and each crash image hold, and what the numbers and the file say, on any disk.
+        ensures flushes { IsTrue D.told → (h : History) → HasHistory D.Disk self.old h
+            → Flushes D.Disk h region result self.old self.new }
+        ensures books { FlushesBooks region result self.old self.new }
+
+        // What stays, and when it fails.
         ensures stays { IsBroken self.old → self.new ≡ self.old }
+        ensures broken { IsErrOf result DeviceFlush.WriteFault ↔ IsBroken self.new }
         ensures cause { CausesFault D.Disk self.old self.new ((IsBroken self.old → ⊥)
             × IsErrOf result DeviceFlush.WriteFault) }
     {

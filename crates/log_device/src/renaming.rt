@@ -1,19 +1,46 @@
-//! The step that takes a closed log away.
+//! The steps that take closed logs away.
 
-ghost use Rattle.std.specs.Prelude.{◌≡◌, ℕ, List, Contains, IsTrue, OnOk, IsErr};
+ghost use Rattle.std.specs.Prelude.{◌≡◌, ℕ, List, length, Contains, IsTrue, OnOk, IsErr};
 ghost use Rattle.log_model.specs.Recovered.{IsWhollyFlushed};
 ghost use Rattle.disk_images.specs.Crash.{Throughout};
 ghost use Rattle.disk_images.specs.Calls.{HasCause};
 ghost use Rattle.log_file.specs.Open.{OpenLog};
-ghost use Rattle.log_ledger.specs.History.{ClosedLog, History, archived_in};
+ghost use Rattle.log_ledger.specs.History.{ClosedLog, History, archived_in, with_logs};
+ghost use Rattle.log_ledger.specs.Counted.{IsCounted, LogsLeft};
 ghost use Rattle.log_device.specs.Bears.{Bears};
 ghost use Rattle.log_device.specs.Keeps.{Keeps, Shows};
 
-use disk_images::{Disk, Failed, Name, NameKind};
+use disk_images::{Disk, Failed, Name, NameKind, rename_durable};
+use log_ledger::Ledger;
+
+/// Renames each closed log that is wholly flushed, the oldest first. It looks at each closed file of the ledger once, makes
+/// a disk call for each that goes, and takes no memory.
+pub(crate) fn rename_flushed<D: Disk>(disk: &mut D, ledger: &Ledger) -> Result<(), Failed>
+    requires { IsTrue D.told → ∥ ((log : OpenLog) × (h : History) × Keeps log (D.view disk.old) h ledger.now.next_store
+        × IsCounted ledger.now h) ∥₁ }
+
+    ensures any_moment { IsTrue D.told → (log : OpenLog) (h : History) → Keeps log (D.view disk.old) h ledger.now.next_store
+        → IsCounted ledger.now h
+        → Throughout (Shows h.kept log.name h.current) (length h.logs) (D.view disk.old) (D.view disk.new) }
+    ensures names { IsTrue D.told → (log : OpenLog) (h : History) → Keeps log (D.view disk.old) h ledger.now.next_store
+        → IsCounted ledger.now h
+        → Throughout (Bears h.kept.base ledger.now.next_store log.name.number) (length h.logs) (D.view disk.old) (D.view disk.new) }
+    ensures kept { IsTrue D.told → (log : OpenLog) (h : History) → Keeps log (D.view disk.old) h ledger.now.next_store
+        → IsCounted ledger.now h → OnOk result ((left : List ClosedLog) × LogsLeft h left
+        × Keeps log (D.view disk.new) (with_logs h left) ledger.now.next_store) }
+    ensures cause { HasCause (D.faults disk.old) (D.faults disk.new) (IsErr result) }
+{
+    let mut above = 0;
+    while let Some(file) = ledger.first_to_go(above) {
+        rename_log(disk, file)?;
+        above = file;
+    }
+    Ok(())
+}
 
 /// Renames a closed log from Log to Old. It makes one disk call, after which no settle is needed: where a crash brings
 /// the log back, its entries are flushed.
-pub(crate) fn rename_log<D: Disk>(disk: &mut D, number: u64) -> Result<(), Failed>
+fn rename_log<D: Disk>(disk: &mut D, number: u64) -> Result<(), Failed>
     requires { IsTrue D.told → ∥ ((log : OpenLog) × (h : History) × (ns : List ℕ) × (c : ClosedLog)
         × Keeps log (D.view disk.old) h ns × Contains h.logs c × (c.number ≡ number)) ∥₁ }
 
@@ -41,5 +68,5 @@ pub(crate) fn rename_log<D: Disk>(disk: &mut D, number: u64) -> Result<(), Faile
         region: 0,
         number,
     };
-    disk.rename(log, old)
+    rename_durable(disk, log, old)
 }

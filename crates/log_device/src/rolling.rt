@@ -1,11 +1,12 @@
 //! From one log file to the next.
 
-ghost use Rattle.std.specs.Prelude.{◌≡◌, ◌⊎◌, ◌≤◌, ◌<◌, ◌+◌, ◌^◌, ◌↔◌, ◌++◌, ℕ, List, [], length, sum, Some, None, Ok, Err, IsTrue, IfOk, OnOk, OnErr, IsErr, IsErrOf};
+ghost use Rattle.std.specs.Prelude.{◌≡◌, ◌⊎◌, ◌≤◌, ◌<◌, ◌+◌, ◌^◌, ◌↔◌, ℕ, [], sum, Some, None, Ok, Err, IsTrue, IfOk, OnOk, OnErr, IsErr, IsErrOf};
 ghost use Rattle.log_file.specs.Open.{OpenLog};
-ghost use Rattle.log_ledger.specs.History.{History, committed_in, closed_in};
+ghost use Rattle.log_ledger.specs.History.{History, closed_in};
 ghost use Rattle.log_device.specs.Bears.{Bears};
 ghost use Rattle.log_device.specs.Keeps.{Between, IsInOrder, log_name};
-ghost use Rattle.log_device.specs.Whole.{IsBroken, IsIdle, IsBegunAfter, NoneFell, log_of, books_of, HasHistory, EachImage, LeavesAt, CausesFault};
+ghost use Rattle.log_device.specs.Whole.{IsBroken, IsIdle, IsBegunAfter, log_of, books_of, HasHistory, EachImage, CausesFault};
+ghost use Rattle.log_device.specs.Calls.{Rolls, RollsBooks};
 
 use crate::device::Device;
 use crate::error::{RollRefusal, Rolled, WriteFault};
@@ -22,45 +23,14 @@ impl<D: Disk> Device<D> {
     pub fn roll(&mut self, alloc: Global) -> Result<Rolled, RollRefusal>
         requires { IsTrue D.told → (IsBroken self.old → ⊥) → ∥ ((h : History) × HasHistory D.Disk self.old h) ∥₁ }
 
-        ensures any_moment { IsTrue D.told → (h : History) → HasHistory D.Disk self.old h
-            → EachImage D.Disk (LeavesAt D.Disk self.old h.kept.staged) 11 self.old self.new }
-        ensures names { IsTrue D.told → (h : History) (file : OpenLog) → HasHistory D.Disk self.old h
-            → log_of self.old ≡ Some file
-            → EachImage D.Disk (Bears h.kept.base (books_of self.old).next_store (file.name.number + 1)) 11 self.old self.new }
+        // What the disk and each crash image hold, and what the numbers and the file say, on any disk.
+        ensures rolls { IsTrue D.told → (h : History) → HasHistory D.Disk self.old h
+            → Rolls D.Disk h result self.old self.new }
+        ensures books { RollsBooks result self.old self.new }
 
-        // In each image in which the file that the call begins has a byte, the old file has every entry staged into it.
-        ensures in_order { IsTrue D.told → (h : History) (file : OpenLog) → HasHistory D.Disk self.old h
-            → log_of self.old ≡ Some file
-            → EachImage D.Disk (IsInOrder file.name (log_name (file.name.number + 1)) (h.current ++ h.kept.staged)) 11 self.old self.new }
-        ensures rolled { IsTrue D.told → (h : History) → HasHistory D.Disk self.old h → IfOk result
-            (λ rolled. HasHistory D.Disk self.new (closed_in (committed_in h) rolled.closed)
-            × (rolled.entries ≡ length (h.current ++ h.kept.staged))) }
-        ensures file { (file : OpenLog) → log_of self.old ≡ Some file → IfOk result
-            (λ rolled. (rolled.closed ≡ file.name.number) × (rolled.entries ≡ file.entries + file.staged)
-            × (0 < rolled.entries)) }
-        ensures refused { IsTrue D.told → (h : History) → HasHistory D.Disk self.old h
-            → OnErr result ((IsBroken self.new → ⊥) → HasHistory D.Disk self.new (committed_in h)) }
-        ensures nothing { (file : OpenLog) (n : ℕ) → log_of self.old ≡ Some file
-            → result ≡ Err (RollRefusal.NothingToRoll n) → (n ≡ file.name.number) × (file.entries + file.staged ≡ 0) }
-        ensures empty { (file : OpenLog) → log_of self.old ≡ Some file → file.entries + file.staged ≡ 0
-            → (IsBroken self.new → ⊥) → result ≡ Err (RollRefusal.NothingToRoll file.name.number) }
-        ensures closed { OnOk result ((books_of self.new).closed ≡ (books_of self.new).synced) }
-        ensures closed_empty { (n : ℕ) → result ≡ Err (RollRefusal.NothingToRoll n)
-            → (books_of self.new).closed ≡ (books_of self.new).synced }
-        ensures closed_still { IsErrOf result RollRefusal.Memory
-            → (books_of self.new).closed ≡ (books_of self.old).closed }
-        ensures closed_broken { IsBroken self.new → (books_of self.new).closed ≡ (books_of self.old).closed }
-        ensures synced { (IsBroken self.new → ⊥) → (books_of self.new).synced ≡ (books_of self.old).drawn }
-        ensures synced_either { ((books_of self.new).synced ≡ (books_of self.old).synced) ⊎ ((books_of self.new).synced ≡ (books_of self.old).drawn) }
-        ensures later { NoneFell (books_of self.old) (books_of self.new) }
-        ensures emptied { IsIdle (log_of self.new) }
-        ensures next { (file : OpenLog) → log_of self.old ≡ Some file
-            → OnOk result (IsBegunAfter file (log_of self.new)) }
-        ensures stored { (books_of self.new).stored ≡ (books_of self.old).stored }
-        ensures drawn { (books_of self.new).drawn ≡ (books_of self.old).drawn }
-        ensures served { (books_of self.new).next_store ≡ (books_of self.old).next_store }
-        ensures broken { IsErrOf result RollRefusal.WriteFault ↔ IsBroken self.new }
+        // What stays, and when it fails.
         ensures stays { IsBroken self.old → self.new ≡ self.old }
+        ensures broken { IsErrOf result RollRefusal.WriteFault ↔ IsBroken self.new }
         ensures cause { CausesFault D.Disk self.old self.new ((IsBroken self.old → ⊥)
             × IsErrOf result RollRefusal.WriteFault) }
     {

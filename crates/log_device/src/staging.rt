@@ -1,14 +1,15 @@
 //! Entries are staged, and made durable.
 
-ghost use Rattle.std.specs.Prelude.{◌≡◌, ◌≤◌, ◌<◌, ◌+◌, ◌==◌, if◌then◌else◌, ◌↔◌, ◌++◌, ℕ, List, [], length, get_or, slice_set, Some, None, Ok, IsTrue, IfOk, IfErr, OnOk, OnErr, IsErr};
+ghost use Rattle.std.specs.Prelude.{◌≡◌, ◌≤◌, ◌<◌, ◌+◌, ◌↔◌, ◌++◌, ℕ, [], length, get_or, Some, None, Ok, IsTrue, IfOk, IfErr, OnOk, OnErr, IsErr};
 ghost use Rattle.log_model.specs.Entry.{Entry, IsEntry, entry_frame};
 ghost use Rattle.log_file.specs.Open.{OpenLog};
-ghost use Rattle.log_ledger.specs.History.{History, staged_in, committed_in};
+ghost use Rattle.log_ledger.specs.History.{History, committed_in};
 ghost use Rattle.log_ledger.specs.Books.{IsServed, AreInOrder};
 ghost use Rattle.recovery.specs.Kept.{committed};
 ghost use Rattle.log_device.specs.Bears.{Bears};
 ghost use Rattle.log_device.specs.Keeps.{Between};
-ghost use Rattle.log_device.specs.Whole.{IsBroken, IsCommitted, IsIdle, HasStaged, disk_of, log_of, books_of, HasHistory, EachImage, LeavesAt, CausesFault};
+ghost use Rattle.log_device.specs.Whole.{IsBroken, IsCommitted, IsIdle, disk_of, log_of, books_of, HasHistory, EachImage, CausesFault};
+ghost use Rattle.log_device.specs.Calls.{Stages, StagesBooks, Syncs, SyncsBooks};
 
 use crate::device::Device;
 use crate::error::{StageFull, WriteFault};
@@ -26,26 +27,19 @@ impl<D: Disk> Device<D> {
             × (e.region ≡ truck.value.region) × (e.number ≡ truck.value.number)) ∥₁ }
         requires above { get_or (books_of self.old).drawn truck.value.region 0 < truck.value.number }
 
-        ensures staged { IsTrue D.told → (h : History) (e : Entry) → HasHistory D.Disk self.old h → IsEntry e
-            → truck.value.bytes ≡ entry_frame e → e.region ≡ truck.value.region → e.number ≡ truck.value.number
-            → OnOk result (HasHistory D.Disk self.new (staged_in h e)) }
-        ensures full { (file : OpenLog) → log_of self.old ≡ Some file
-            → IsErr result ↔ (4194304 < length file.bytes + length truck.value.bytes + 1) }
-        ensures file { (file : OpenLog) → log_of self.old ≡ Some file
-            → OnOk result (HasStaged file (length truck.value.bytes) (log_of self.new)) }
-        ensures broken { IsBroken self.old → IsErr result }
-        ensures unbroken { OnOk result (IsBroken self.new → ⊥) }
+        // What the device has after it, and what its numbers and its file say, on any disk.
+        ensures stages { IsTrue D.told → (h : History) → HasHistory D.Disk self.old h
+            → Stages D.Disk h truck.value result self.old self.new }
+        ensures books { StagesBooks truck.value result self.old self.new }
+
+        // What stays.
         ensures same { OnErr result (self.new ≡ self.old) }
         ensures truck { IfErr result (λ full. full.truck ≡ truck) }
-        ensures disk { disk_of self.new ≡ disk_of self.old }
-        ensures drawn { OnOk result ((books_of self.new).drawn ≡ slice_set (books_of self.old).drawn truck.value.region truck.value.number) }
-        ensures drawn_at { (r : ℕ)
-            → OnOk result (get_or (books_of self.new).drawn r 0
-            ≡ (if truck.value.region == r then truck.value.number else get_or (books_of self.old).drawn r 0)) }
-        ensures synced { (books_of self.new).synced ≡ (books_of self.old).synced }
-        ensures stored { (books_of self.new).stored ≡ (books_of self.old).stored }
-        ensures closed { (books_of self.new).closed ≡ (books_of self.old).closed }
-        ensures served { (books_of self.new).next_store ≡ (books_of self.old).next_store }
+
+        // When it fails.
+        ensures full { (file : OpenLog) → log_of self.old ≡ Some file
+            → IsErr result ↔ (4194304 < length file.bytes + length truck.value.bytes + 1) }
+        ensures broken { IsBroken self.old → IsErr result }
     {
         let Some(log) = &mut self.log else {
             return Err(StageFull { truck });
@@ -64,26 +58,14 @@ impl<D: Disk> Device<D> {
     pub fn sync(&mut self) -> Result<u64, WriteFault>
         requires { IsTrue D.told → (IsBroken self.old → ⊥) → ∥ ((h : History) × HasHistory D.Disk self.old h) ∥₁ }
 
-        // At each moment each image is fit, and recovers to the files as they read with none of the staged entries or with all.
-        ensures any_moment { IsTrue D.told → (h : History) → HasHistory D.Disk self.old h
-            → EachImage D.Disk (LeavesAt D.Disk self.old h.kept.staged) 4 self.old self.new }
-        ensures names { IsTrue D.told → (h : History) (file : OpenLog) → HasHistory D.Disk self.old h
-            → log_of self.old ≡ Some file
-            → EachImage D.Disk (Bears h.kept.base (books_of self.old).next_store file.name.number) 4 self.old self.new }
-        ensures committed { IsTrue D.told → (h : History) → HasHistory D.Disk self.old h
-            → OnOk result (HasHistory D.Disk self.new (committed_in h)) }
-        ensures count { (file : OpenLog) → log_of self.old ≡ Some file → IfOk result (λ n. n ≡ file.staged) }
+        // What the disk and each crash image hold, and what the numbers and the file say, on any disk.
+        ensures syncs { IsTrue D.told → (h : History) → HasHistory D.Disk self.old h
+            → Syncs D.Disk h result self.old self.new }
+        ensures books { SyncsBooks result self.old self.new }
 
-        // Where nothing is staged it makes no disk call, and does not fail.
-        ensures idle { (file : OpenLog) → log_of self.old ≡ Some file → file.staged ≡ 0
-            → (disk_of self.new ≡ disk_of self.old) × (result ≡ Ok 0) }
-        ensures file { (file : OpenLog) → log_of self.old ≡ Some file → OnOk result (IsCommitted file (log_of self.new)) }
-        ensures emptied { IsIdle (log_of self.new) }
-        ensures synced { OnOk result ((books_of self.new) ≡ record (books_of self.old) { synced = (books_of self.old).drawn }) }
-        ensures faulty { OnErr result (books_of self.new ≡ books_of self.old) }
-        ensures never_falls { (r : ℕ) → get_or (books_of self.old).synced r 0 ≤ get_or (books_of self.new).synced r 0 }
-        ensures broken { IsErr result ↔ IsBroken self.new }
+        // What stays, and when it fails.
         ensures stays { IsBroken self.old → self.new ≡ self.old }
+        ensures broken { IsErr result ↔ IsBroken self.new }
         ensures cause { CausesFault D.Disk self.old self.new ((IsBroken self.old → ⊥) × IsErr result) }
     {
         self.commit_staged()

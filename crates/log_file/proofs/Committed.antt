@@ -1,6 +1,7 @@
 -- What a commit leaves of a log file.
 use Rattle.std.proofs.Common.{◌≡◌, inl, inr, ⊎_elim, ℕ, ◌+◌, ◌<◌, List, [], ◌∷◌, ◌++◌, length, Option, Some, None, refl, sym, ◌∙◌, ap, subst, arith, length-append}
 use Rattle.std.proofs.lemmas.Bool.{cases_lt}
+use Rattle.std.proofs.lemmas.List.{append-nil}
 use Rattle.log_model.specs.declared.name.Name.{Name}
 use Rattle.log_model.specs.Entry.{Entry}
 use Rattle.log_model.specs.LogText.{IsLogText}
@@ -13,6 +14,7 @@ use Rattle.disk_images.proofs.Torn.{only_weaker, only_unchanged}
 use Rattle.recovery.specs.Change.{HasText, HasEntries}
 use Rattle.log_file.specs.LogText.{front, behind_gate, behind_end, at_rest, ended_text}
 use Rattle.log_file.specs.Open.{OpenLog, AreEntriesOf, HasEither, HasEnding, IsStaged, IsOpen}
+use Rattle.log_file.specs.Calls.{IsSameFile}
 use Rattle.log_file.proofs.Texts.{length-front-nil, text_closed, entries_at_rest, entries_ended, opened_batch, each_append}
 
 reads_as : (name : Name) (es : List Entry) (ended : Option ℕ) (image : Option (List ℕ)) (bytes text : List ℕ) → image ≡ Some bytes → bytes ≡ text → IsLogText (key_of name) text es ended → HasText name es ended image
@@ -80,18 +82,23 @@ unwritten name es batch v each file =
     (at_once (OnlyAt name (HasEither name es (es ++ batch)) v) v
     (λ J now. only_unchanged name (HasEither name es (es ++ batch)) v J (λ I there. inl (rest_has name es (content I name) each (file.durable I there))) now))
 
+-- a batch without entries adds none
+pub none_added : (log : OpenLog) (v : DiskView) (es batch : List Entry) → log.staged ≡ 0 → IsOpen log v es → IsStaged log batch → IsOpen log v (es ++ batch)
+none_added log v es [] none is staged = subst (λ (l : List Entry). IsOpen log v l) (sym (append-nil es)) is
+none_added log v es (b ∷ batch) none is staged = absurd (omega (arith, none, staged.count))
+
 pub batch_shown : (name : Name) (es batch : List Entry) (bytes : List ℕ) (w : DiskView) → 0 < length batch → bytes ≡ behind_gate batch
     → IsDurableFile w name (front name.number es ++ 165 ∷ bytes) → IsDurableFile w name (at_rest name.number (es ++ batch))
 batch_shown name es batch bytes w some are =
     subst (λ (text : List ℕ). IsDurableFile w name text) (ap (λ (b : List ℕ). front name.number es ++ 165 ∷ b) are ∙ opened_batch name.number es batch some)
 
 -- staging changes nothing of the file
-pub open_still : (log now : OpenLog) (v : DiskView) (es : List Entry) → (now.name ≡ log.name) × (now.gate ≡ log.gate) × (now.entries ≡ log.entries) → IsOpen log v es → IsOpen now v es
+pub open_still : (log now : OpenLog) (v : DiskView) (es : List Entry) → IsSameFile log now → IsOpen log v es → IsOpen now v es
 open_still log now v es same is = record {
-  each = subst (λ (name : Name). AreEntriesOf name es) (sym same.0) is.each;
-  file = subst (λ (name : Name). IsDurableFile v name (at_rest name.number es)) (sym same.0) is.file;
-  gate = same.1 ∙ is.gate ∙ ap (λ (name : Name). length (front name.number es)) (sym same.0);
-  count = same.2 ∙ is.count;
+  each = subst (λ (name : Name). AreEntriesOf name es) (sym same.name) is.each;
+  file = subst (λ (name : Name). IsDurableFile v name (at_rest name.number es)) (sym same.name) is.file;
+  gate = same.gate ∙ is.gate ∙ ap (λ (name : Name). length (front name.number es)) (sym same.name);
+  count = same.entries ∙ is.count;
 }
 
 -- what is said of each moment of a commit, and of the end of a file

@@ -6,7 +6,7 @@ use Rattle.log_model.specs.LogText.{FileKey}
 use Rattle.log_model.specs.Files.{Reads}
 use Rattle.disk_images.specs.Crash.{DiskView}
 use Rattle.entry_frame.specs.Feed.{Feeding, IsFed}
-use Rattle.log_file.specs.Looking.{OnlyLooks}
+use Rattle.file_base.specs.Looking.{OnlyLooks}
 
 -- so many of the bytes are read, by at most as many calls
 pub record Going (told : Type 0) (name : Name) (first now : DiskView) (key : FileKey) (feed : Feeding) (entries : List Entry) (at : ℕ) : Type 0 where

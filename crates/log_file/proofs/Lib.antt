@@ -1,5 +1,4 @@
 pub mod Texts
 pub mod Committed
-pub mod Looking
 pub mod Pieces
 pub mod Going

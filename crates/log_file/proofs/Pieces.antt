@@ -1,7 +1,6 @@
 -- Pieces of a file, one after the other, and what a feed of them says.
-use Rattle.std.proofs.Common.{◌≡◌, inl, inr, ℕ, zero, suc, ◌+◌, ◌≤◌, List, [], ◌∷◌, ◌++◌, length, take, drop, Err, refl, sym, ◌∙◌, ap, min, subst, arith, length-append}
+use Rattle.std.proofs.Common.{◌≡◌, ℕ, ◌+◌, ◌≤◌, List, ◌++◌, length, take, drop, Err, ◌∙◌, ap, min, subst, arith, length-append}
 use Rattle.std.proofs.lemmas.List.{take_at, length-take}
-use Rattle.std.proofs.lemmas.Bool.{cases_lt}
 use Rattle.log_model.specs.Entry.{Entry}
 use Rattle.log_model.specs.LogText.{FileKey, IsDamaged}
 use Rattle.entry_frame.specs.declared.phase.Phase.{Phase}
@@ -9,19 +8,10 @@ use Rattle.entry_frame.specs.declared.phase.Phase.TheVariants as phases
 use Rattle.entry_frame.specs.declared.phase.FeedRefusal.{FeedRefusal}
 use Rattle.entry_frame.specs.declared.phase.FeedRefusal.TheVariants as feed_refusals
 use Rattle.entry_frame.specs.Feed.{Feeding, IsFed, Stands, IsOfPhase}
-use Rattle.log_file.specs.declared.error.ReadRefusal.{ReadRefusal}
-use Rattle.log_file.specs.declared.error.ReadRefusal.TheVariants as refusals
-use Rattle.log_file.specs.Refusal.{read_refusal_of, IfDamaged}
-
-take_none : (n : ℕ) (c : List ℕ) → c ≡ [] → take n c ≡ []
-take_none zero c is = refl
-take_none (suc n) c is = ap (take (suc n)) is
-
--- what was read, and the next piece
-pub next_taken : (m n : ℕ) (c : List ℕ) → take m c ++ take n (drop m c) ≡ take (m + n) c
-next_taken zero n c = let same : n ≡ 0 + n = omega arith in ap (λ (k : ℕ). take k c) same
-next_taken (suc m) n [] = take_none n [] refl ∙ sym (take_none (suc m + n) [] refl)
-next_taken (suc m) n (x ∷ c) = let same : suc (m + n) ≡ suc m + n = omega arith in ap (λ (l : List ℕ). x ∷ l) (next_taken m n c) ∙ ap (λ (k : ℕ). take k (x ∷ c)) same
+use Rattle.file_base.specs.declared.error.ReadRefusal.{ReadRefusal}
+use Rattle.file_base.specs.declared.error.ReadRefusal.TheVariants as refusals
+use Rattle.file_base.specs.Refusal.{read_refusal_of, IfDamaged}
+use Rattle.file_base.proofs.Pieces.{next_taken}
 
 pub read_behind : (given piece c : List ℕ) (m n : ℕ) → given ≡ take m c → piece ≡ take n (drop m c) → given ++ piece ≡ take (m + n) c
 read_behind given piece c m n had read = ap (λ (l : List ℕ). l ++ piece) had ∙ ap (λ (l : List ℕ). take m c ++ l) read ∙ next_taken m n c
@@ -51,6 +41,3 @@ first_read new piece old n left room is count size =
 -- how many bytes are read behind so many
 pub more_read : (given piece : List ℕ) (at n : ℕ) → length given ≡ at → n ≤ length piece → length (given ++ take n piece) ≡ at + n
 more_read given piece at n so_far le = omega (arith, length-append given (take n piece), length-take n piece, so_far, le)
-
-pub some_more : (at n : ℕ) → (n ≡ 0 → ⊥) → at + 1 ≤ at + n
-some_more at n some = elim (cases_lt 0 n) as (λ _. at + 1 ≤ at + n) [ inl more ↦ omega (arith, more) | inr none ↦ absurd (some (omega (arith, none))) ]

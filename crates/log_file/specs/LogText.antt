@@ -1,6 +1,7 @@
 -- The text of a log file in parts, as it is written: up to a gate, and behind it.
 use Rattle.std.specs.Prelude.{ℕ, List, [], ◌∷◌, ◌++◌, length}
 use Rattle.std.specs.List.{flat_map}
+use Rattle.log_model.specs.declared.format.TheConstants.{OPEN_GATE}
 use Rattle.log_model.specs.Entry.{Entry, entry_frame, end_frame}
 use Rattle.log_model.specs.LogText.{header, opened}
 
@@ -24,4 +25,4 @@ at_rest number entries = front number entries ++ 0 ∷ []
 
 -- the same with an end frame
 abbrev pub ended_text : ℕ → List Entry → List ℕ
-ended_text number entries = front number entries ++ 165 ∷ behind_end (length entries)
+ended_text number entries = front number entries ++ OPEN_GATE ∷ behind_end (length entries)

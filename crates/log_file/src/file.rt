@@ -1,21 +1,19 @@
 //! A log file that is written.
 
-ghost use Rattle.std.specs.Prelude.{◌≡◌, ◌≤◌, ◌<◌, ◌+◌, ◌^◌, ℕ, [], ◌∷◌, ◌++◌, List, Some, length, IsTrue, IfOk, OnOk, OnErr, IsErr, IsErrOf, ◌↔◌};
+ghost use Rattle.std.specs.Prelude.{◌≡◌, ◌≤◌, ◌<◌, ◌+◌, ◌^◌, ℕ, [], ◌∷◌, ◌++◌, List, length, IsTrue, IfOk, OnOk, OnErr, IsErr, IsErrOf, ◌↔◌};
 ghost use Rattle.log_model.specs.Entry.{Entry, entry_frame};
 ghost use Rattle.log_model.specs.LogText.{IsEntryOf};
-ghost use Rattle.log_model.specs.Files.{IsAbsent, IsName, HoldsEntries, content, key_of};
-ghost use Rattle.disk_images.specs.Crash.{Throughout, OnlyAt};
-ghost use Rattle.disk_images.specs.OneFile.{Touches, IsDurableFile};
+ghost use Rattle.log_model.specs.Files.{IsAbsent, IsName, HoldsEntries, key_of};
+ghost use Rattle.disk_images.specs.OneFile.{Touches};
 ghost use Rattle.disk_images.specs.Calls.{HasCause};
-ghost use Rattle.recovery.specs.Change.{HasText, HasEntries};
-ghost use Rattle.log_file.specs.LogText.{ended_text};
-ghost use Rattle.log_file.specs.Open.{IsOpen, IsStaged, HasEither, HasEnding};
+ghost use Rattle.log_file.specs.Open.{IsOpen, IsStaged};
+ghost use Rattle.log_file.specs.Calls.{Begins, IsSameFile, IsReadyToCommit, Commits, Finishes};
 
-use crate::error::{DiskFault, FileRefusal, StageFull};
-use crate::stage::Stage;
+use crate::stage::{Stage, StageFull};
 use crate::text::{end_text, new_text};
 use disk_images::{Disk, Name, commit_behind_gate, create_durably};
 use entry_frame::EntryBytes;
+use file_base::{DiskFault, FileRefusal};
 use std::alloc::Global;
 use std::marker::Model;
 
@@ -47,13 +45,14 @@ impl LogFile {
         requires named { IsName name }
         requires kind { HoldsEntries name.kind }
 
-        ensures begun { IsTrue D.told → IfOk result (λ log. IsOpen log (D.view disk.new) []) }
+        // What the disk and every crash image hold.
+        ensures begins { IsTrue D.told → Begins name result (D.view disk.old) (D.view disk.new) }
+
+        // What the writer holds.
         ensures name { IfOk result (λ log. log.name ≡ name) }
         ensures empty { IfOk result (λ log. (log.entries ≡ 0) × IsStaged log []) }
 
-        // At each moment each image of the file is absent or has no entries.
-        ensures any_moment { IsTrue D.told → Throughout (OnlyAt name (HasEntries name []) (D.view disk.old)) 3 (D.view disk.old) (D.view disk.new) }
-        ensures touches { IsTrue D.told → Touches name (D.view disk.old) (D.view disk.new) }
+        // When it fails.
         ensures memory { IsErrOf result FileRefusal.Memory → disk.new ≡ disk.old }
         ensures cause { HasCause (D.faults disk.old) (D.faults disk.new) (IsErrOf result FileRefusal.DiskFault) }
     {
@@ -69,13 +68,14 @@ impl LogFile {
         requires named { IsName name }
         requires kind { HoldsEntries name.kind }
 
-        ensures begun { IsTrue D.told → IfOk result (λ log. IsOpen log (D.view disk.new) []) }
+        // What the disk and every crash image hold.
+        ensures begins { IsTrue D.told → Begins name result (D.view disk.old) (D.view disk.new) }
+
+        // What the writer holds.
         ensures name { IfOk result (λ log. log.name ≡ name) }
         ensures empty { IfOk result (λ log. (log.entries ≡ 0) × IsStaged log []) }
 
-        // At each moment each image of the file is absent or has no entries.
-        ensures any_moment { IsTrue D.told → Throughout (OnlyAt name (HasEntries name []) (D.view disk.old)) 3 (D.view disk.old) (D.view disk.new) }
-        ensures touches { IsTrue D.told → Touches name (D.view disk.old) (D.view disk.new) }
+        // When it fails.
         ensures cause { HasCause (D.faults disk.old) (D.faults disk.new) (IsErr result) }
     {
         // Until the sync a crash leaves no file, or one of at most these 17 bytes: either has no entries.
@@ -100,9 +100,11 @@ impl LogFile {
             → IsEntryOf (key_of self.old.name) e → OnOk result (IsStaged self.new (batch ++ e ∷ [])) }
         ensures counted { OnOk result (self.new.staged ≡ self.old.staged + 1) }
         ensures len { OnOk result (length self.new.bytes ≡ length self.old.bytes + length bytes.now + 1) }
+        ensures same_file { IsSameFile self.old self.new }
+
+        // When it fails.
         ensures full { IsErr result ↔ (4194304 < length self.old.bytes + length bytes.now + 1) }
         ensures same { OnErr result (self.new ≡ self.old) }
-        ensures elsewhere { (self.new.name ≡ self.old.name) × (self.new.gate ≡ self.old.gate) × (self.new.entries ≡ self.old.entries) }
     {
         let frame = bytes.as_slice();
         if self.stage.is_full_for(frame.len()) {
@@ -117,23 +119,21 @@ impl LogFile {
     /// many entries are staged, and none where there are none; it takes no memory. After a fault the file isn't to be
     /// used again.
     pub fn commit<D: Disk>(&mut self, disk: &mut D) -> Result<u64, DiskFault>
-        requires { IsTrue D.told → ∥ ((entries : List Entry) × (batch : List Entry) × IsOpen self.old (D.view disk.old) entries × IsStaged self.old batch) ∥₁ }
+        requires { IsTrue D.told → IsReadyToCommit self.old (D.view disk.old) }
 
-        ensures committed { IsTrue D.told → (entries batch : List Entry) → IsOpen self.old (D.view disk.old) entries
-            → IsStaged self.old batch → OnOk result (IsOpen self.new (D.view disk.new) (entries ++ batch)) }
+        // What the disk and every crash image hold.
+        ensures commits { IsTrue D.told → (entries batch : List Entry) → IsOpen self.old (D.view disk.old) entries → IsStaged self.old batch
+            → Commits entries batch result self.old self.new (D.view disk.old) (D.view disk.new) }
+        ensures no_other_file { IsTrue D.told → Touches self.old.name (D.view disk.old) (D.view disk.new) }
 
-        // At each moment each image of the file has the entries before, or these and the whole batch.
-        ensures any_moment { IsTrue D.told → (entries batch : List Entry) → IsOpen self.old (D.view disk.old) entries
-            → IsStaged self.old batch
-            → Throughout (OnlyAt self.old.name (HasEither self.old.name entries (entries ++ batch)) (D.view disk.old)) 4 (D.view disk.old) (D.view disk.new) }
-        ensures emptied { OnOk result (IsStaged self.new []) }
-        ensures counted { OnOk result (self.new.entries ≡ self.old.entries + self.old.staged) }
-        ensures count { IfOk result (λ n. n ≡ self.old.staged) }
-        ensures name { self.new.name ≡ self.old.name }
+        // What the writer holds.
+        ensures stage_emptied { OnOk result (IsStaged self.new []) }
+        ensures entries { OnOk result (self.new.entries ≡ self.old.entries + self.old.staged) }
+        ensures same_name { self.new.name ≡ self.old.name }
+        ensures returns_count { IfOk result (λ n. n ≡ self.old.staged) }
 
-        // Where nothing is staged it makes no disk call, and does not fail.
-        ensures idle { self.old.staged ≡ 0 → (disk.new ≡ disk.old) × (result ≡ Ok 0) }
-        ensures touches { IsTrue D.told → Touches self.old.name (D.view disk.old) (D.view disk.new) }
+        // When it fails: where nothing is staged it makes no disk call, and does not fail.
+        ensures nothing_staged { self.old.staged ≡ 0 → (disk.new ≡ disk.old) × (result ≡ Ok 0) }
         ensures cause { HasCause (D.faults disk.old) (D.faults disk.new) (IsErr result) }
     {
         let count = self.staged;
@@ -156,16 +156,13 @@ impl LogFile {
         requires open { IsTrue D.told → ∥ ((entries : List Entry) × IsOpen self (D.view disk.old) entries) ∥₁ }
         requires idle { self.staged ≡ 0 }
 
-        ensures finished { IsTrue D.told → (entries : List Entry) → IsOpen self (D.view disk.old) entries
-            → OnOk result (IsDurableFile (D.view disk.new) self.name (ended_text self.name.number entries)) }
-        ensures ended { IsTrue D.told → (entries : List Entry) → IsOpen self (D.view disk.old) entries
-            → IfOk result (λ n. HasText self.name entries (Some n) (content (D.view disk.new).files self.name)) }
+        // What the disk and every crash image hold.
+        ensures finishes { IsTrue D.told → (entries : List Entry) → IsOpen self (D.view disk.old) entries
+            → Finishes entries result self (D.view disk.old) (D.view disk.new) }
+        ensures no_other_file { IsTrue D.told → Touches self.name (D.view disk.old) (D.view disk.new) }
+        ensures returns_count { IfOk result (λ n. n ≡ self.entries) }
 
-        // At each moment each image of the file has the entries, with or without the end frame.
-        ensures any_moment { IsTrue D.told → (entries : List Entry) → IsOpen self (D.view disk.old) entries
-            → Throughout (OnlyAt self.name (HasEnding self.name entries) (D.view disk.old)) 4 (D.view disk.old) (D.view disk.new) }
-        ensures count { IfOk result (λ n. n ≡ self.entries) }
-        ensures touches { IsTrue D.told → Touches self.name (D.view disk.old) (D.view disk.new) }
+        // When it fails.
         ensures cause { HasCause (D.faults disk.old) (D.faults disk.new) (IsErr result) }
     {
         // The end frame goes behind the gate as a batch of one.

@@ -7,18 +7,14 @@
 //! A log file doesn't know which sequence ids its entries have, and doesn't choose names: that is its caller's part.
 #![tactic(auto)]
 
-mod error;
 mod file;
 mod list;
 mod read;
 mod stage;
 mod text;
 
-pub use error::{DiskFault, FileRefusal, ReadRefusal, StageFull};
 pub use file::LogFile;
+pub use file_base::{DiskFault, FileRefusal, ReadRefusal};
 pub use list::{EntryList, LogText};
 pub use read::read_log;
-pub use stage::{STAGE_BYTES, Stage};
-
-#[cfg(test)]
-mod tests;
+pub use stage::{STAGE_BYTES, Stage, StageFull};

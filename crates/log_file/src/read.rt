@@ -5,13 +5,13 @@ ghost use Rattle.log_model.specs.LogText.{IsLogText, IsDamaged};
 ghost use Rattle.log_model.specs.Files.{Reads, key_of};
 ghost use Rattle.disk_images.specs.Calls.{HasCause};
 ghost use Rattle.entry_frame.specs.Feed.{IsFed, IsDrained};
-ghost use Rattle.log_file.specs.Looking.{OnlyLooks};
-ghost use Rattle.log_file.specs.Refusal.{IfDamaged};
+ghost use Rattle.file_base.specs.Looking.{OnlyLooks};
+ghost use Rattle.file_base.specs.Refusal.{IfDamaged};
 
-use crate::error::ReadRefusal;
 use crate::list::{EntryList, LogText};
 use disk_images::{Disk, Name};
 use entry_frame::{Entry, Feed, FileKey};
+use file_base::ReadRefusal;
 use kv_cell::NoMemory;
 use std::alloc::Global;
 

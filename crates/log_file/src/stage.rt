@@ -3,15 +3,18 @@
 ghost use Rattle.std.specs.Prelude.{◌≡◌, ◌≤◌, ◌<◌, ◌+◌, ℕ, [], ◌∷◌, ◌++◌, List, length, IfOk, IsTrue, vec_len, vec_capacity, ◌↔◌};
 
 use kv_cell::{NoMemory, put};
+use log_model::{CLOSED_GATE, OPEN_GATE};
 use std::alloc::Global;
 use std::marker::Model;
+use thiserror::Error;
 
 /// The bytes of a stage.
 pub const STAGE_BYTES: usize = 4_194_304;
 
-const OPEN: u8 = 0xA5;
-
-const CLOSED: u8 = 0;
+/// The entry doesn't fit the stage.
+#[derive(Clone, Copy, Debug, PartialEq, Eq, Error)]
+#[error("the stage is full")]
+pub struct StageFull;
 
 /// Room for the bytes of one commit, seen as the bytes that stand in it.
 #[derive(Debug, Drop)]
@@ -57,7 +60,7 @@ impl Stage {
     pub(crate) fn add(&mut self, frame: &[u8])
         requires { length self.old + length frame.now + 1 ≤ 4194304 }
         ensures first { self.old ≡ [] → self.new ≡ frame.now ++ 0 ∷ [] }
-        ensures next { (front : List ℕ) → self.old ≡ front ++ 0 ∷ [] → self.new ≡ front ++ 165 ∷ (frame.now ++ 0 ∷ []) }
+        ensures next { (front : List ℕ) → self.old ≡ front ++ 0 ∷ [] → self.new ≡ front ++ OPEN_GATE ∷ (frame.now ++ 0 ∷ []) }
         ensures len { length self.new ≡ length self.old + length frame.now + 1 }
     {
         add_frame(&mut self.bytes, frame);
@@ -74,14 +77,14 @@ impl Stage {
 fn add_frame(bytes: &mut Vec<u8>, frame: &[u8])
     requires { vec_len bytes.old + length frame.now + 1 ≤ vec_capacity bytes.old }
     ensures first { bytes.old.items ≡ [] → bytes.new.items ≡ frame.now ++ 0 ∷ [] }
-    ensures next { (front : List ℕ) → bytes.old.items ≡ front ++ 0 ∷ [] → bytes.new.items ≡ front ++ 165 ∷ (frame.now ++ 0 ∷ []) }
+    ensures next { (front : List ℕ) → bytes.old.items ≡ front ++ 0 ∷ [] → bytes.new.items ≡ front ++ OPEN_GATE ∷ (frame.now ++ 0 ∷ []) }
     ensures len { vec_len bytes.new ≡ vec_len bytes.old + length frame.now + 1 }
     ensures capacity { vec_capacity bytes.old ≤ vec_capacity bytes.new }
 {
     let end = bytes.len();
     if end > 0 {
-        bytes[end - 1] = OPEN;
+        bytes[end - 1] = OPEN_GATE;
     }
     put(bytes, frame);
-    put(bytes, &[CLOSED]);
+    put(bytes, &[CLOSED_GATE]);
 }

@@ -1,4 +1,4 @@
--- The numbers once a region is flushed, and once a closed file is forgotten.
+-- The numbers once a region is flushed, and once closed files are forgotten.
 use Rattle.std.proofs.Common.{◌≡◌, ◌↔◌, inl, inr, ℕ, ◌+◌, ◌<◌, ◌≤◌, List, [], ◌++◌, length, get_or, set, Contains, refl, sym, ap, ◌∙◌, subst, arith}
 use Rattle.std.proofs.lemmas.Bool.{cases_eq, cases_lt}
 use Rattle.std.proofs.lemmas.Bool.Decides.{nat_tests}
@@ -9,14 +9,14 @@ use Rattle.recovery.specs.Change.{last_of}
 use Rattle.recovery.proofs.Rising.{last_is}
 use Rattle.recovery.proofs.Likes.{orderly_flushed}
 use Rattle.recovery.proofs.Lists.{none_in}
-use Rattle.seq_accounting.specs.Accounts.{ClosedFile}
+use Rattle.seq_accounting.specs.Accounts.{ClosedFile, unflushed}
 use Rattle.log_trucks.specs.Held.{Held}
-use Rattle.log_ledger.specs.History.{History, flushed_in, archived_in}
+use Rattle.log_ledger.specs.History.{ClosedLog, History, flushed_in, with_logs}
 use Rattle.log_ledger.specs.Books.{Books, IsServed, IsChain, AreInOrder}
-use Rattle.log_ledger.specs.Counted.{IsHighest, AreCounted, CarriesUnflushed, IsCounted, IsHighestKept}
+use Rattle.log_ledger.specs.Counted.{IsHighest, AreCounted, CarriesUnflushed, IsCounted, IsHighestKept, LogsLeft}
 use Rattle.log_ledger.proofs.Sets.{same_at, set_here, set_there, within}
 use Rattle.log_ledger.proofs.Chains.{truck_of}
-use Rattle.log_ledger.proofs.Logs.{counted_logs, counted_others}
+use Rattle.log_ledger.proofs.Logs.{counted_logs, counted_length, Sieved, sieved}
 use Rattle.log_ledger.proofs.Steps.{FlushedBy, ForgottenBy}
 
 -- an entry of the region that isn't flushed has a truck, and so a sequence id up to the last one staged
@@ -157,21 +157,30 @@ counted_kept b r h order served counted = record {
     place : r < length b.stored
     place = omega (arith, within b.next_store r served, order.wide.next_store, order.wide.stored)
 
-pub counted_forgotten : (old new : Books) (file : ℕ) (h : History) → ForgottenBy old new file → IsCounted old h → IsCounted new (archived_in h file)
-counted_forgotten old new file h s counted = record {
-  synced = λ r served. same_at old.synced new.synced r 0 s.same.synced ∙ counted.synced r (was r served);
-  drawn = λ r served. same_at old.drawn new.drawn r 0 s.same.drawn ∙ counted.drawn r (was r served);
-  flushed = λ r served. same_at old.accounts.flushed new.accounts.flushed r 0 s.same.flushed ∙ counted.flushed r (was r served);
-  stored = λ r. omega (arith, same_at old.stored new.stored r 0 s.same.stored, counted.stored r);
-  newer = λ e has. omega (arith, same_at old.closed new.closed e.region 0 s.same.closed, counted.newer e has);
-  ours = λ e has. is_served e.region (counted.ours e has);
-  current = λ r. subst (IsHighest r (h.current ++ h.kept.staged)) (sym (same_at old.accounts.current new.accounts.current r 0 s.current)) (counted.current r);
-  logs = subst (λ (cs : List ClosedFile). AreCounted new cs (archived_in h file).logs) (sym s.files)
-      (counted_others new old.accounts.closed h.logs file (counted_logs old new old.accounts.closed h.logs is_served counted.logs));
-  chains = λ r served. subst (CarriesUnflushed h.kept r) (sym (same_at old.chains new.chains r [] s.chains)) (counted.chains r (was r served));
-  orderly = counted.orderly;
-}
+pub counted_forgotten : (old new : Books) (h : History) → AreInOrder old → ForgottenBy old new → IsCounted old h
+    → (left : List ClosedLog) × LogsLeft h left × (length new.accounts.closed ≡ length left) × IsCounted new (with_logs h left)
+counted_forgotten old new h order s counted = (
+  found.left,
+  found.those,
+  ap length s.files ∙ counted_length old (unflushed old.accounts.flushed old.accounts.closed) found.left found.counted,
+  record {
+    synced = λ r served. same_at old.synced new.synced r 0 s.same.synced ∙ counted.synced r (was r served);
+    drawn = λ r served. same_at old.drawn new.drawn r 0 s.same.drawn ∙ counted.drawn r (was r served);
+    flushed = λ r served. same_at old.accounts.flushed new.accounts.flushed r 0 s.same.flushed ∙ counted.flushed r (was r served);
+    stored = λ r. omega (arith, same_at old.stored new.stored r 0 s.same.stored, counted.stored r);
+    newer = λ e has. omega (arith, same_at old.closed new.closed e.region 0 s.same.closed, counted.newer e has);
+    ours = λ e has. is_served e.region (counted.ours e has);
+    current = λ r. subst (IsHighest r (h.current ++ h.kept.staged)) (sym (same_at old.accounts.current new.accounts.current r 0 s.current)) (counted.current r);
+    logs = subst (λ (cs : List ClosedFile). AreCounted new cs found.left) (sym s.files)
+        (counted_logs old new (unflushed old.accounts.flushed old.accounts.closed) found.left is_served found.counted);
+    chains = λ r served. subst (CarriesUnflushed h.kept r) (sym (same_at old.chains new.chains r [] s.chains)) (counted.chains r (was r served));
+    orderly = counted.orderly;
+  },
+)
   where
+    found : Sieved old h.kept.flushed old.accounts.closed h.logs
+    found = sieved old h.kept.flushed order.wide.next_store counted.flushed old.accounts.closed h.logs counted.logs
+
     was : (r : ℕ) → IsServed new r → IsServed old r
     was r served = omega (arith, served, same_at old.next_store new.next_store r 0 s.same.next_store)
 

@@ -10,8 +10,7 @@ use Rattle.std.proofs.lemmas.List.Elements.{All-contains, All-contains_itself, A
 use Rattle.std.proofs.lemmas.List.Kept.{AllPairs-filter}
 use Rattle.std.proofs.lemmas.List.Quantifiers.{all_pairs_push}
 use Rattle.log_model.specs.Entry.{Entry, IsEntry, entry_frame}
-use Rattle.seq_accounting.specs.Accounts.{ClosedFile}
-use Rattle.seq_accounting.specs.Accounts.{IsBefore, IsClosed, without}
+use Rattle.seq_accounting.specs.Accounts.{ClosedFile, IsBefore, are_lower}
 use Rattle.log_trucks.specs.Held.{Held, Haul, held_of, AreHeld}
 use Rattle.log_ledger.specs.Books.{Books, IsServed, IsChain, IsRegionInOrder, AreInOrder}
 use Rattle.log_ledger.proofs.Sets.{same_at, set_here, set_there, length_of_set, spread, within}
@@ -257,9 +256,9 @@ order_flushed old new r order s ours some committed = record {
 kept_was : (p : ClosedFile → Bool) (cs : List ClosedFile) (c : ClosedFile) → Contains (filter p cs) c → Contains cs c
 kept_was p cs c has = All-contains (Contains cs) (filter p cs) c (All-filter p (Contains cs) cs (All-contains_itself cs)) has
 
--- a closed file forgotten
-pub order_forgotten : (old new : Books) (file : ℕ) → AreInOrder old → ForgottenBy old new file → AreInOrder new
-order_forgotten old new file order s = record {
+-- closed files forgotten
+pub order_forgotten : (old new : Books) → AreInOrder old → ForgottenBy old new → AreInOrder new
+order_forgotten old new order s = record {
   wide = record {
     drawn = ap length s.same.drawn ∙ order.wide.drawn;
     synced = ap length s.same.synced ∙ order.wide.synced;
@@ -284,8 +283,8 @@ order_forgotten old new file order s = record {
     next_store = same_at old.next_store new.next_store r 0 s.same.next_store;
     chain = same_at old.chains new.chains r [] s.chains;
   }) (order.regions r);
-  rising = subst (AllPairs IsBefore) (sym s.files) (AllPairs-filter IsBefore (λ (c : ClosedFile). not (c.file == file)) old.accounts.closed order.rising);
-  files = λ c has. omega (arith, order.files c (kept_was (λ (x : ClosedFile). not (x.file == file)) old.accounts.closed c (subst (λ (l : List ClosedFile). Contains l c) s.files has)), s.last);
+  rising = subst (AllPairs IsBefore) (sym s.files) (AllPairs-filter IsBefore (λ (c : ClosedFile). not (are_lower 65 c.highest old.accounts.flushed)) old.accounts.closed order.rising);
+  files = λ c has. omega (arith, order.files c (kept_was (λ (x : ClosedFile). not (are_lower 65 x.highest old.accounts.flushed)) old.accounts.closed c (subst (λ (l : List ClosedFile). Contains l c) s.files has)), s.last);
 }
 
 -- more room
@@ -318,43 +317,3 @@ order_room b n order = record {
   rising = order.rising;
   files = order.files;
 }
-
--- none goes where all files have other numbers
-keeps_all : (cs : List ClosedFile) (file : ℕ) → ((c : ClosedFile) → Contains cs c → c.file ≡ file → ⊥) → without cs file ≡ cs
-keeps_all [] file other = refl
-keeps_all (c ∷ cs) file other =
-    ap (λ (t : Bool). cond (not t) (c ∷ without cs file) (without cs file)) (ne_eqb c.file file (other c (at_first c cs)))
-    ∙ ap (λ (l : List ClosedFile). c ∷ l) (keeps_all cs file (λ d has. other d (at_later c cs d has)))
-
-before_others : (c : ClosedFile) (cs : List ClosedFile) → AllPairs IsBefore (c ∷ cs) → (d : ClosedFile) → Contains cs d → c.file < d.file
-before_others c cs rising d has = subst (λ (x : ClosedFile). c.file < x.file) has.2 (rising 0 (suc has.0) d (omega arith) (omega (arith, has.1)))
-
-others_rising : (c : ClosedFile) (cs : List ClosedFile) → AllPairs IsBefore (c ∷ cs) → AllPairs IsBefore cs
-others_rising c cs rising i j d below there = rising (suc i) (suc j) d (omega (arith, below)) (omega (arith, there))
-
--- one goes
-one_fewer : (cs : List ClosedFile) (file : ℕ) → AllPairs IsBefore cs → (x : ClosedFile) → Contains cs x → x.file ≡ file → length (without cs file) + 1 ≡ length cs
-one_fewer [] file rising x has is = absurd (none_at x has)
-one_fewer (c ∷ cs) file rising x has is = elim (at_either c cs x has) as (λ _. length (without (c ∷ cs) file) + 1 ≡ length (c ∷ cs)) [
-  | inl first ↦ (let here : c.file ≡ file = ap (λ (y : ClosedFile). y.file) first ∙ is in
-      let gone : without (c ∷ cs) file ≡ without cs file = ap (λ (t : Bool). cond (not t) (c ∷ without cs file) (without cs file)) (eq-eqb c.file file here) in
-      let kept = keeps_all cs file (λ d has same. omega (arith, before_others c cs rising d has, here, same)) in
-      omega (arith, ap length (gone ∙ kept)))
-  | inr later ↦ (let below = before_others c cs rising x later in
-      let kept : without (c ∷ cs) file ≡ c ∷ without cs file = ap (λ (t : Bool). cond (not t) (c ∷ without cs file) (without cs file)) (ne_eqb c.file file (λ same. omega (arith, below, same, is))) in
-      omega (arith, ap length kept, one_fewer cs file (others_rising c cs rising) x later is))
-]
-
-pub fewer_files : (cs : List ClosedFile) (file : ℕ) → AllPairs IsBefore cs → IsClosed cs file → length (without cs file) + 1 ≡ length cs
-fewer_files cs file rising there = ∥∥₁_elim there (ℕ_set (length (without cs file) + 1) (length cs)) (λ c. one_fewer cs file rising c.0 c.1 c.2)
-
--- there are fewer closed files than the last one's number
-few_files : (cs : List ClosedFile) (lo n : ℕ) → AllPairs IsBefore cs → ((c : ClosedFile) → Contains cs c → (lo ≤ c.file) × (c.file ≤ n)) → lo ≤ n + 1 → length cs + lo ≤ n + 1
-few_files [] lo n rising each le = omega (arith, le)
-few_files (c ∷ cs) lo n rising each le =
-    let here = each c (at_first c cs) in
-    let rest = few_files cs (c.file + 1) n (others_rising c cs rising) (λ d has. (omega (arith, before_others c cs rising d has), (each d (at_later c cs d has)).1)) (omega (arith, here.1)) in
-    omega (arith, rest, here.0)
-
-pub few_closed : (b : Books) → AreInOrder b → length b.accounts.closed ≤ b.accounts.last + 1
-few_closed b order = omega (arith, few_files b.accounts.closed 0 b.accounts.last order.rising (λ c has. (omega arith, order.files c has)) (omega arith))

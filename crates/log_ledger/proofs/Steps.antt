@@ -1,6 +1,6 @@
 -- How the calls change the numbers.
 use Rattle.std.proofs.Common.{◌≡◌, ℕ, ◌+◌, [], ◌∷◌, ◌++◌, get_or, set, replicate}
-use Rattle.seq_accounting.specs.Accounts.{without}
+use Rattle.seq_accounting.specs.Accounts.{unflushed}
 use Rattle.log_trucks.specs.Held.{Haul, held_of}
 use Rattle.log_ledger.specs.Books.{Books, SameRegions}
 
@@ -49,12 +49,12 @@ pub record FlushedBy (old new : Books) (r : ℕ) : Type 0 where
   pub last : new.accounts.last ≡ old.accounts.last
   pub chains : new.chains ≡ set old.chains r []
 
--- a closed file was forgotten
-pub record ForgottenBy (old new : Books) (file : ℕ) : Type 0 where
+-- the closed files that are wholly flushed were forgotten
+pub record ForgottenBy (old new : Books) : Type 0 where
   pub same : SameRegions old new
   pub noted : new.accounts.noted ≡ old.accounts.noted
   pub flushing : new.accounts.flushing ≡ old.accounts.flushing
   pub current : new.accounts.current ≡ old.accounts.current
-  pub files : new.accounts.closed ≡ without old.accounts.closed file
+  pub files : new.accounts.closed ≡ unflushed old.accounts.flushed old.accounts.closed
   pub last : new.accounts.last ≡ old.accounts.last
   pub chains : new.chains ≡ old.chains

@@ -49,13 +49,25 @@ pub record IsCounted (b : Books) (h : History) : Type 0 where
   pub chains : (r : ℕ) → IsServed b r → CarriesUnflushed h.kept r (get_or b.chains r [])
   pub orderly : IsOrderly h.kept
 
--- a closed log of this number has only flushed entries
-abbrev pub MayGo : History → ℕ → Type 0
-MayGo h file = (c : ClosedLog) × Contains h.logs c × (c.number ≡ file) × IsWhollyFlushed h.kept.flushed c.entries
-
 -- each closed log has an entry that isn't flushed
 abbrev pub NoneMayGo : History → Type 0
 NoneMayGo h = (c : ClosedLog) → Contains h.logs c → IsWhollyFlushed h.kept.flushed c.entries → ⊥
+
+-- each closed log above this number has an entry that isn't flushed
+abbrev pub NoneMayGoAbove : History → ℕ → Type 0
+NoneMayGoAbove h above = (c : ClosedLog) → Contains h.logs c → above < c.number → IsWhollyFlushed h.kept.flushed c.entries → ⊥
+
+-- the least closed log above this number that has only flushed entries
+pub record GoesNext (h : History) (above file : ℕ) : Type 0 where
+  pub log : ClosedLog
+  pub member : Contains h.logs log
+  pub number : log.number ≡ file
+  pub flushed : IsWhollyFlushed h.kept.flushed log.entries
+  pub least : (c : ClosedLog) → Contains h.logs c → above < c.number → IsWhollyFlushed h.kept.flushed c.entries → file ≤ c.number
+
+-- the closed logs that are left: those that aren't wholly flushed, and no other
+abbrev pub LogsLeft : History → List ClosedLog → Type 0
+LogsLeft h left = (c : ClosedLog) → Contains left c ↔ (Contains h.logs c × (IsWhollyFlushed h.kept.flushed c.entries → ⊥))
 
 -- cells put exactly what the region's unflushed entries put up to a sequence id
 abbrev pub PutsCut : Kept → ℕ → ℕ → List NumberedCell → Type 0

@@ -36,6 +36,10 @@ closed_in h number = record { kept = h.kept; logs = h.logs ++ record { number = 
 abbrev pub flushed_in : History → ℕ → ℕ → History
 flushed_in h r n = record { kept = flushed_to h.kept r n; logs = h.logs; current = h.current }
 
+-- the same with these closed logs
+abbrev pub with_logs : History → List ClosedLog → History
+with_logs h logs = record { kept = h.kept; logs = logs; current = h.current }
+
 -- a closed log has another number than this
 abbrev pub is_other : ℕ → ClosedLog → Bool
 is_other number c = not (c.number == number)

@@ -10,6 +10,3 @@ mod staging;
 
 pub use base::RegionBase;
 pub use ledger::Ledger;
-
-#[cfg(test)]
-mod tests;

@@ -1,10 +1,10 @@
 //! Log files that are closed, and those that may go.
 
-ghost use Rattle.std.specs.Prelude.{◌≡◌, ◌+◌, ◌<◌, ◌≤◌, ◌^◌, [], length, sum, OnOk, IfSome, MatchOption};
+ghost use Rattle.std.specs.Prelude.{◌≡◌, ◌+◌, ◌<◌, ◌≤◌, ◌^◌, List, [], length, Contains, sum, OnOk, IfSome, MatchOption};
 ghost use Rattle.seq_accounting.specs.Accounts.{IsClosed};
-ghost use Rattle.log_ledger.specs.History.{History, closed_in, archived_in};
+ghost use Rattle.log_ledger.specs.History.{ClosedLog, History, closed_in, with_logs};
 ghost use Rattle.log_ledger.specs.Books.{SameRegions};
-ghost use Rattle.log_ledger.specs.Counted.{IsCounted, MayGo, NoneMayGo};
+ghost use Rattle.log_ledger.specs.Counted.{IsCounted, NoneMayGoAbove, GoesNext, LogsLeft};
 
 use crate::ledger::Ledger;
 use kv_cell::NoMemory;
@@ -48,25 +48,26 @@ impl Ledger {
         self.closed = self.synced;
     }
 
-    /// The least closed file whose entries are all flushed.
-    pub fn first_to_go(&self) -> Option<u64>
+    /// The least closed file above this number whose entries are all flushed; 0 begins. It takes no memory.
+    pub fn first_to_go(&self, above: u64) -> Option<u64>
         ensures member { IfSome result (λ file. IsClosed self.now.accounts.closed file) }
-        ensures few { length self.now.accounts.closed ≤ self.now.accounts.last + 1 }
-        ensures small { sum self.now.drawn < 2 ^ 55 }
-        ensures exact { (h : History) → IsCounted self.now h → MatchOption result (NoneMayGo h) (MayGo h) }
+        ensures later { IfSome result (λ file. above < file) }
+        ensures given { (h : History) → IsCounted self.now h → (c : ClosedLog) → Contains h.logs c → 1 ≤ c.number }
+        ensures exact { (h : History) → IsCounted self.now h → MatchOption result (NoneMayGoAbove h above) (GoesNext h above) }
     {
-        first_to_go(&self.accounts)
+        first_to_go(&self.accounts, above)
     }
 
-    /// Forgets a closed file that is archived. It takes no memory.
-    pub fn forget(&mut self, file: u64)
-        requires { IsClosed self.old.accounts.closed file }
-        ensures counted { (h : History) → IsCounted self.old h → IsCounted self.new (archived_in h file) }
-        ensures fewer { length self.new.accounts.closed + 1 ≡ length self.old.accounts.closed }
+    /// Forgets each closed file whose entries are all flushed, and gives their number. It looks at each closed file once,
+    /// and takes no memory.
+    pub fn forget_flushed(&mut self) -> u64
+        ensures counted { (h : History) → IsCounted self.old h → (left : List ClosedLog) × LogsLeft h left
+            × (length left + result ≡ length h.logs) × IsCounted self.new (with_logs h left) }
+        ensures fewer { length self.new.accounts.closed + result ≡ length self.old.accounts.closed }
         ensures last { self.new.accounts.last ≡ self.old.accounts.last }
         ensures room { self.old.accounts.room ≤ self.new.accounts.room }
         ensures same { SameRegions self.old self.new }
     {
-        self.accounts.forget(file);
+        self.accounts.forget_lower()
     }
 }

@@ -5,6 +5,7 @@ use Rattle.byteorder.specs.Endian.{big_bytes}
 use Rattle.cell_model.specs.Cell.{IsCell, spelling, number_at, first_fault}
 use Rattle.cell_model.specs.Order.{NumberedCell}
 use Rattle.cell_model.specs.Merge.{IsRising}
+use Rattle.log_model.specs.declared.format.TheConstants.{OPEN_GATE}
 
 -- the cells of a region with sequence ids from one to another
 pub record Store : Type 0 where
@@ -32,12 +33,12 @@ pairs_text cells = flat_map (λ x. big_bytes 8 x.0 ++ spelling x.1) cells
 
 -- `HWS1` behind an open gate, the region, the two sequence ids, the count, and the cells
 unfoldable pub store_text : Store → List ℕ
-store_text s = 165 ∷ ((72 ∷ 87 ∷ 83 ∷ 49 ∷ []) ++ (big_bytes 4 s.region ++ (big_bytes 8 s.from ++ (big_bytes 8 s.to ++ (big_bytes 8 (length s.cells)
+store_text s = OPEN_GATE ∷ ((72 ∷ 87 ∷ 83 ∷ 49 ∷ []) ++ (big_bytes 4 s.region ++ (big_bytes 8 s.from ++ (big_bytes 8 s.to ++ (big_bytes 8 (length s.cells)
     ++ pairs_text s.cells)))))
 
 -- a file of at most one byte, or with a closed gate, isn't there
 abbrev pub IsThere : List ℕ → Type 0
-IsThere bytes = (1 < length bytes) × (take 1 bytes ≡ 165 ∷ [])
+IsThere bytes = (1 < length bytes) × (take 1 bytes ≡ OPEN_GATE ∷ [])
 
 pub record IsStoreText (r : ℕ) (bytes : List ℕ) (s : Store) : Type 0 where
   pub store : IsStore s

@@ -15,9 +15,8 @@ use Rattle.log_file.specs.Open.{OpenLog}
 use Rattle.log_trucks.specs.Held.{Held, AreHeld}
 use Rattle.log_ledger.specs.History.{ClosedLog, History, committed_in}
 use Rattle.log_ledger.specs.Books.{Books, IsServed}
-use Rattle.log_ledger.specs.Counted.{NoneMayGo}
+use Rattle.log_ledger.specs.Counted.{NoneMayGo, LogsLeft}
 use Rattle.log_device.specs.declared.device.Device.{Device}
-use Rattle.log_device.specs.Archived.{LogsLeft}
 use Rattle.log_device.specs.Bears.{Bears, IsLogsUpTo, AreStoresFew}
 use Rattle.log_device.specs.Leaves.{Leaves}
 use Rattle.log_device.specs.Whole.{IsWhole, IsBroken, log_of, books_of}

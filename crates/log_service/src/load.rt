@@ -4,11 +4,9 @@ ghost use Rattle.log_trucks.specs.Held.{held_of};
 ghost use Rattle.log_service.specs.Trucks.{size_of};
 
 use append_ring::OfRegion;
+use log_file::STAGE_BYTES;
 use log_trucks::{Chain, Truck};
 use std::marker::Model;
-
-/// The bytes of a device's stage.
-const STAGE_BYTES: u64 = 4_194_304;
 
 /// Trucks, with the bytes that they take of a stage, each with one gate byte, and their number. Contracts see the trucks, in the order in
 /// which they were put in.
@@ -82,7 +80,7 @@ impl Load {
     pub(crate) fn is_full_for(&self, len: usize) -> bool
         ensures { IsTrue result ↔ (4194304 < size_of self.now + len + 1) }
     {
-        len as u64 >= STAGE_BYTES - self.bytes
+        len as u64 >= STAGE_BYTES as u64 - self.bytes
     }
 
     /// Puts a lone truck in, for which there is room. It takes no memory.

@@ -90,8 +90,8 @@ impl Chain {
         let mut cells = NumberedCells::new(alloc);
         let mut link = &self.first;
         while let Some(truck) = link {
-            let entry = truck.bytes.to_entry(alloc)?;
-            append(&mut cells, truck.number, entry.batch.into_vec())?;
+            let batch = truck.bytes.to_batch(alloc)?;
+            append(&mut cells, truck.number, batch.into_vec())?;
             link = &truck.next;
         }
         Ok(cells)

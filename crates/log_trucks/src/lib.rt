@@ -9,6 +9,3 @@ mod truck;
 pub use chain::Chain;
 pub use chains::Chains;
 pub use truck::Truck;
-
-#[cfg(test)]
-mod tests;

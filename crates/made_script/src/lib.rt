@@ -11,6 +11,3 @@ mod script;
 pub use counts::{CallCounts, count_calls};
 pub use options::LoadOptions;
 pub use script::make_script;
-
-#[cfg(test)]
-mod tests;

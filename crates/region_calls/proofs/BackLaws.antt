@@ -1,6 +1,5 @@
 -- Passes that are back, what they know, and their seats.
 use Rattle.std.proofs.Common.{◌≡◌, inl, inr, ℕ, zero, suc, ◌+◌, ◌<◌, ◌≤◌, Bool, true, false, List, [], ◌∷◌, ◌++◌, length, map, set, Option, Some, slice_get, Contains, refl, sym, ap, ◌∙◌, subst, arith}
-use Rattle.hand_register.specs.Desks.{record_of}
 use Rattle.log_berth.specs.Standing.{Standing, AreBack, Saw, AllSaw}
 use Rattle.log_service.specs.declared.seats.LogSeat.{LogSeat}
 use Rattle.log_service.specs.Numbers.{seen_synced, seen_stored, seen_closed}
@@ -90,7 +89,7 @@ module _ {A B : Type 0} where
 -- ---- what a pass knows stays while its hands meet
 
 module _ {N : Type 0} {g : Ghosts N} where
-  pub known_kept : (n : ℕ) (p q : RegionPass N g) (seat : LogSeat) → q.viewer ≡ p.viewer → record_of q.hand ≡ record_of p.hand → record_of q.told ≡ record_of p.told → known_of n q seat ≡ known_of n p seat
+  pub known_kept : (n : ℕ) (p q : RegionPass N g) (seat : LogSeat) → q.viewer ≡ p.viewer → q.hand.record ≡ p.hand.record → q.told.record ≡ p.told.record → known_of n q seat ≡ known_of n p seat
   known_kept n p q seat v h t j = record {
     own = edits_in (v j).region (h j).list;
     shown = edits_in (v j).region (v j).lines;
@@ -114,7 +113,7 @@ module _ {N : Type 0} {g : Ghosts N} where
   pub knows_set : (h c : ℕ) (ps : List (RegionPass N g)) (seat : LogSeat) (i : ℕ) (p q : RegionPass N g) → slice_get ps i ≡ Some p → ((n : ℕ) → known_of n q seat ≡ known_of n p seat) → pass_of h c (set ps i q) seat ≡ pass_of h c ps seat
   knows_set h c ps seat i p q at same j = record { handler = h; calls = c; known = λ r. known_set ps seat i p q at same r j; broken = seat.device.knows.broken }
 
-  pub hands_kept : (h c : ℕ) (ps : List (RegionPass N g)) (i : ℕ) (p q : RegionPass N g) → slice_get ps i ≡ Some p → q.viewer ≡ p.viewer → record_of q.hand ≡ record_of p.hand → q.hand.number ≡ p.hand.number
+  pub hands_kept : (h c : ℕ) (ps : List (RegionPass N g)) (i : ℕ) (p q : RegionPass N g) → slice_get ps i ≡ Some p → q.viewer ≡ p.viewer → q.hand.record ≡ p.hand.record → q.hand.number ≡ p.hand.number
       → AreHandsOf h c ps → AreHandsOf h c (set ps i q)
   hands_kept h c ps i p q at v r n hands k x is = elim (get_set ps i k q x is) as (λ _. IsHandOf h c (k + 1) x) [
     | inl (here, same) ↦

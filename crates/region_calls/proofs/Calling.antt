@@ -1,7 +1,6 @@
 -- One call of a pass on one region, from what it does to its hand there and to its seat.
 use Rattle.std.proofs.Common.{◌≡◌, ℕ, zero, suc, ◌+◌, ◌<◌, ◌≤◌, Bool, IsTrue, List, ◌++◌, length, set, Option, Some, None, slice_get, Contains, refl, sym, ap, ◌∙◌, subst, arith}
 use Rattle.cell_model.specs.Cell.{Cell}
-use Rattle.hand_register.specs.Desks.{record_of}
 use Rattle.log_service.specs.declared.seats.LogSeat.{LogSeat}
 use Rattle.log_service.specs.Places.{IsLaterSeat}
 use Rattle.region_model.specs.Calls.{Answer, is_put, is_scan, is_flush}
@@ -61,12 +60,12 @@ module _ {N : Type 0} {g : Ghosts N} where
   pub put_hand : (base : Base) (time r n h calls : ℕ) (sync : Bool) (cells : List Cell) (caller : Caller) (answer : Answer) (p p' : RegionPass N g) (seat seat' : LogSeat) (was is : Bool)
       → IsHandOf h calls r p → SamePass p p' → calls < caller.call → PutsAt base time p.viewer.region sync cells caller answer (known_of n p seat) (known_of n p' seat') was is → IsHandOf h caller.call r p'
   put_hand base time r n h calls sync cells caller answer p p' seat seat' was is old same low puts =
-      let own : edits_in p.viewer.region (record_of p'.hand).list ≡ edits_in p.viewer.region (record_of p.hand).list ++ drawn p.viewer.region time cells caller answer (number_of answer) =
-      ap (λ q. edits_in q (record_of p'.hand).list) (sym same.0) ∙ puts.own in
+      let own : edits_in p.viewer.region p'.hand.record.list ≡ edits_in p.viewer.region p.hand.record.list ++ drawn p.viewer.region time cells caller answer (number_of answer) =
+      ap (λ q. edits_in q p'.hand.record.list) (sym same.0) ∙ puts.own in
       record {
         region = same.0 ∙ old.region;
         number = same.1 ∙ old.number;
         mark = same.2 ∙ old.mark;
-        called = called_more p.viewer.region (caller.call + 1) (record_of p.hand).list (record_of p'.hand).list (drawn p.viewer.region time cells caller answer (number_of answer)) own
-            (below_more (calls + 1) (caller.call + 1) (record_of p.hand).list (omega (arith, low)) old.called) (drawn_low p.viewer.region time cells caller answer (number_of answer));
+        called = called_more p.viewer.region (caller.call + 1) p.hand.record.list p'.hand.record.list (drawn p.viewer.region time cells caller answer (number_of answer)) own
+            (below_more (calls + 1) (caller.call + 1) p.hand.record.list (omega (arith, low)) old.called) (drawn_low p.viewer.region time cells caller answer (number_of answer));
       }

@@ -1,7 +1,6 @@
 -- What a pass knows of all regions, where one of its hands was used.
 use Rattle.std.proofs.Common.{◌≡◌, ◌≢◌, inl, inr, ℕ, zero, suc, ◌+◌, ◌-◌, ◌<◌, ◌≤◌, List, [], ◌∷◌, ◌++◌, length, set, Option, Some, None, slice_get, Contains, refl, sym, ap, subst, arith}
 use Rattle.region_lock.proofs.Lists.{get_set, length_set}
-use Rattle.hand_register.specs.Desks.{record_of}
 use Rattle.log_berth.specs.Words.{NoMore}
 use Rattle.log_service.specs.declared.seats.LogSeat.{LogSeat}
 use Rattle.region_model.specs.Journal.{Edit}
@@ -64,7 +63,7 @@ module _ {N : Type 0} {g : Ghosts N} where
     | inl (here, same) ↦ subst (λ (t : RegionPass N g). IsHandOf h more (j + 1) t) same (subst (λ n. IsHandOf h more (n + 1) p) (sym here) one)
     | inr (other, was) ↦
         let old = all j q was in
-        record { region = old.region; number = old.number; mark = old.mark; called = below_more (calls + 1) (more + 1) (record_of q.hand).list (omega (arith, le)) old.called }
+        record { region = old.region; number = old.number; mark = old.mark; called = below_more (calls + 1) (more + 1) q.hand.record.list (omega (arith, le)) old.called }
   ]
 
 cons_head : {A : Type 0} → (x y : A) (xs ys : List A) → x ∷ xs ≡ y ∷ ys → x ≡ y

@@ -3,8 +3,7 @@ use Rattle.std.proofs.Common.{◌≡◌, ℕ, zero, suc, ◌+◌, ◌-◌, ◌<�
 use Rattle.std.proofs.lemmas.List.{append-nil}
 use Rattle.std.proofs.lemmas.Option.{slice_get_read, slice_get_within}
 use Rattle.cell_model.specs.Cell.{Cell}
-use Rattle.hand_register.specs.declared.hand.Hand.{Hand}
-use Rattle.hand_register.specs.Desks.{record_of}
+use Rattle.hand_register.specs.Views.{HandView}
 use Rattle.kv_cell.specs.declared.error.NoMemory.{NoMemory}
 use Rattle.log_device.specs.declared.error.Rolled.{Rolled}
 use Rattle.log_device.specs.declared.error.RollRefusal.{RollRefusal}
@@ -138,23 +137,23 @@ module _ {N : Type 0} {g : Ghosts N} where
   pub flush_hand : (base : Base) (flushes : List Caller) (r n h calls : ℕ) (caller : Caller) (answer : Answer) (p p' : RegionPass N g) (seat seat' : LogSeat) (was is : Bool)
       → IsHandOf h calls r p → SamePass p p' → calls < caller.call → FlushesAt base flushes caller answer (known_of n p seat) (known_of n p' seat') was is → IsHandOf h caller.call r p'
   flush_hand base flushes r n h calls caller answer p p' seat seat' was is old same low flushed =
-      let own : edits_in p.viewer.region (record_of p'.hand).list ≡ edits_in p.viewer.region (record_of p.hand).list ++ [] =
-      ap (λ q. edits_in q (record_of p'.hand).list) (sym same.0) ∙ flushed.own.own ∙ sym (append-nil (edits_in p.viewer.region (record_of p.hand).list)) in
+      let own : edits_in p.viewer.region p'.hand.record.list ≡ edits_in p.viewer.region p.hand.record.list ++ [] =
+      ap (λ q. edits_in q p'.hand.record.list) (sym same.0) ∙ flushed.own.own ∙ sym (append-nil (edits_in p.viewer.region p.hand.record.list)) in
       record {
         region = same.0 ∙ old.region;
         number = same.1 ∙ old.number;
         mark = same.2 ∙ old.mark;
-        called = called_more p.viewer.region (caller.call + 1) (record_of p.hand).list (record_of p'.hand).list [] own
-            (below_more (calls + 1) (caller.call + 1) (record_of p.hand).list (omega (arith, low)) old.called) (λ e has. absurd (omega (arith, has.1)));
+        called = called_more p.viewer.region (caller.call + 1) p.hand.record.list p'.hand.record.list [] own
+            (below_more (calls + 1) (caller.call + 1) p.hand.record.list (omega (arith, low)) old.called) (λ e has. absurd (omega (arith, has.1)));
       }
 
   -- a hand whose viewer alone moved
   pub view_hand : (h calls r : ℕ) (p p' : RegionPass N g) → IsHandOf h calls r p → p'.viewer.region ≡ p.viewer.region → p'.hand ≡ p.hand → IsHandOf h calls r p'
   view_hand h calls r p p' old region hand = record {
     region = region ∙ old.region;
-    number = ap (λ (x : Hand Line). x.number) hand ∙ old.number;
-    mark = ap (λ (x : Hand Line). (record_of x).mark) hand ∙ old.mark;
-    called = subst (λ (x : Hand Line). AreCalledBelow (calls + 1) (record_of x).list) (sym hand) old.called;
+    number = ap (λ (x : HandView Line). x.number) hand ∙ old.number;
+    mark = ap (λ (x : HandView Line). x.record.mark) hand ∙ old.mark;
+    called = subst (λ (x : HandView Line). AreCalledBelow (calls + 1) x.record.list) (sym hand) old.called;
   }
 
   -- what a pass knows as synced of a region whose hand it used

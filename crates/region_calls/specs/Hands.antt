@@ -2,7 +2,7 @@
 use Rattle.std.specs.Prelude.{◌≡◌, ℕ, ◌+◌, ◌≤◌, List, [], length, Some, slice_get, replicate}
 use Rattle.atomic_table.specs.Seated.{TableId}
 use Rattle.hand_register.specs.Desks.{AreFresh}
-use Rattle.hand_register.specs.declared.hand.HandList.{HandList}
+use Rattle.hand_register.specs.Views.{HandView}
 use Rattle.region_model.specs.Lines.{Line}
 use Rattle.region_versions.specs.Histories.{Beginning, beginning}
 
@@ -16,9 +16,9 @@ abbrev pub deal_of : ℕ → ℕ → ℕ → Deal
 deal_of region next left = record { region = region; next = next; left = left }
 
 -- the hands of the two desks and the viewers, which have seen nothing
-pub record AreLeft (desk spent : TableId) (d : Deal) (ours : HandList Line) (theirs : HandList ℕ) (viewers : List Beginning) : Type 0 where
-  pub own : AreFresh desk d.next ours.hands.items × (length ours.hands.items ≡ d.left)
-  pub told : AreFresh spent d.next theirs.hands.items × (length theirs.hands.items ≡ d.left)
+pub record AreLeft (desk spent : TableId) (d : Deal) (ours : List (HandView Line)) (theirs : List (HandView ℕ)) (viewers : List Beginning) : Type 0 where
+  pub own : AreFresh desk d.next ours × (length ours ≡ d.left)
+  pub told : AreFresh spent d.next theirs × (length theirs ≡ d.left)
   pub viewing : viewers ≡ replicate d.left (beginning d.region [])
   pub small : d.next + d.left ≤ 32
 

@@ -3,9 +3,8 @@ use Rattle.std.specs.Prelude.{◌≡◌, ℕ, ◌+◌, List, [], ◌∷◌, repl
 use Rattle.atomic_table.specs.Seated.{TableId}
 use Rattle.logbook.specs.Pages.{Book}
 use Rattle.append_ring.specs.Rules.{base_of as last_before}
-use Rattle.hand_register.specs.Desks.{records}
 use Rattle.hand_register.specs.Rule.{empty}
-use Rattle.hand_register.specs.declared.desk.Desk.{Desk}
+use Rattle.hand_register.specs.Views.{DeskView}
 use Rattle.region_model.specs.Journal.{Base}
 use Rattle.region_model.specs.Lines.{Line}
 use Rattle.region_state.specs.States.{State}
@@ -26,12 +25,12 @@ AreNamedSeeds desk spent book base lasts [] = Unit {0}
 AreNamedSeeds desk spent book base lasts (s ∷ ss) = IsNamedSeed desk spent book base lasts s × AreNamedSeeds desk spent book base lasts ss
 
 -- a region with no line, whose history is empty and is shown
-pub record IsUnlocked (desk_is spent_is : TableId) (base : Base) (lasts : List ℕ) (handlers : ℕ) (state : State) (desk : Desk Line) (spent : Desk ℕ) (history shown : Beginning) : Type 0 where
+pub record IsUnlocked (desk_is spent_is : TableId) (base : Base) (lasts : List ℕ) (handlers : ℕ) (state : State) (desk : DeskView Line) (spent : DeskView ℕ) (history shown : Beginning) : Type 0 where
   pub no_lines : state.lines ≡ []
   pub base_is : state.base ≡ base
   pub last : last_before lasts state.region ≡ state.base.last
-  pub own : (desk.seat.table_id ≡ desk_is) × (records desk ≡ replicate handlers empty)
-  pub told : (spent.seat.table_id ≡ spent_is) × (records spent ≡ replicate handlers empty)
+  pub own : (desk.id ≡ desk_is) × (desk.records ≡ replicate handlers empty)
+  pub told : (spent.id ≡ spent_is) × (spent.records ≡ replicate handlers empty)
   pub past : history ≡ beginning state.region []
   pub seen : shown ≡ history
 

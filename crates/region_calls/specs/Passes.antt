@@ -1,6 +1,5 @@
 -- What a handler's pass knows of its server.
 use Rattle.std.specs.Prelude.{◌≡◌, ℕ, zero, suc, ◌+◌, List, [], length, Option, Some, None, slice_get}
-use Rattle.hand_register.specs.Desks.{record_of}
 use Rattle.hand_register.specs.Rule.{empty}
 use Rattle.log_service.specs.declared.seats.LogSeat.{LogSeat}
 use Rattle.log_service.specs.Places.{Place, IsSeatOf}
@@ -34,8 +33,8 @@ module _ {N : Type 0} {g : Ghosts N} where
   pub record IsHandOf (handler calls r : ℕ) (p : RegionPass N g) : Type 0 where
     pub region : p.viewer.region ≡ r
     pub number : p.hand.number ≡ handler
-    pub mark : (record_of p.hand).mark ≡ 0
-    pub called : AreCalledBelow (calls + 1) (record_of p.hand).list
+    pub mark : p.hand.record.mark ≡ 0
+    pub called : AreCalledBelow (calls + 1) p.hand.record.list
 
   abbrev pub AreHandsOf : ℕ → ℕ → List (RegionPass N g) → Type 0
   AreHandsOf handler calls ps = (k : ℕ) (p : RegionPass N g) → slice_get ps k ≡ Some p → IsHandOf handler calls (k + 1) p
@@ -51,8 +50,8 @@ module _ {N : Type 0} {g : Ghosts N} where
     pub region : p.viewer.region ≡ r
     pub lines : p.viewer.lines ≡ []
     pub number : p.hand.number ≡ handler
-    pub own : record_of p.hand ≡ empty
-    pub told : record_of p.told ≡ empty
+    pub own : p.hand.record ≡ empty
+    pub told : p.told.record ≡ empty
 
   abbrev pub AreNewHands : ℕ → List (RegionPass N g) → Type 0
   AreNewHands handler ps = (k : ℕ) (p : RegionPass N g) → slice_get ps k ≡ Some p → IsNewHand (k + 1) handler p

@@ -30,10 +30,10 @@ abbrev pub base_of : RegionSeeds → Base
 base_of s = s.state.base
 
 abbrev pub desk_of : RegionSeeds → TableId
-desk_of s = s.desk.desk.seat.table_id
+desk_of s = s.desk.desk.id
 
 abbrev pub spent_of : RegionSeeds → TableId
-spent_of s = s.spent.desk.seat.table_id
+spent_of s = s.spent.desk.id
 
 abbrev pub book_of : RegionSeeds → Book
 book_of s = s.opened.seen.book

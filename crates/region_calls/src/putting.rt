@@ -1,7 +1,6 @@
 //! A put into one region, with its memory.
 
 ghost use Rattle.std.specs.Prelude.{◌≡◌, ◌≤◌, ◌<◌, ◌^◌};
-ghost use Rattle.hand_register.specs.Desks.{record_of};
 ghost use Rattle.log_service.specs.Numbers.{seen_synced};
 ghost use Rattle.log_service.specs.Places.{IsSeatOf, IsLaterSeat};
 ghost use Rattle.region_lock.specs.Answers.{is_sync, put_answer};
@@ -40,7 +39,7 @@ pub(crate) fn put_at<
 ) -> Result<u64, PutRefusal>
     requires service { IsAtService N.ring service.now at.old.viewer.region seat.old × (at.old.viewer.region ≤ 64) }
     requires time { time < 2 ^ 63 }
-    requires caller { (caller.handler ≡ at.old.hand.number) × AreCalledBelow caller.call (record_of at.old.hand).list }
+    requires caller { (caller.handler ≡ at.old.hand.number) × AreCalledBelow caller.call at.old.hand.record.list }
     ensures puts { PutsAt (N.Naming-3.base at.old.viewer.region) time at.old.viewer.region (is_sync durability) batch caller (put_answer result)
         (known_of service.now.regions at.old seat.old) (known_of service.now.regions at.new seat.new)
         seat.old.device.knows.broken seat.new.device.knows.broken }

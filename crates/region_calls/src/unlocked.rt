@@ -35,7 +35,6 @@ pub(crate) struct Unlocked<
 impl<N: region_lock::Naming + log_service::Naming + region_versions::Naming, R: Wait + Drop> Model
     for Unlocked<N, R> {
     ghost use Rattle.std.specs.Prelude.{ℕ};
-    ghost use Rattle.hand_register.specs.Desks.{records};
     ghost use Rattle.region_calls.specs.Named.{IsUnlocked};
 
     ghost Value = { ℕ };

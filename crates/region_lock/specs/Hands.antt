@@ -1,7 +1,7 @@
 -- What stays of a hand.
 use Rattle.std.specs.Prelude.{◌≡◌}
-use Rattle.hand_register.specs.declared.hand.Hand.{Hand}
+use Rattle.hand_register.specs.Views.{HandView}
 
 -- the hand keeps its number, and its desk
-abbrev pub SameHand : {X : Type 0} → Hand X → Hand X → Type 0
-SameHand old new = (new.number ≡ old.number) × (new.badge.table_id ≡ old.badge.table_id)
+abbrev pub SameHand : {X : Type 0} → HandView X → HandView X → Type 0
+SameHand old new = (new.number ≡ old.number) × (new.desk ≡ old.desk)

@@ -1,7 +1,7 @@
 //! How an edit is begun and ended under its region's lock.
 
 ghost use Rattle.std.specs.Prelude.{◌≡◌, ◌+◌, ◌<◌, ◌≤◌, ◌^◌};
-ghost use Rattle.hand_register.specs.Desks.{record_of, with_value};
+ghost use Rattle.hand_register.specs.Desks.{with_value};
 ghost use Rattle.log_model.specs.Entry.{Entry, entry_frame};
 ghost use Rattle.region_model.specs.Lines.{IsPending, with_outcome};
 ghost use Rattle.region_state.specs.States.{write_point, IsReadPoint};
@@ -33,12 +33,12 @@ impl<N: Naming + log_service::Naming + region_versions::Naming> RegionPart<N> {
         job: Job,
     ) -> Result<WriteEntry, Job>
         requires ring { service.now.ring ≡ N.ring }
-        requires hand { hand.old.badge.table_id ≡ N.desk self.old.state.region }
+        requires hand { hand.old.desk ≡ N.desk self.old.state.region }
         requires room { 1 ≤ self.old.state.room }
         requires number { write_point self.old.state + 1 < 2 ^ 48 }
         requires job { IsJob self.old.state.region job }
-        requires caller { (job.caller.handler ≡ hand.old.number) × AreCalledBelow job.caller.call (record_of hand.old).list }
-        ensures begun { IsBegun job self.old (record_of hand.old) result self.new (record_of hand.new) }
+        requires caller { (job.caller.handler ≡ hand.old.number) × AreCalledBelow job.caller.call hand.old.record.list }
+        ensures begun { IsBegun job self.old hand.old.record result self.new hand.new.record }
         ensures hand { SameHand hand.old hand.new }
     {
         let Job {
@@ -98,11 +98,11 @@ impl<N: Naming + log_service::Naming + region_versions::Naming> RegionPart<N> {
 
     /// Ends the handler's last line, which is pending, and gives the read point.
     pub(crate) fn end(&mut self, hand: &mut Hand<Line>, entry: WriteEntry, ended: Ended) -> u64
-        requires hand { hand.old.badge.table_id ≡ N.desk self.old.state.region }
-        requires last { EndsPending (record_of hand.old).list entry }
+        requires hand { hand.old.desk ≡ N.desk self.old.state.region }
+        requires last { EndsPending hand.old.record.list entry }
         ensures was { IsPending self.old.state.lines entry }
-        ensures own { WasEnded (outcome_at_end ended) (record_of hand.old).list (record_of hand.new).list }
-        ensures mark { (record_of hand.new).mark ≡ (record_of hand.old).mark }
+        ensures own { WasEnded (outcome_at_end ended) hand.old.record.list hand.new.record.list }
+        ensures mark { hand.new.record.mark ≡ hand.old.record.mark }
         ensures lines { self.new ≡ with_lines self.old (with_outcome entry (outcome_at_end ended) self.old.state.lines) self.new.state.room }
         ensures point { IsReadPoint self.new.state result }
         ensures hand { SameHand hand.old hand.new }
@@ -118,9 +118,9 @@ impl<N: Naming + log_service::Naming + region_versions::Naming> RegionPart<N> {
 
     /// Tells a hand that numbers are spent, and which one was the last.
     pub(crate) fn tell_spent(&mut self, told: &mut Hand<u64>) -> u64
-        requires { told.old.badge.table_id ≡ N.spent self.old.state.region }
+        requires { told.old.desk ≡ N.spent self.old.state.region }
         ensures last { result ≡ write_point self.old.state }
-        ensures told { record_of told.new ≡ with_value (record_of told.old) result }
+        ensures told { told.new.record ≡ with_value told.old.record result }
         ensures same { self.new ≡ self.old }
         ensures hand { SameHand told.old told.new }
     {

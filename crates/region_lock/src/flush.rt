@@ -1,7 +1,7 @@
 //! A flush of one region, between its mark's being set and being taken away.
 
 ghost use Rattle.std.specs.Prelude.{◌≡◌, ◌≤◌, Err, Contains};
-ghost use Rattle.hand_register.specs.Desks.{record_of, with_mark};
+ghost use Rattle.hand_register.specs.Desks.{with_mark};
 ghost use Rattle.region_model.specs.Lines.{last_in};
 ghost use Rattle.log_service.specs.Places.{IsSeatOf, IsLaterSeat};
 ghost use Rattle.region_lock.specs.Answers.{flush_answer, refused_flush};
@@ -29,9 +29,9 @@ fn look<N: Naming + log_service::Naming + region_versions::Naming, R: Wait + Dro
     by: Caller,
 ) -> Result<u64, Caller>
     requires caller { (by.handler ≡ at.old.hand.number) × (1 ≤ by.call) × Contains (N.flushes at.old.viewer.region) by }
-    requires free { (record_of at.old.hand).mark ≡ 0 }
-    ensures looked { IsLookedAt (last_in (N.Naming-3.base at.old.viewer.region) at.old.viewer.lines) (N.flushes at.old.viewer.region) by (record_of at.old.hand)
-        result (record_of at.new.hand) }
+    requires free { at.old.hand.record.mark ≡ 0 }
+    ensures looked { IsLookedAt (last_in (N.Naming-3.base at.old.viewer.region) at.old.viewer.lines) (N.flushes at.old.viewer.region) by at.old.hand.record
+        result at.new.hand.record }
     ensures same { SameButMark at.old at.new }
 {
     let region = at.viewer.region();
@@ -51,8 +51,8 @@ fn unmark<N: Naming + log_service::Naming + region_versions::Naming, R: Wait + D
     lock: &Mutex<Locked<N, R>>,
     at: &mut RegionPass<N>,
 )
-    requires marked { 1 ≤ (record_of at.old.hand).mark }
-    ensures clear { record_of at.new.hand ≡ with_mark (record_of at.old.hand) 0 }
+    requires marked { 1 ≤ at.old.hand.record.mark }
+    ensures clear { at.new.hand.record ≡ with_mark at.old.hand.record 0 }
     ensures same { SameButMark at.old at.new }
 {
     let region = at.viewer.region();
@@ -85,7 +85,7 @@ pub fn flush_in<
 ) -> Result<u64, FlushRefusal>
     requires service { IsAtService N.ring service.now at.old.viewer.region seat.old }
     requires caller { (by.handler ≡ at.old.hand.number) × (1 ≤ by.call) × Contains (N.flushes at.old.viewer.region) by }
-    requires free { (record_of at.old.hand).mark ≡ 0 }
+    requires free { at.old.hand.record.mark ≡ 0 }
     ensures flushes { FlushesAt (N.Naming-3.base at.old.viewer.region) (N.flushes at.old.viewer.region) by (flush_answer result)
         (known_of service.now.regions at.old seat.old) (known_of service.now.regions at.new seat.new)
         seat.old.device.knows.broken seat.new.device.knows.broken }

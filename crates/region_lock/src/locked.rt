@@ -2,7 +2,7 @@
 
 ghost use Rattle.std.specs.Prelude.{◌≡◌, ◌≤◌, None, ℕ, IsTrue, Contains};
 ghost use mathlib.Core.List.{IsPrefix};
-ghost use Rattle.hand_register.specs.Desks.{record_of, with_mark};
+ghost use Rattle.hand_register.specs.Desks.{with_mark};
 ghost use Rattle.log_service.specs.declared.seats.LogSeat.{LogSeat};
 ghost use Rattle.region_model.specs.Lines.{edits_in, handled_lines, last_in, with_outcome};
 ghost use Rattle.region_state.specs.Outcomes.{outcome_at_end};
@@ -90,12 +90,12 @@ impl<N: Naming + log_service::Naming + region_versions::Naming, R: Wait + Drop> 
         job: Job,
     ) -> Tried
         requires ring { service.now.ring ≡ N.ring }
-        requires hand { hand.old.badge.table_id ≡ N.desk region }
-        requires told { told.old.badge.table_id ≡ N.spent region }
+        requires hand { hand.old.desk ≡ N.desk region }
+        requires told { told.old.desk ≡ N.spent region }
         requires job { IsJob region job }
-        requires caller { (job.caller.handler ≡ hand.old.number) × AreCalledBelow job.caller.call (record_of hand.old).list }
-        ensures tried { IsTried region seen job (record_of hand.old).list (record_of told.old).list result (record_of hand.new).list (record_of told.new).list }
-        ensures mark { (record_of hand.new).mark ≡ (record_of hand.old).mark }
+        requires caller { (job.caller.handler ≡ hand.old.number) × AreCalledBelow job.caller.call hand.old.record.list }
+        ensures tried { IsTried region seen job hand.old.record.list told.old.record.list result hand.new.record.list told.new.record.list }
+        ensures mark { hand.new.record.mark ≡ hand.old.record.mark }
         ensures hand { SameHand hand.old hand.new }
         ensures told { SameHand told.old told.new }
     {
@@ -118,10 +118,10 @@ impl<N: Naming + log_service::Naming + region_versions::Naming, R: Wait + Drop> 
 
     /// As the part's.
     pub(crate) fn end(&mut self, hand: &mut Hand<Line>, entry: WriteEntry, ended: Ended) -> u64
-        requires hand { hand.old.badge.table_id ≡ N.desk self.old.state.region }
-        requires last { EndsPending (record_of hand.old).list entry }
-        ensures own { WasEnded (outcome_at_end ended) (record_of hand.old).list (record_of hand.new).list }
-        ensures mark { (record_of hand.new).mark ≡ (record_of hand.old).mark }
+        requires hand { hand.old.desk ≡ N.desk self.old.state.region }
+        requires last { EndsPending hand.old.record.list entry }
+        ensures own { WasEnded (outcome_at_end ended) hand.old.record.list hand.new.record.list }
+        ensures mark { hand.new.record.mark ≡ hand.old.record.mark }
         ensures lines { self.new ≡ with_lines self.old (with_outcome entry (outcome_at_end ended) self.old.state.lines) self.new.state.room }
         ensures point { IsReadPoint self.new.state result }
         ensures hand { SameHand hand.old hand.new }
@@ -162,10 +162,10 @@ impl<N: Naming + log_service::Naming + region_versions::Naming, R: Wait + Drop> 
 
     /// The part's look.
     pub(crate) fn look(&mut self, hand: &mut Hand<Line>, by: Caller) -> Result<u64, Caller>
-        requires hand { hand.old.badge.table_id ≡ N.desk self.old.state.region }
+        requires hand { hand.old.desk ≡ N.desk self.old.state.region }
         requires caller { (by.handler ≡ hand.old.number) × (1 ≤ by.call) × Contains (N.flushes self.old.state.region) by }
-        requires free { (record_of hand.old).mark ≡ 0 }
-        ensures looked { IsLooked (N.flushes self.old.state.region) by self.old (record_of hand.old) result self.new (record_of hand.new) }
+        requires free { hand.old.record.mark ≡ 0 }
+        ensures looked { IsLooked (N.flushes self.old.state.region) by self.old hand.old.record result self.new hand.new.record }
         ensures hand { SameHand hand.old hand.new }
     {
         self.part.look(hand, by)
@@ -173,10 +173,10 @@ impl<N: Naming + log_service::Naming + region_versions::Naming, R: Wait + Drop> 
 
     /// Takes a flush's mark away.
     pub(crate) fn unmark(&mut self, hand: &mut Hand<Line>)
-        requires hand { hand.old.badge.table_id ≡ N.desk self.old.state.region }
-        requires marked { 1 ≤ (record_of hand.old).mark }
+        requires hand { hand.old.desk ≡ N.desk self.old.state.region }
+        requires marked { 1 ≤ hand.old.record.mark }
         ensures mark { self.new ≡ record self.old { mark = None } }
-        ensures clear { record_of hand.new ≡ with_mark (record_of hand.old) 0 }
+        ensures clear { hand.new.record ≡ with_mark hand.old.record 0 }
         ensures hand { SameHand hand.old hand.new }
     {
         self.part.unmark(hand);
@@ -186,10 +186,10 @@ impl<N: Naming + log_service::Naming + region_versions::Naming, R: Wait + Drop> 
     pub fn meet(&mut self, at: &mut RegionPass<N>) -> bool
         requires { at.old.viewer.region ≡ self.old.state.region }
         ensures same { (self.new ≡ self.old) × (at.new.viewer ≡ at.old.viewer) }
-        ensures hand { (record_of at.new.hand ≡ record_of at.old.hand) × SameHand at.old.hand at.new.hand }
-        ensures told { (record_of at.new.told ≡ record_of at.old.told) × SameHand at.old.told at.new.told }
-        ensures own { (record_of at.new.hand).list ≡ handled_lines at.new.hand.number self.old.state.lines }
-        ensures spent { (n : ℕ) → Contains (record_of at.new.told).list n → n ≤ last_in self.old.state.base self.old.state.lines }
+        ensures hand { (at.new.hand.record ≡ at.old.hand.record) × SameHand at.old.hand at.new.hand }
+        ensures told { (at.new.told.record ≡ at.old.told.record) × SameHand at.old.told at.new.told }
+        ensures own { at.new.hand.record.list ≡ handled_lines at.new.hand.number self.old.state.lines }
+        ensures spent { (n : ℕ) → Contains at.new.told.record.list n → n ≤ last_in self.old.state.base self.old.state.lines }
         ensures shown { IsTrue result → IsPrefix at.new.viewer.lines self.old.state.lines }
         ensures met { IsTrue result → (n : ℕ) (seat : LogSeat)
             → IsMet self.old.state.base (edits_in self.old.state.region self.old.state.lines) at.new.hand.number (known_of n at.new seat) }

@@ -1,7 +1,7 @@
 //! The mark of a flush.
 
 ghost use Rattle.std.specs.Prelude.{◌≡◌, ◌≤◌, None, Contains};
-ghost use Rattle.hand_register.specs.Desks.{record_of, with_mark};
+ghost use Rattle.hand_register.specs.Desks.{with_mark};
 ghost use Rattle.region_lock.specs.Hands.{SameHand};
 ghost use Rattle.region_lock.specs.Marks.{IsLooked};
 
@@ -15,10 +15,10 @@ impl<N: Naming + log_service::Naming + region_versions::Naming> RegionPart<N> {
     /// state and in the desk, changes nothing else, and gives the write point, which none of the handler's own edits is above. It takes no
     /// memory.
     pub fn look(&mut self, hand: &mut Hand<Line>, by: Caller) -> Result<u64, Caller>
-        requires hand { hand.old.badge.table_id ≡ N.desk self.old.state.region }
+        requires hand { hand.old.desk ≡ N.desk self.old.state.region }
         requires caller { (by.handler ≡ hand.old.number) × (1 ≤ by.call) × Contains (N.flushes self.old.state.region) by }
-        requires free { (record_of hand.old).mark ≡ 0 }
-        ensures looked { IsLooked (N.flushes self.old.state.region) by self.old (record_of hand.old) result self.new (record_of hand.new) }
+        requires free { hand.old.record.mark ≡ 0 }
+        ensures looked { IsLooked (N.flushes self.old.state.region) by self.old hand.old.record result self.new hand.new.record }
         ensures hand { SameHand hand.old hand.new }
     {
         match self.mark {
@@ -37,10 +37,10 @@ impl<N: Naming + log_service::Naming + region_versions::Naming> RegionPart<N> {
 
     /// Takes a flush's mark away.
     pub(crate) fn unmark(&mut self, hand: &mut Hand<Line>)
-        requires hand { hand.old.badge.table_id ≡ N.desk self.old.state.region }
-        requires marked { 1 ≤ (record_of hand.old).mark }
+        requires hand { hand.old.desk ≡ N.desk self.old.state.region }
+        requires marked { 1 ≤ hand.old.record.mark }
         ensures mark { self.new ≡ record self.old { mark = None } }
-        ensures clear { record_of hand.new ≡ with_mark (record_of hand.old) 0 }
+        ensures clear { hand.new.record ≡ with_mark hand.old.record 0 }
         ensures hand { SameHand hand.old hand.new }
     {
         self.desk.mark(hand, 0);

@@ -3,7 +3,6 @@
 ghost use Rattle.std.specs.Prelude.{◌≡◌, ◌<◌, ◌≤◌, ◌^◌, ℕ, Contains, IfOk, OnOk};
 ghost use Rattle.std.specs.Arc.{arc_value};
 ghost use Rattle.std.specs.List.{AllPass};
-ghost use Rattle.hand_register.specs.Desks.{record_of};
 ghost use Rattle.region_model.specs.Journal.{IsJournal};
 ghost use Rattle.region_model.specs.Lines.{edits_in, handled_lines, is_completed_line, last_in};
 ghost use Rattle.region_state.specs.States.{write_point};
@@ -36,7 +35,6 @@ pub struct RegionPart<N: Naming + log_service::Naming + region_versions::Naming>
 
 impl<N: Naming + log_service::Naming + region_versions::Naming> Model for RegionPart<N> {
     ghost use Rattle.std.specs.Prelude.{length};
-    ghost use Rattle.hand_register.specs.Desks.{records};
     ghost use Rattle.region_lock.specs.Parts.{Part, coded_part, IsPart, IsNamed};
 
     ghost Value = { Part };
@@ -45,9 +43,9 @@ impl<N: Naming + log_service::Naming + region_versions::Naming> Model for Region
 
     ghost view = { λ p. record { state = p.state; mark = p.mark } };
 
-    ghost invariant = { λ p. IsPart (N.flushes p.state.region) p.state.region p.state.base p.state.lines p.mark (records p.desk) (records p.spent) p.pass
+    ghost invariant = { λ p. IsPart (N.flushes p.state.region) p.state.region p.state.base p.state.lines p.mark p.desk.records p.spent.records p.pass
         × IsNamed N.desk N.spent N.ring ⟦<N as region_versions::Naming>⟧.base N.handlers p.state.region p.state.base
-        (length (records p.desk)) p.desk.seat.table_id p.spent.seat.table_id p.pass.pass.table_id p.pass.region };
+        (length p.desk.records) p.desk.id p.spent.id p.pass.pass.table_id p.pass.region };
 }
 
 impl<N: Naming + log_service::Naming + region_versions::Naming> RegionPart<N> {
@@ -104,9 +102,9 @@ impl<N: Naming + log_service::Naming + region_versions::Naming> RegionPart<N> {
 
     /// The hand's list is its handler's lines.
     pub(crate) fn meet(&mut self, hand: &mut Hand<Line>)
-        requires { hand.old.badge.table_id ≡ N.desk self.old.state.region }
-        ensures own { (record_of hand.new).list ≡ handled_lines hand.new.number self.old.state.lines }
-        ensures same { (self.new ≡ self.old) × (record_of hand.new ≡ record_of hand.old) }
+        requires { hand.old.desk ≡ N.desk self.old.state.region }
+        ensures own { hand.new.record.list ≡ handled_lines hand.new.number self.old.state.lines }
+        ensures same { (self.new ≡ self.old) × (hand.new.record ≡ hand.old.record) }
         ensures hand { SameHand hand.old hand.new }
     {
         self.desk.meet(hand);
@@ -114,9 +112,9 @@ impl<N: Naming + log_service::Naming + region_versions::Naming> RegionPart<N> {
 
     /// What a hand was told as spent is at most the last number.
     pub(crate) fn meet_told(&mut self, told: &mut Hand<u64>)
-        requires { told.old.badge.table_id ≡ N.spent self.old.state.region }
-        ensures met { (n : ℕ) → Contains (record_of told.new).list n → n ≤ last_in self.old.state.base self.old.state.lines }
-        ensures same { (self.new ≡ self.old) × (record_of told.new ≡ record_of told.old) }
+        requires { told.old.desk ≡ N.spent self.old.state.region }
+        ensures met { (n : ℕ) → Contains told.new.record.list n → n ≤ last_in self.old.state.base self.old.state.lines }
+        ensures same { (self.new ≡ self.old) × (told.new.record ≡ told.old.record) }
         ensures hand { SameHand told.old told.new }
     {
         self.spent.meet(told);

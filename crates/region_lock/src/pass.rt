@@ -13,8 +13,8 @@ pub struct RegionPass<N: Naming + region_versions::Naming> {
     pub hand: Hand<Line>,
     pub told: Hand<u64>,
     pub viewer: Viewer<N>,
-    pub ghost of_desk: { hand.badge.table_id ≡ N.desk viewer.region },
-    pub ghost of_spent: { told.badge.table_id ≡ N.spent viewer.region },
+    pub ghost of_desk: { hand.desk ≡ N.desk viewer.region },
+    pub ghost of_spent: { told.desk ≡ N.spent viewer.region },
     pub ghost one: { told.number ≡ hand.number },
 }
 

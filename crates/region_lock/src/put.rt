@@ -3,7 +3,6 @@
 ghost use Rattle.std.specs.Prelude.{◌≡◌, ◌≤◌, OnOk};
 ghost use Rattle.std.specs.Arc.{arc_value};
 ghost use mathlib.Core.List.{IsPrefix};
-ghost use Rattle.hand_register.specs.Desks.{record_of};
 ghost use Rattle.region_model.specs.Lines.{last_in};
 ghost use Rattle.region_state.specs.Outcomes.{outcome_at_end};
 ghost use Rattle.log_service.specs.Numbers.{seen_synced};
@@ -47,9 +46,9 @@ fn draw<
 ) -> Result<WriteEntry, PutRefusal>
     requires service { IsAtService N.ring service.now at.old.viewer.region seat.old }
     requires job { IsJob at.old.viewer.region job }
-    requires caller { (job.caller.handler ≡ at.old.hand.number) × AreCalledBelow job.caller.call (record_of at.old.hand).list }
-    ensures drawn { IsDrawn (last_in (N.Naming-3.base at.old.viewer.region) at.old.viewer.lines) job (record_of at.old.hand).list (record_of at.old.told).list
-        result (record_of at.new.hand).list (record_of at.new.told).list seat.new.device.knows.broken }
+    requires caller { (job.caller.handler ≡ at.old.hand.number) × AreCalledBelow job.caller.call at.old.hand.record.list }
+    ensures drawn { IsDrawn (last_in (N.Naming-3.base at.old.viewer.region) at.old.viewer.lines) job at.old.hand.record.list at.old.told.record.list
+        result at.new.hand.record.list at.new.told.record.list seat.new.device.knows.broken }
     ensures same { SameView at.old at.new }
     ensures seat { IsSeatOf service.now seat.new }
     ensures later { IsLaterSeat seat.old seat.new }
@@ -144,9 +143,9 @@ fn end<N: Naming + log_service::Naming + region_versions::Naming, R: Wait + Drop
     entry: WriteEntry,
     ended: Ended,
 )
-    requires last { EndsPending (record_of at.old.hand).list entry }
-    ensures own { WasEnded (outcome_at_end ended) (record_of at.old.hand).list (record_of at.new.hand).list }
-    ensures told { (record_of at.new.told).list ≡ (record_of at.old.told).list }
+    requires last { EndsPending at.old.hand.record.list entry }
+    ensures own { WasEnded (outcome_at_end ended) at.old.hand.record.list at.new.hand.record.list }
+    ensures told { at.new.told.record.list ≡ at.old.told.record.list }
     ensures same { SameView at.old at.new }
 {
     let region = at.viewer.region();
@@ -220,7 +219,7 @@ pub fn put_in<
 ) -> Result<u64, PutRefusal>
     requires service { IsAtService N.ring service.now at.old.viewer.region seat.old }
     requires job { IsJob at.old.viewer.region job }
-    requires caller { (job.caller.handler ≡ at.old.hand.number) × AreCalledBelow job.caller.call (record_of at.old.hand).list }
+    requires caller { (job.caller.handler ≡ at.old.hand.number) × AreCalledBelow job.caller.call at.old.hand.record.list }
     ensures puts { PutsAt (N.Naming-3.base at.old.viewer.region) job.time at.old.viewer.region
         (is_sync durability) (arc_value job.batch) job.caller (put_answer result)
         (known_of service.now.regions at.old seat.old) (known_of service.now.regions at.new seat.new)

@@ -3,7 +3,6 @@
 ghost use Rattle.std.specs.Prelude.{◌≡◌, [], None, replicate};
 ghost use Rattle.append_ring.specs.Parts.{IsNew};
 ghost use Rattle.append_ring.specs.Rules.{base_of};
-ghost use Rattle.hand_register.specs.Desks.{records};
 ghost use Rattle.hand_register.specs.Rule.{empty};
 ghost use Rattle.region_versions.specs.Histories.{beginning};
 
@@ -33,8 +32,8 @@ impl<N: Naming + log_service::Naming + region_versions::Naming, R: Wait + Drop> 
         requires base { state.base ≡ N.Naming-3.base state.region }
         requires pass { IsNew N.ring N.lasts state.region pass }
         requires last { base_of N.lasts state.region ≡ state.base.last }
-        requires desk { (desk.seat.table_id ≡ N.desk state.region) × (records desk ≡ replicate N.handlers empty) }
-        requires spent { (spent.seat.table_id ≡ N.spent state.region) × (records spent ≡ replicate N.handlers empty) }
+        requires desk { (desk.id ≡ N.desk state.region) × (desk.records ≡ replicate N.handlers empty) }
+        requires spent { (spent.id ≡ N.spent state.region) × (spent.records ≡ replicate N.handlers empty) }
         requires history { history ≡ beginning state.region [] }
         requires shown { shower.shown ≡ history }
         ensures state { result.state ≡ state }

@@ -17,7 +17,7 @@ use Rattle.cell_model.specs.Join.{joined}
 use Rattle.region_model.specs.Journal.{visible, is_in_range}
 use Rattle.region_model.proofs.VisibleLaws.{visible_lines}
 use Rattle.cell_model.specs.Order.{cells_of}
-use Rattle.region_state.specs.Versions.{Shown, shown_at, content_of, IsShown}
+use Rattle.region_state.specs.Versions.{Shown, shown_at, shown_content, IsShown}
 use Rattle.region_state.specs.States.{marks, IsRegion}
 use Rattle.region_state.proofs.LayerLaws.{waiting_le}
 use Rattle.region_state.proofs.MarkTies.{same_completed, all_completed, point_within, IsAt, length_take, mark_out, behind_front}
@@ -181,7 +181,7 @@ take_all (x ∷ xs) (suc k) e = (λ i. x ∷ take_all xs k (omega arith) i)
 
 -- its cells are what a reader sees at the point
 pub shown_is_visible : (region : ℕ) (from to : List ℕ) (parts : List Content) (s : Shown) → IsShown parts s
-    → filter (is_in_range from to) (cells_of (content_of s)) ≡ visible s.base.content (edits_in region s.cut) s.point from to
+    → filter (is_in_range from to) (cells_of (shown_content s)) ≡ visible s.base.content (edits_in region s.cut) s.point from to
 shown_is_visible region from to parts s is =
     let point : s.point ≡ s.base.last + length s.cut = is.point in
     let law = visible_lines region s.base.content s.base.last s.point s.cut from to (is.numbers region) (omega arith) in

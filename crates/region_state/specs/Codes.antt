@@ -2,14 +2,9 @@
 use Rattle.std.specs.Prelude.{◌≡◌, ℕ, zero, suc, List, refl}
 use Rattle.std.specs.Coded.{Coded, code_by, coded×, coded_ℕ, coded_list}
 use Rattle.cell_model.specs.Cell.{Cell}
-use Rattle.cell_model.specs.Codes.{coded_bytes}
+use Rattle.cell_model.specs.Codes.{coded_cell}
 use Rattle.region_model.specs.Journal.{Outcome, Pending, Done, Failed}
 use Rattle.region_model.specs.Lines.{Line}
-
-abbrev pub coded_cell : Coded Cell
-coded_cell =
-    code_by (List ℕ × (List ℕ × (List ℕ × (ℕ × (ℕ × List ℕ))))) (coded× coded_bytes (coded× coded_bytes (coded× coded_bytes (coded× coded_ℕ (coded× coded_ℕ coded_bytes)))))
-    (λ c. (c.row, (c.family, (c.qualifier, (c.ts, (c.kind, c.value)))))) (λ p. record { row = p.0; family = p.1.0; qualifier = p.1.1.0; ts = p.1.1.1.0; kind = p.1.1.1.1.0; value = p.1.1.1.1.1 }) (λ _. refl)
 
 abbrev pub number_of : Outcome → ℕ
 number_of Pending = 0

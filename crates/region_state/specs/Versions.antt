@@ -19,8 +19,8 @@ abbrev pub coded_shown : Coded Shown
 coded_shown = code_by (Base × (List Line × ℕ)) (coded× coded_base (coded× (coded_list coded_line) coded_ℕ)) (λ s. (s.base, (s.cut, s.point))) (λ p. record { base = p.0; cut = p.1.0; point = p.1.1 }) (λ _. refl)
 
 -- its cells: those of its base and of the done lines of its cut
-abbrev pub content_of : Shown → Content
-content_of s = put_lines s.base.content (done_in s.cut)
+abbrev pub shown_content : Shown → Content
+shown_content s = put_lines s.base.content (done_in s.cut)
 
 -- what a reader sees of it in a range of rows, whichever region it is
 abbrev pub seen_in : ℕ → Shown → List ℕ → List ℕ → List NumberedCell
@@ -32,7 +32,7 @@ shown_at base point lines = record { base = base; cut = take (point - base.last)
 
 -- the parts hold its cells, and its lines are numbered up to the point, each completed
 pub record IsShown (parts : List Content) (s : Shown) : Type 0 where
-  pub cells : joined parts ≡ content_of s
+  pub cells : joined parts ≡ shown_content s
   pub numbers : (region : ℕ) → Follows s.base.last (edits_in region s.cut)
   pub completed : AllPass is_completed_line s.cut
   pub point : s.point ≡ s.base.last + length s.cut

@@ -12,6 +12,3 @@ pub use caller::Caller;
 pub use line::{Ended, Line, LineOutcome};
 pub use state::RegionState;
 pub use version::Version;
-
-#[cfg(test)]
-mod tests;

@@ -9,7 +9,7 @@ ghost use Rattle.region_model.specs.Lines.{pending, IsPending, IsNextCall, with_
 ghost use Rattle.mem_segments.specs.Draft.{IsDraftOf};
 ghost use Rattle.region_state.specs.Outcomes.{outcome_at_end};
 ghost use Rattle.region_state.specs.States.{write_point, IsReadPoint, IsUpTo};
-ghost use Rattle.region_state.specs.Versions.{shown_at, content_of};
+ghost use Rattle.region_state.specs.Versions.{shown_at, shown_content};
 ghost use Rattle.region_state.specs.Layers.{AreLayers, taken};
 
 use crate::caller::Caller;
@@ -173,7 +173,7 @@ impl RegionState {
         ensures completed { IfOk result (λ v. AllPass is_completed_line (arc_value v).cut) }
         ensures end { IfOk result (λ v. (arc_value v).point ≡ last_in (arc_value v).base (arc_value v).cut) }
         ensures cells { IfOk result
-            (λ v. cells_of (content_of (arc_value v)) ≡ visible self.old.base.content (edits_in self.old.region self.old.lines) (arc_value v).point [] []) }
+            (λ v. cells_of (shown_content (arc_value v)) ≡ visible self.old.base.content (edits_in self.old.region self.old.lines) (arc_value v).point [] []) }
         ensures same { self.new ≡ record self.old { room = self.new.room } }
         ensures room { self.old.room ≤ self.new.room }
     {

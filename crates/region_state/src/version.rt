@@ -43,7 +43,7 @@ impl Model for Version {
 }
 
 impl Version {
-    ghost use Rattle.region_state.specs.Versions.{shown_at, content_of, seen_in, IsShown};
+    ghost use Rattle.region_state.specs.Versions.{shown_at, shown_content, seen_in, IsShown};
 
     /// What the parts hold is what is shown of these lines at the point.
     pub(crate) fn new(point: u64, segments: SegmentList, base: &Base, lines: &Vec<Line>) -> Version
@@ -69,7 +69,7 @@ impl Version {
 
     /// The segments that hold its cells, oldest first: with n cells at most log2 n + 1.
     pub fn segments(&self) -> &[Arc<Segment, Global>]
-        ensures cells { joined (map arc_value result.now) ≡ content_of self.now }
+        ensures cells { joined (map arc_value result.now) ≡ shown_content self.now }
         ensures few { IsHalving (lengths_of (map arc_value result.now)) }
     {
         self.segments.as_slice()

@@ -10,11 +10,11 @@ use Rattle.region_model.specs.Journal.{Base}
 use Rattle.region_versions.specs.declared.slot.Showing.{Showing}
 use Rattle.region_versions.specs.declared.slot.State.{State}
 use Rattle.region_versions.specs.declared.rule.Seen.{Seen}
-use Rattle.region_versions.specs.Shown.{cut, state_of, IsOf, newcomer, Keeps, has_seen, Shows}
+use Rattle.region_versions.specs.Shown.{cut, state_of, IsOf, new_viewer, Keeps, has_seen, Shows}
 use Rattle.region_versions.proofs.Fronts.{prefix_self, prefix_trans}
 
-pub admits : (book : ℕ → Book) (base : ℕ → Base) → Admits (Keeps book base) newcomer
-admits book base x views h = (h.0, λ seat v at. ⊎_elim (h.1 seat v) (λ (e : newcomer ≡ v). subst (λ (u : Seen). IsPrefix u.seen (cut x)) e (cut x, refl)) (at_snoc views newcomer v seat at))
+pub admits : (book : ℕ → Book) (base : ℕ → Base) → Admits (Keeps book base) new_viewer
+admits book base x views h = (h.0, λ seat v at. ⊎_elim (h.1 seat v) (λ (e : new_viewer ≡ v). subst (λ (u : Seen). IsPrefix u.seen (cut x)) e (cut x, refl)) (at_snoc views new_viewer v seat at))
 
 pub rises : (book : ℕ → Book) (base : ℕ → Base) (seat : ℕ) (v : Seen) (x y : Showing) → IsOf book base y → IsPrefix (cut x) (cut y) → TurnsAt (Keeps book base) seat v x y (Shows book base)
 rises book base seat v x y same up views h at = (
@@ -47,9 +47,9 @@ pub by_answer : {A E : Type 0} (r : Result A E) (P P' R : A → Type 0) (Q Q' S 
 by_answer (Ok a) P P' R Q Q' S p q f h = f a p q
 by_answer (Err e) P P' R Q Q' S p q f h = h e p q
 
-pub begins : (book : ℕ → Book) (base : ℕ → Base) (x : Showing) → IsOf book base x → Keeps book base x (newcomer ∷ [])
+pub begins : (book : ℕ → Book) (base : ℕ → Base) (x : Showing) → IsOf book base x → Keeps book base x (new_viewer ∷ [])
 begins book base x same = (same, one)
   where
-    one : (seat : ℕ) (v : Seen) → get_elem? (newcomer ∷ []) seat ≡ some v → IsPrefix v.seen (cut x)
+    one : (seat : ℕ) (v : Seen) → get_elem? (new_viewer ∷ []) seat ≡ some v → IsPrefix v.seen (cut x)
     one zero v e = subst (λ (u : Seen). IsPrefix u.seen (cut x)) (some-injective _ _ e) (cut x, refl)
     one (suc seat) v e = absurd (some-ne-none v (sym e))

@@ -2,3 +2,4 @@ pub mod OrderLaws
 pub mod NotedLaws
 pub mod FileLaws
 pub mod MarkLaws
+pub mod LowerLaws

@@ -1,5 +1,5 @@
 -- What the accounting has of each region and of each closed file. Numbers are by region, read by `get_or numbers region 0`.
-use Rattle.std.specs.Prelude.{◌≡◌, ◌≢◌, ℕ, ◌<◌, ◌≤◌, List, get_or, not, ◌==◌, filter, Contains}
+use Rattle.std.specs.Prelude.{◌≡◌, ◌≢◌, ℕ, zero, suc, ◌<◌, ◌≤◌, Bool, true, leb, ◌&&◌, List, get_or, not, filter, Contains}
 use Rattle.seq_accounting.specs.declared.region.RegionMark.{RegionMark}
 
 -- a closed file, with the highest number of each region in it, 0 where there is none
@@ -35,6 +35,11 @@ pub record Flush : Type 0 where
 abbrev pub AreLower : List ℕ → List ℕ → Type 0
 AreLower highest flushed = (r : ℕ) → r ≤ 64 → get_or highest r 0 ≤ get_or flushed r 0
 
+-- the same as a test, of the first so many regions
+unfoldable pub are_lower : ℕ → List ℕ → List ℕ → Bool
+are_lower zero highest flushed = true
+are_lower (suc n) highest flushed = leb (get_or highest n 0) (get_or flushed n 0) && are_lower n highest flushed
+
 -- a file of this number is closed and not forgotten
 abbrev pub IsClosed : List ClosedFile → ℕ → Type 0
 IsClosed closed file = ∥ ((c : ClosedFile) × Contains closed c × (c.file ≡ file)) ∥₁
@@ -43,9 +48,9 @@ IsClosed closed file = ∥ ((c : ClosedFile) × Contains closed c × (c.file ≡
 abbrev pub IsBefore : ClosedFile → ClosedFile → Type 0
 IsBefore c d = c.file < d.file
 
--- the files but this one
-abbrev pub without : List ClosedFile → ℕ → List ClosedFile
-without closed file = filter (λ c. not (c.file == file)) closed
+-- the files of which not all is flushed
+abbrev pub unflushed : List ℕ → List ClosedFile → List ClosedFile
+unflushed flushed closed = filter (λ c. not (are_lower 65 c.highest flushed)) closed
 
 abbrev pub NoneClosedAbove : List ClosedFile → ℕ → Type 0
 NoneClosedAbove closed after = (c : ClosedFile) → Contains closed c → c.file ≤ after

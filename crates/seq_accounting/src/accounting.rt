@@ -1,7 +1,7 @@
 //! The accounting of regions and files.
 
-ghost use Rattle.std.specs.Prelude.{◌≡◌, ℕ, ◌+◌, ◌-◌, ◌<◌, ◌≤◌, ◌↔◌, List, [], ◌∷◌, ◌++◌, replicate, slice_set, get_or, All, AllPairs, Contains, IsTrue, IsNone, IfOk, OnOk, OnErr, MatchOption};
-ghost use Rattle.seq_accounting.specs.Accounts.{ClosedFile, AreLower, IsClosed, without, NoneClosedAbove, IsNextClosed, AreApart, AreFlushed, SameNumbers, SameFiles};
+ghost use Rattle.std.specs.Prelude.{◌≡◌, ℕ, ◌+◌, ◌-◌, ◌<◌, ◌≤◌, ◌↔◌, List, [], ◌∷◌, ◌++◌, length, replicate, slice_set, get_or, All, AllPairs, Contains, IsTrue, IsNone, IfOk, OnOk, OnErr, MatchOption};
+ghost use Rattle.seq_accounting.specs.Accounts.{ClosedFile, AreLower, IsClosed, unflushed, NoneClosedAbove, IsNextClosed, AreApart, AreFlushed, SameNumbers, SameFiles};
 ghost use Rattle.seq_accounting.specs.Noted.{Note, NoneAbove, IsLeastAbove, HasNoted};
 ghost use Rattle.seq_accounting.specs.Order.{IsInOrder};
 
@@ -216,10 +216,11 @@ impl Accounting {
         self.closed[place].is_lower(&self.flushed)
     }
 
-    /// Forgets a closed file. It takes no memory.
-    pub fn forget(&mut self, file: u64)
-        requires { IsClosed self.old.closed file }
-        ensures closed { self.new.closed ≡ without self.old.closed file }
+    /// Forgets each closed file of which all is flushed, and gives their number. It looks at each file once, and takes no
+    /// memory.
+    pub fn forget_lower(&mut self) -> u64
+        ensures closed { self.new.closed ≡ unflushed self.old.flushed self.old.closed }
+        ensures count { length self.new.closed + result ≡ length self.old.closed }
         ensures current { self.new.current ≡ self.old.current }
         ensures last { self.new.last ≡ self.old.last }
         ensures room { self.old.room ≤ self.new.room }
@@ -227,7 +228,10 @@ impl Accounting {
         ensures history { (notes : List Note) → HasNoted self.old notes → HasNoted self.new notes }
         ensures order { IsInOrder self.new }
     {
-        self.closed.retain(|c| c.file() != file);
+        let before = self.closed.len();
+        let flushed = self.flushed;
+        self.closed.retain(move |c| !c.is_lower(&flushed));
+        (before - self.closed.len()) as u64
     }
 
     /// The least closed file above this number, by a binary search. Files are numbered from 1, so 0 begins.

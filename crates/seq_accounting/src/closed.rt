@@ -1,7 +1,7 @@
 //! Closed files, in rising number.
 
 ghost use Rattle.std.specs.Prelude.{◌≡◌, ◌<◌, ◌≤◌, ◌↔◌, AllPairs, IsTrue};
-ghost use Rattle.seq_accounting.specs.Accounts.{AreLower, IsBefore, IsClosed};
+ghost use Rattle.seq_accounting.specs.Accounts.{AreLower, are_lower, IsBefore, IsClosed};
 ghost use Rattle.seq_accounting.specs.Places.{IsPlaceOf, IsPlaceAbove};
 
 use crate::region::REGIONS;
@@ -37,7 +37,8 @@ impl FileMark {
 
     /// Whether the highest number of each region is at or below the flushed one.
     pub(crate) fn is_lower(&self, flushed: &[u64; REGIONS]) -> bool
-        ensures { IsTrue result ↔ AreLower self.now.highest flushed.now }
+        ensures lower { IsTrue result ↔ AreLower self.now.highest flushed.now }
+        ensures test { result ≡ are_lower REGIONS self.now.highest flushed.now }
     {
         for region in 0..REGIONS {
             if self.highest[region] > flushed[region] {

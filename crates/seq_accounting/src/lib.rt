@@ -13,6 +13,3 @@ pub use accounting::Accounting;
 pub use error::NoMemory;
 pub use flushing::Flushing;
 pub use region::{REGIONS, RegionMark};
-
-#[cfg(test)]
-mod tests;

@@ -1,9 +1,8 @@
 -- The passes and the seats of sixteen members, which go out one by one and come back.
 use Rattle.std.specs.Prelude.{◌≡◌, ℕ, ◌+◌, ◌-◌, ◌≤◌, List, length, replicate, Option}
 use Rattle.append_ring.specs.declared.pass.RingPass.{RingPass}
-use Rattle.append_ring.specs.Parts.{AreNewAfter, AreBack, last_pushed}
-use Rattle.log_berth.specs.Standing.{Bundle}
-use Rattle.log_berth.specs.Standing as berth
+use Rattle.append_ring.specs.Parts.{AreNewAfter, ArePlacesBack, last_pushed}
+use Rattle.log_berth.specs.Standing.{Bundle, AreBack}
 use Rattle.log_service.specs.declared.item.Item.{Item}
 use Rattle.log_service.specs.Items.{number_of}
 use Rattle.log_service.specs.Places.{Place, IsSeatOf}
@@ -18,8 +17,8 @@ pub record IsOf (place : Place) (m : Member) : Type 0 where
 
 -- these seats are of the service, and so many are missing of sixteen
 pub record AreSeats (place : Place) (missing : ℕ) (movers committers : Bundle) : Type 0 where
-  pub consumers : berth.AreBack place.consumer movers.seats
-  pub devices : berth.AreBack place.device committers.seats
+  pub consumers : AreBack place.consumer movers.seats
+  pub devices : AreBack place.device committers.seats
   pub counts : (length movers.seats + missing ≡ 16) × (length committers.seats + missing ≡ 16)
   pub rooms : (16 ≤ movers.room) × (16 ≤ committers.room)
 
@@ -31,6 +30,6 @@ pub record AreOut (place : Place) (n : ℕ) (places : List (Option (RingPass Ite
 
 -- of sixteen passes and seats the first n are back, and the passes are of the service
 pub record AreIn (place : Place) (n : ℕ) (places : List (Option (RingPass Item))) (movers committers : Bundle) : Type 0 where
-  pub passes : AreBack (λ p. p.pass.table_id ≡ place.ring) n places
+  pub passes : ArePlacesBack (λ p. p.pass.table_id ≡ place.ring) n places
   pub all : length places ≡ 16
   pub seats : AreSeats place (16 - n) movers committers

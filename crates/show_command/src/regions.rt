@@ -6,9 +6,8 @@ ghost use Rattle.show_command.specs.Regions.{by_region};
 
 use entry_frame::Entry;
 use kv_cell::{Cell, NoMemory, NumberedCells};
+use log_model::REGIONS;
 use std::alloc::Global;
-
-const REGIONS: usize = 64;
 
 /// The cells of regions 1 to 64, each with the number of its entry, in the order of the entries. No cell is copied.
 pub fn cells_by_region(alloc: Global, entries: Vec<Entry>) -> Result<Vec<NumberedCells>, NoMemory>
@@ -25,7 +24,7 @@ pub fn cells_by_region(alloc: Global, entries: Vec<Entry>) -> Result<Vec<Numbere
 fn empty_lists(alloc: Global) -> Result<Vec<NumberedCells>, NoMemory>
     ensures { IfOk result (λ lists. lists.items ≡ replicate 64 []) }
 {
-    let mut lists = Vec::with_capacity(alloc, REGIONS)?;
+    let mut lists = Vec::with_capacity(alloc, REGIONS as usize)?;
     for _ in 0..REGIONS {
         lists.push(NumberedCells::new(alloc))?;
     }

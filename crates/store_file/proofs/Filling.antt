@@ -5,8 +5,8 @@ use Rattle.std.proofs.lemmas.List.{take_at, length-take, length-drop}
 use Rattle.log_model.specs.declared.name.Name.{Name}
 use Rattle.log_model.specs.Files.{Reads}
 use Rattle.disk_images.specs.Crash.{DiskView}
-use Rattle.log_file.specs.Looking.{OnlyLooks}
-use Rattle.log_file.proofs.Pieces.{next_taken}
+use Rattle.file_base.specs.Looking.{OnlyLooks}
+use Rattle.file_base.proofs.Pieces.{next_taken}
 
 -- so many of the file's bytes stand in these, by at most as many calls
 pub record Fills (told : Type 0) (name : Name) (first now : DiskView) (bytes : List ℕ) (at : ℕ) : Type 0 where

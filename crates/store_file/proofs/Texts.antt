@@ -9,9 +9,9 @@ use Rattle.cell_model.specs.Order.{NumberedCell}
 use Rattle.cell_model.proofs.CellLaws.{IsBytes, number_part_4, number_part_8}
 use Rattle.log_model.specs.StoreText.{IsStoredCell, IsThere, IsStoreText, store_text, pairs_text, field_fault, IsStoreDamaged}
 use Rattle.log_model.specs.StoreText.IsStoreDamaged.{Pair, Behind}
-use Rattle.log_file.specs.declared.error.ReadRefusal.{ReadRefusal}
-use Rattle.log_file.specs.declared.error.ReadRefusal.TheVariants as refusals
-use Rattle.log_file.specs.Refusal.{IfDamaged}
+use Rattle.file_base.specs.declared.error.ReadRefusal.{ReadRefusal}
+use Rattle.file_base.specs.declared.error.ReadRefusal.TheVariants as refusals
+use Rattle.file_base.specs.Refusal.{IfDamaged}
 use Rattle.store_file.specs.Reading.{IsHead, AreFields, StandsUpTo, LacksPair}
 use Rattle.store_file.proofs.Standing.{place_of}
 

@@ -12,16 +12,9 @@ use Rattle.disk_images.specs.Gate.{IsFilled, IsFronted}
 use Rattle.disk_images.proofs.Moments.{more_time}
 use Rattle.disk_images.proofs.Torn.{then_only}
 use Rattle.recovery.specs.Kept.{IsNotThere}
-use Rattle.store_file.specs.Open.{OpenStore, IsFilling, store_of, fields_text}
+use Rattle.store_file.specs.Open.{OpenStore, IsAlike, IsFilling, store_of, fields_text}
 use Rattle.store_file.specs.Whole.{IsWholeOrNot}
 use Rattle.store_file.proofs.Stores.{begun_filled, shut_still, shut_moments, or_whole}
-
--- the same file, of which as much is to be written
-pub record IsAlike (o now : OpenStore) : Type 0 where
-  pub name : now.name ≡ o.name
-  pub from : now.from ≡ o.from
-  pub to : now.to ≡ o.to
-  pub count : now.count ≡ o.count
 
 joined_left : (x a b c d e : List ℕ) → ((((x ++ a) ++ b) ++ c) ++ d) ++ e ≡ x ++ (a ++ (b ++ (c ++ (d ++ e))))
 joined_left x a b c d e = simp append_assoc

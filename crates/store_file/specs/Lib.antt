@@ -1,3 +1,4 @@
+pub mod Calls
 pub mod Open
 pub mod Reading
 pub mod ReadingLaws

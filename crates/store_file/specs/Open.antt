@@ -24,6 +24,21 @@ pub record IsBounded (o : OpenStore) : Type 0 where
   pub waiting : length o.bytes ≤ 262144
   pub counted : o.filled ≤ o.at + length o.bytes
 
+-- one that was begun with this name and these numbers
+pub record IsNew (name : Name) (from to count : ℕ) (o : OpenStore) : Type 0 where
+  pub name_is : o.name ≡ name
+  pub from_is : o.from ≡ from
+  pub to_is : o.to ≡ to
+  pub count_is : o.count ≡ count
+  pub unfilled : o.filled ≡ 0
+
+-- the same file, of which as much is to be written
+pub record IsAlike (o now : OpenStore) : Type 0 where
+  pub name : now.name ≡ o.name
+  pub from : now.from ≡ o.from
+  pub to : now.to ≡ o.to
+  pub count : now.count ≡ o.count
+
 -- what stands behind the gate in front of the cells: `HWS1`, the region, the two sequence ids, and the count
 unfoldable pub fields_text : ℕ → ℕ → ℕ → ℕ → List ℕ
 fields_text region from to count = (72 ∷ 87 ∷ 83 ∷ 49 ∷ []) ++ (big_bytes 4 region ++ (big_bytes 8 from ++ (big_bytes 8 to ++ big_bytes 8 count)))

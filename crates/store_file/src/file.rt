@@ -1,26 +1,25 @@
 //! A store file that is written.
 
-ghost use Rattle.std.specs.Prelude.{◌≡◌, ◌≤◌, ◌<◌, ◌+◌, ◌^◌, ℕ, [], ◌∷◌, ◌++◌, List, length, IsTrue, IfOk, OnOk, IsErr, IsErrOf, ◌↔◌};
+ghost use Rattle.std.specs.Prelude.{◌≡◌, ◌≤◌, ◌<◌, ◌+◌, ◌^◌, ℕ, [], List, length, IsTrue, IfOk, OnOk, IsErr, IsErrOf, ◌↔◌};
 ghost use Rattle.cell_model.specs.Order.{NumberedCell};
 ghost use Rattle.log_model.specs.declared.name.NameKind.TheVariants as kinds;
 ghost use Rattle.log_model.specs.Files.{IsAbsent};
-ghost use Rattle.log_model.specs.StoreText.{IsStore, store_text};
+ghost use Rattle.log_model.specs.StoreText.{IsStore};
 ghost use Rattle.disk_images.specs.Crash.{Throughout, OnlyAt};
-ghost use Rattle.disk_images.specs.OneFile.{Touches, IsDurableFile};
+ghost use Rattle.disk_images.specs.OneFile.{Touches};
 ghost use Rattle.disk_images.specs.Calls.{HasCause};
 ghost use Rattle.recovery.specs.Kept.{IsNotThere};
-ghost use Rattle.store_file.specs.Open.{IsFilling, store_of};
-ghost use Rattle.store_file.specs.Whole.{IsWholeOrNot};
+ghost use Rattle.store_file.specs.Open.{IsNew, IsAlike, IsFilling, store_of};
+ghost use Rattle.store_file.specs.Calls.{Begins, PutsIn, Commits};
 
 use crate::buffer::Buffer;
 use crate::commit::commit_filled;
 use disk_images::{Disk, Name, create_durably, write_behind};
+use file_base::{DiskFault, FileRefusal};
 use kv_cell::Cell;
-use log_file::{DiskFault, FileRefusal};
+use log_model::CLOSED_GATE;
 use std::alloc::Global;
 use std::marker::Model;
-
-const CLOSED: u8 = 0;
 
 /// A store file that is written: its gate stands closed, and cells go behind it.
 #[derive(Debug, Drop)]
@@ -59,12 +58,13 @@ impl StoreFile {
         requires kind { name.kind ≡ kinds.Store }
         requires range { (1 ≤ from) × (from ≤ to) × (to < 2 ^ 48) }
 
-        ensures begun { IsTrue D.told → IfOk result (λ store. IsFilling store (D.view disk.new) []) }
-        ensures shape { IfOk result (λ store. (store.name ≡ name) × (store.from ≡ from) × (store.to ≡ to) × (store.count ≡ count) × (store.filled ≡ 0)) }
+        // What the disk and every crash image hold.
+        ensures begins { IsTrue D.told → Begins name result (D.view disk.old) (D.view disk.new) }
 
-        // At each moment each image of the file isn't there.
-        ensures any_moment { IsTrue D.told → Throughout (OnlyAt name IsNotThere (D.view disk.old)) 3 (D.view disk.old) (D.view disk.new) }
-        ensures touches { IsTrue D.told → Touches name (D.view disk.old) (D.view disk.new) }
+        // What the writer holds.
+        ensures shape { IfOk result (IsNew name from to count) }
+
+        // When it fails.
         ensures memory { IsErrOf result FileRefusal.Memory → disk.new ≡ disk.old }
         ensures cause { HasCause (D.faults disk.old) (D.faults disk.new) (IsErrOf result FileRefusal.DiskFault) }
     {
@@ -86,14 +86,12 @@ impl StoreFile {
         requires kind { name.kind ≡ kinds.Store }
         requires empty { buffer ≡ [] }
 
-        ensures begun { IsTrue D.told → IfOk result (λ store. IsFilling store (D.view disk.new) []) }
-        ensures shape { IfOk result (λ store. (store.name ≡ name) × (store.from ≡ from) × (store.to ≡ to) × (store.count ≡ count) × (store.filled ≡ 0)) }
-        ensures any_moment { IsTrue D.told → Throughout (OnlyAt name IsNotThere (D.view disk.old)) 3 (D.view disk.old) (D.view disk.new) }
-        ensures touches { IsTrue D.told → Touches name (D.view disk.old) (D.view disk.new) }
+        ensures begins { IsTrue D.told → Begins name result (D.view disk.old) (D.view disk.new) }
+        ensures shape { IfOk result (IsNew name from to count) }
         ensures cause { HasCause (D.faults disk.old) (D.faults disk.new) (IsErr result) }
     {
         // Until the sync a crash leaves no file, or one of at most this byte, a closed gate: neither is there.
-        create_durably(disk, name, &[CLOSED])?;
+        create_durably(disk, name, &[CLOSED_GATE])?;
         let mut buffer = buffer;
         buffer.add_fields(name.region, from, to, count);
         Ok(StoreFile {
@@ -112,15 +110,16 @@ impl StoreFile {
     pub fn fill<D: Disk>(&mut self, disk: &mut D, number: u64, cell: &Cell) -> Result<(), DiskFault>
         requires { IsTrue D.told → ∥ ((cells : List NumberedCell) × IsFilling self.old (D.view disk.old) cells) ∥₁ }
 
-        ensures filled { IsTrue D.told → (cells : List NumberedCell) → IsFilling self.old (D.view disk.old) cells
-            → OnOk result (IsFilling self.new (D.view disk.new) (cells ++ (number, cell.now) ∷ [])) }
+        // What the disk and every crash image hold.
+        ensures puts_in { IsTrue D.told → (cells : List NumberedCell) → IsFilling self.old (D.view disk.old) cells
+            → PutsIn cells (number, cell.now) result self.old self.new (D.view disk.old) (D.view disk.new) }
+        ensures no_other_file { IsTrue D.told → Touches self.old.name (D.view disk.old) (D.view disk.new) }
 
-        // At each moment each image of the file isn't there.
-        ensures any_moment { IsTrue D.told → (cells : List NumberedCell) → IsFilling self.old (D.view disk.old) cells
-            → Throughout (OnlyAt self.old.name IsNotThere (D.view disk.old)) 1 (D.view disk.old) (D.view disk.new) }
-        ensures shape { (self.new.name ≡ self.old.name) × (self.new.from ≡ self.old.from) × (self.new.to ≡ self.old.to) × (self.new.count ≡ self.old.count) }
+        // What the writer holds.
         ensures counted { OnOk result (self.new.filled ≡ self.old.filled + 1) }
-        ensures touches { IsTrue D.told → Touches self.old.name (D.view disk.old) (D.view disk.new) }
+        ensures shape { IsAlike self.old self.new }
+
+        // When it fails.
         ensures cause { HasCause (D.faults disk.old) (D.faults disk.new) (IsErr result) }
     {
         self.make_room(disk, 8 + cell.encoded_len())?;
@@ -139,8 +138,8 @@ impl StoreFile {
         ensures room { OnOk result (length self.new.bytes + len ≤ 262144) }
         ensures any_moment { IsTrue D.told → (cells : List NumberedCell) → IsFilling self.old (D.view disk.old) cells
             → Throughout (OnlyAt self.old.name IsNotThere (D.view disk.old)) 1 (D.view disk.old) (D.view disk.new) }
-        ensures shape { (self.new.name ≡ self.old.name) × (self.new.from ≡ self.old.from) × (self.new.to ≡ self.old.to)
-            × (self.new.count ≡ self.old.count) × (self.new.filled ≡ self.old.filled) }
+        ensures shape { IsAlike self.old self.new }
+        ensures same_count { self.new.filled ≡ self.old.filled }
         ensures touches { IsTrue D.told → Touches self.old.name (D.view disk.old) (D.view disk.new) }
         ensures cause { HasCause (D.faults disk.old) (D.faults disk.new) (IsErr result) }
     {
@@ -160,8 +159,8 @@ impl StoreFile {
         ensures empty { OnOk result (self.new.bytes ≡ []) }
         ensures any_moment { IsTrue D.told → (cells : List NumberedCell) → IsFilling self.old (D.view disk.old) cells
             → Throughout (OnlyAt self.old.name IsNotThere (D.view disk.old)) 1 (D.view disk.old) (D.view disk.new) }
-        ensures shape { (self.new.name ≡ self.old.name) × (self.new.from ≡ self.old.from) × (self.new.to ≡ self.old.to)
-            × (self.new.count ≡ self.old.count) × (self.new.filled ≡ self.old.filled) }
+        ensures shape { IsAlike self.old self.new }
+        ensures same_count { self.new.filled ≡ self.old.filled }
         ensures touches { IsTrue D.told → Touches self.old.name (D.view disk.old) (D.view disk.new) }
         ensures cause { HasCause (D.faults disk.old) (D.faults disk.new) (IsErr result) }
     {
@@ -190,13 +189,12 @@ impl StoreFile {
         requires full { self.filled ≡ self.count }
         requires store { IsTrue D.told → ∥ ((cells : List NumberedCell) × IsFilling self (D.view disk.old) cells × IsStore (store_of self cells)) ∥₁ }
 
-        ensures stored { IsTrue D.told → (cells : List NumberedCell) → IsFilling self (D.view disk.old) cells
-            → OnOk result (IsDurableFile (D.view disk.new) self.name (store_text (store_of self cells))) }
+        // What the disk and every crash image hold.
+        ensures commits { IsTrue D.told → (cells : List NumberedCell) → IsFilling self (D.view disk.old) cells
+            → Commits cells result self (D.view disk.old) (D.view disk.new) }
+        ensures no_other_file { IsTrue D.told → Touches self.name (D.view disk.old) (D.view disk.new) }
 
-        // At each moment each image of the file isn't there, or is the whole store.
-        ensures any_moment { IsTrue D.told → (cells : List NumberedCell) → IsFilling self (D.view disk.old) cells
-            → Throughout (OnlyAt self.name (IsWholeOrNot (store_text (store_of self cells))) (D.view disk.old)) 4 (D.view disk.old) (D.view disk.new) }
-        ensures touches { IsTrue D.told → Touches self.name (D.view disk.old) (D.view disk.new) }
+        // When it fails.
         ensures cause { HasCause (D.faults disk.old) (D.faults disk.new) (IsErr result) }
     {
         let mut store = self;

@@ -16,10 +16,7 @@ mod read;
 mod reading;
 
 pub use file::StoreFile;
+pub use file_base::{DiskFault, FileRefusal, ReadRefusal};
 pub use laws::{store_damage_is_one, store_text_is_not_damaged, store_text_is_one};
 pub use list::StoreText;
-pub use log_file::{DiskFault, FileRefusal, ReadRefusal};
 pub use read::read_store;
-
-#[cfg(test)]
-mod tests;

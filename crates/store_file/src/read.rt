@@ -4,14 +4,14 @@ ghost use Rattle.std.specs.Prelude.{◌≡◌, ◌≤◌, ◌<◌, ◌+◌, ◌^
 ghost use Rattle.log_model.specs.StoreText.{IsStore, IsThere, IsStoreText, IsStoreDamaged};
 ghost use Rattle.log_model.specs.Files.{Reads};
 ghost use Rattle.disk_images.specs.Calls.{HasCause};
-ghost use Rattle.log_file.specs.Looking.{OnlyLooks};
-ghost use Rattle.log_file.specs.Refusal.{IfDamaged};
+ghost use Rattle.file_base.specs.Looking.{OnlyLooks};
+ghost use Rattle.file_base.specs.Refusal.{IfDamaged};
 
 use crate::list::StoreText;
 use crate::reading::parse_store;
 use disk_images::{Disk, Name};
+use file_base::ReadRefusal;
 use kv_cell::NoMemory;
-use log_file::ReadRefusal;
 use std::alloc::Global;
 
 /// How many bytes are read at once.

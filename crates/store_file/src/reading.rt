@@ -4,22 +4,18 @@ ghost use Rattle.std.specs.Prelude.{◌≡◌, ◌≢◌, ◌↔◌, ◌≤◌, 
 ghost use Rattle.cell_model.specs.Order.{NumberedCell};
 ghost use Rattle.cell_model.specs.Merge.{IsRising};
 ghost use Rattle.log_model.specs.StoreText.{IsThere, IsStoreText, field_fault, IsStoreDamaged};
-ghost use Rattle.log_file.specs.Refusal.{IfDamaged};
+ghost use Rattle.file_base.specs.Refusal.{IfDamaged};
 ghost use Rattle.store_file.specs.Reading.{IsHead, AreFields, FrontsPair, StandsUpTo, NoneIsNext, LacksPair};
 
 use crate::list::StoreText;
+use file_base::ReadRefusal;
 use kv_cell::{Cell, CellRef, NoMemory, NumberedCells, compare_numbered, decode, u32_at, u64_at};
-use log_file::ReadRefusal;
+use log_model::{LAST_EDIT, OPEN_GATE};
 use std::alloc::Global;
 use std::cmp::Ordering;
 
-const OPEN: u8 = 0xA5;
-
 /// `HWS1`.
 const MAGIC: u32 = 0x4857_5331;
-
-/// The greatest sequence id.
-const LAST_ID: u64 = 0xFFFF_FFFF_FFFF;
 
 /// How long the fields in front of the first pair are.
 const FIELDS_LEN: usize = 33;
@@ -66,7 +62,7 @@ pub(crate) fn parse_store(
 fn is_there(bytes: &[u8]) -> bool
     ensures { IsTrue result ↔ IsThere bytes.now }
 {
-    bytes.len() > 1 && bytes[0] == OPEN
+    bytes.len() > 1 && bytes[0] == OPEN_GATE
 }
 
 /// The fields, or the offset of the first that is wrong or not whole.
@@ -97,7 +93,7 @@ fn read_fields(region: u32, bytes: &[u8]) -> Result<Fields, u64>
     if to < from {
         return Err(9);
     }
-    if to > LAST_ID {
+    if to > LAST_EDIT {
         return Err(17);
     }
     if n < FIELDS_LEN {

@@ -10,9 +10,10 @@ use Rattle.disk_images.specs.OneFile.{Touches, IsDurableFile}
 use Rattle.disk_images.proofs.Moments.{at_once, more_time}
 use Rattle.disk_images.proofs.Torn.{then_only, only_weaker, only_unchanged}
 use Rattle.recovery.specs.Change.{HasText, HasEntries}
-use Rattle.log_file.specs.Open.{OpenLog, IsOpen, IsStaged, HasEither, AreEntriesOf}
-use Rattle.log_file.specs.LogText.{at_rest, front}
-use Rattle.log_file.proofs.Committed.{rest_has}
+use Rattle.log_file.specs.Open.{OpenLog, IsOpen, IsStaged, HasEither}
+use Rattle.log_file.specs.LogText.{at_rest}
+use Rattle.log_file.specs.Calls.{IsSameFile}
+use Rattle.log_file.proofs.Committed.{rest_has, open_still}
 use Rattle.wal_split.specs.Some.{HasSome}
 use Rattle.wal_split.specs.Copied.{AreIn}
 
@@ -45,31 +46,22 @@ touches_on name u v w first second = record {
   formerly = λ n m h. first.formerly n m (second.formerly n m h);
 }
 
--- the file stays open, whatever is staged
-pub open_same : (log now : OpenLog) (v : DiskView) (done : List Entry) → now.name ≡ log.name → now.gate ≡ log.gate → now.entries ≡ log.entries → IsOpen log v done → IsOpen now v done
-open_same log now v done name gate entries h = record {
-  each = subst (λ (n : Name). AreEntriesOf n done) (sym name) h.each;
-  file = subst (λ (n : Name). IsDurableFile v n (at_rest n.number done)) (sym name) h.file;
-  gate = gate ∙ h.gate ∙ ap (λ (n : Name). length (front n.number done)) (sym name);
-  count = entries ∙ h.count;
-}
-
 -- one more is staged
-pub staged_in : (log now : OpenLog) (v : DiskView) (entries : List Entry) (e : Entry) (in_it : AreIn log v entries) → now.name ≡ log.name → now.gate ≡ log.gate → now.entries ≡ log.entries → IsStaged now (in_it.batch ++ e ∷ []) → AreIn now v (entries ++ e ∷ [])
-staged_in log now v entries e in_it name gate count staged = record {
+pub staged_in : (log now : OpenLog) (v : DiskView) (entries : List Entry) (e : Entry) (in_it : AreIn log v entries) → IsSameFile log now → IsStaged now (in_it.batch ++ e ∷ []) → AreIn now v (entries ++ e ∷ [])
+staged_in log now v entries e in_it same staged = record {
   done = in_it.done;
   batch = in_it.batch ++ e ∷ [];
-  open_log = open_same log now v in_it.done name gate count in_it.open_log;
+  open_log = open_still log now v in_it.done same in_it.open_log;
   staged = staged;
   all = sym (append_assoc in_it.done in_it.batch (e ∷ [])) ∙ ap (λ (l : List Entry). l ++ e ∷ []) in_it.all;
 }
 
 -- one more is staged behind a commit
-pub behind_in : (log now : OpenLog) (v w : DiskView) (entries : List Entry) (e : Entry) (in_it : AreIn log v entries) (between : OpenLog) → IsOpen between w (in_it.done ++ in_it.batch) → now.name ≡ between.name → now.gate ≡ between.gate → now.entries ≡ between.entries → IsStaged now (e ∷ []) → AreIn now w (entries ++ e ∷ [])
-behind_in log now v w entries e in_it between open_log name gate count staged = record {
+pub behind_in : (log now : OpenLog) (v w : DiskView) (entries : List Entry) (e : Entry) (in_it : AreIn log v entries) (between : OpenLog) → IsOpen between w (in_it.done ++ in_it.batch) → IsSameFile between now → IsStaged now (e ∷ []) → AreIn now w (entries ++ e ∷ [])
+behind_in log now v w entries e in_it between open_log same staged = record {
   done = in_it.done ++ in_it.batch;
   batch = e ∷ [];
-  open_log = open_same between now w (in_it.done ++ in_it.batch) name gate count open_log;
+  open_log = open_still between now w (in_it.done ++ in_it.batch) same open_log;
   staged = staged;
   all = ap (λ (l : List Entry). l ++ e ∷ []) in_it.all;
 }

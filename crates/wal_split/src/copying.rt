@@ -1,22 +1,23 @@
 //! Copies of logged entries go into an edits file.
 
-ghost use Rattle.std.specs.Prelude.{◌≡◌, ◌≤◌, ◌<◌, ◌+◌, ◌*◌, ◌++◌, ◌∷◌, [], ◌^◌, ℕ, List, Contains, None, length, IsTrue, IfOk, OnOk, IsErr, IsErrOf};
+ghost use Rattle.std.specs.Prelude.{◌≡◌, ◌+◌, ◌*◌, ◌++◌, ◌∷◌, [], ℕ, List, Contains, None, length, IsTrue, OnOk, IsErr, IsErrOf};
 ghost use Rattle.log_model.specs.declared.name.NameKind.TheVariants as kinds;
-ghost use Rattle.log_model.specs.Entry.{Entry as TheEntry, entry_frame};
+ghost use Rattle.log_model.specs.Entry.{Entry as TheEntry};
 ghost use Rattle.log_model.specs.LogText.{IsEntryOf};
 ghost use Rattle.log_model.specs.Files.{Files, content, IsAbsent, IsLogged, key_of};
 ghost use Rattle.recovery.specs.Change.{HasText};
 ghost use Rattle.disk_images.specs.Crash.{Throughout, OnlyAt};
 ghost use Rattle.disk_images.specs.OneFile.{Touches};
 ghost use Rattle.disk_images.specs.Calls.{HasCause};
-ghost use Rattle.log_file.specs.Open.{AreEntriesOf, IsOpen, IsStaged, HasEither};
+ghost use Rattle.log_file.specs.Open.{AreEntriesOf, IsOpen, IsStaged};
+ghost use Rattle.log_file.specs.Calls.{IsSameFile};
 ghost use Rattle.recovery.specs.Alike.{AllAlike};
 ghost use Rattle.wal_split.specs.Held.{IsHeld};
 ghost use Rattle.wal_split.specs.Some.{HasSome};
 ghost use Rattle.wal_split.specs.Copied.{AreIn};
 
 use disk_images::{Disk, Name};
-use entry_frame::{Entry, EntryBytes, encode_entry};
+use entry_frame::Entry;
 use log_file::{DiskFault, FileRefusal, LogFile};
 use std::alloc::Global;
 
@@ -41,18 +42,13 @@ pub fn write_edits<D: Disk>(
     ensures cause { HasCause (D.faults disk.old) (D.faults disk.new) (IsErrOf result FileRefusal.DiskFault) }
 {
     let mut log = LogFile::begin(alloc, disk, name)?;
-    add_entries(alloc, disk, &mut log, entries)?;
+    add_entries(disk, &mut log, entries)?;
     log.commit(disk)?;
     Ok(())
 }
 
-/// Puts entries into a file that has none.
-fn add_entries<D: Disk>(
-    alloc: Global,
-    disk: &mut D,
-    log: &mut LogFile,
-    entries: &[Entry],
-) -> Result<(), FileRefusal>
+/// Puts entries into a file that has none, each as the bytes that it was read from. It takes no memory.
+fn add_entries<D: Disk>(disk: &mut D, log: &mut LogFile, entries: &[Entry]) -> Result<(), DiskFault>
     requires of { AreEntriesOf log.old.name entries.now }
     requires empty { IsStaged log.old [] }
     requires open { IsTrue D.told → IsOpen log.old (D.view disk.old) [] }
@@ -62,21 +58,16 @@ fn add_entries<D: Disk>(
         → Throughout (OnlyAt log.old.name (HasSome log.old.name entries.now) (D.view disk.old)) (4 * length entries.now) (D.view disk.old) (D.view disk.new) }
     ensures name { log.new.name ≡ log.old.name }
     ensures touches { IsTrue D.told → Touches log.old.name (D.view disk.old) (D.view disk.new) }
-    ensures cause { HasCause (D.faults disk.old) (D.faults disk.new) (IsErrOf result FileRefusal.DiskFault) }
+    ensures cause { HasCause (D.faults disk.old) (D.faults disk.new) (IsErr result) }
 {
     for entry in entries {
-        add_entry(alloc, disk, log, entry)?;
+        add_entry(disk, log, entry)?;
     }
     Ok(())
 }
 
-/// Puts one more entry in.
-fn add_entry<D: Disk>(
-    alloc: Global,
-    disk: &mut D,
-    log: &mut LogFile,
-    entry: &Entry,
-) -> Result<(), FileRefusal>
+/// Puts one more entry in. Where it doesn't fit the stage, what is staged is committed first.
+fn add_entry<D: Disk>(disk: &mut D, log: &mut LogFile, entry: &Entry) -> Result<(), DiskFault>
     requires of { IsEntryOf (key_of log.old.name) entry.now }
     requires open { IsTrue D.told → ∥ ((entries : List TheEntry) × AreIn log.old (D.view disk.old) entries) ∥₁ }
 
@@ -86,62 +77,40 @@ fn add_entry<D: Disk>(
         → Throughout (OnlyAt log.old.name (HasSome log.old.name entries) (D.view disk.old)) 4 (D.view disk.old) (D.view disk.new) }
     ensures name { log.new.name ≡ log.old.name }
     ensures touches { IsTrue D.told → Touches log.old.name (D.view disk.old) (D.view disk.new) }
-    ensures cause { HasCause (D.faults disk.old) (D.faults disk.new) (IsErrOf result FileRefusal.DiskFault) }
-{
-    let bytes = encode_entry(alloc, entry.region, entry.number, entry.time, &entry.batch)?;
-    add_bytes(disk, log, &bytes)?;
-    Ok(())
-}
-
-/// Puts the bytes of one more entry in. Where they don't fit the stage, what is staged is committed first.
-fn add_bytes<D: Disk>(disk: &mut D, log: &mut LogFile, bytes: &EntryBytes) -> Result<(), DiskFault>
-    requires of { ∥ ((e : TheEntry) × (bytes.now ≡ entry_frame e) × IsEntryOf (key_of log.old.name) e) ∥₁ }
-    requires open { IsTrue D.told → ∥ ((entries : List TheEntry) × AreIn log.old (D.view disk.old) entries) ∥₁ }
-
-    ensures added { IsTrue D.told → (entries : List TheEntry) (e : TheEntry) → AreIn log.old (D.view disk.old) entries
-        → bytes.now ≡ entry_frame e → IsEntryOf (key_of log.old.name) e
-        → OnOk result (AreIn log.new (D.view disk.new) (entries ++ e ∷ [])) }
-    ensures any_moment { IsTrue D.told → (entries : List TheEntry) → AreIn log.old (D.view disk.old) entries
-        → Throughout (OnlyAt log.old.name (HasSome log.old.name entries) (D.view disk.old)) 4 (D.view disk.old) (D.view disk.new) }
-    ensures name { log.new.name ≡ log.old.name }
-    ensures touches { IsTrue D.told → Touches log.old.name (D.view disk.old) (D.view disk.new) }
     ensures cause { HasCause (D.faults disk.old) (D.faults disk.new) (IsErr result) }
 {
-    match log.stage(bytes) {
+    match log.stage(entry.bytes()) {
         Ok(()) => Ok(()),
-        Err(_) => add_behind(disk, log, bytes),
+        Err(_) => add_behind(disk, log, entry),
     }
 }
 
-/// Commits what is staged, and puts the bytes of one more entry in.
-fn add_behind<D: Disk>(disk: &mut D, log: &mut LogFile, bytes: &EntryBytes) -> Result<(), DiskFault>
-    requires of { ∥ ((e : TheEntry) × (bytes.now ≡ entry_frame e) × IsEntryOf (key_of log.old.name) e) ∥₁ }
+/// Commits what is staged, and puts one more entry in.
+fn add_behind<D: Disk>(disk: &mut D, log: &mut LogFile, entry: &Entry) -> Result<(), DiskFault>
+    requires of { IsEntryOf (key_of log.old.name) entry.now }
     requires open { IsTrue D.told → ∥ ((entries : List TheEntry) × AreIn log.old (D.view disk.old) entries) ∥₁ }
 
-    ensures added { IsTrue D.told → (entries : List TheEntry) (e : TheEntry) → AreIn log.old (D.view disk.old) entries
-        → bytes.now ≡ entry_frame e → IsEntryOf (key_of log.old.name) e
-        → OnOk result (AreIn log.new (D.view disk.new) (entries ++ e ∷ [])) }
+    ensures added { IsTrue D.told → (entries : List TheEntry) → AreIn log.old (D.view disk.old) entries
+        → OnOk result (AreIn log.new (D.view disk.new) (entries ++ entry.now ∷ [])) }
     ensures any_moment { IsTrue D.told → (entries : List TheEntry) → AreIn log.old (D.view disk.old) entries
         → Throughout (OnlyAt log.old.name (HasSome log.old.name entries) (D.view disk.old)) 4 (D.view disk.old) (D.view disk.new) }
     ensures name { log.new.name ≡ log.old.name }
     ensures touches { IsTrue D.told → Touches log.old.name (D.view disk.old) (D.view disk.new) }
     ensures cause { HasCause (D.faults disk.old) (D.faults disk.new) (IsErr result) }
 {
-    let len = bytes.len();
     log.commit(disk)?;
-    stage_into_empty(log, bytes, len);
+    stage_into_empty(log, entry);
     Ok(())
 }
 
-/// Stages the bytes of an entry where nothing is staged, so that they fit.
-fn stage_into_empty(log: &mut LogFile, bytes: &EntryBytes, len: usize)
-    requires of { ∥ ((e : TheEntry) × (bytes.now ≡ entry_frame e) × IsEntryOf (key_of log.old.name) e) ∥₁ }
+/// Stages an entry where nothing is staged, so that it fits.
+fn stage_into_empty(log: &mut LogFile, entry: &Entry)
+    requires of { IsEntryOf (key_of log.old.name) entry.now }
     requires empty { IsStaged log.old [] }
-    requires len { (len ≡ length bytes.now) × (len ≤ 1048581) }
-    ensures staged { (e : TheEntry) → bytes.now ≡ entry_frame e → IsEntryOf (key_of log.old.name) e → IsStaged log.new (e ∷ []) }
-    ensures elsewhere { (log.new.name ≡ log.old.name) × (log.new.gate ≡ log.old.gate) × (log.new.entries ≡ log.old.entries) }
+    ensures staged { IsStaged log.new (entry.now ∷ []) }
+    ensures same_file { IsSameFile log.old log.new }
 {
-    match log.stage(bytes) {
+    match log.stage(entry.bytes()) {
         Ok(()) => {}
         Err(_) => unreachable!(),
     }

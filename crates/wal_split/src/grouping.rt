@@ -8,9 +8,8 @@ use crate::job::EditsJob;
 use disk_images::{Name, NameKind};
 use entry_frame::Entry;
 use kv_cell::NoMemory;
+use log_model::REGIONS;
 use std::alloc::Global;
-
-const REGIONS: u32 = 64;
 
 /// An edits file of this number for each region 1 to 64, with the region's entries in their order. No cell is copied.
 pub(crate) fn jobs_of(

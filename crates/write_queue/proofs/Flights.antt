@@ -2,7 +2,7 @@
 use Rattle.std.proofs.Common.{◌≡◌, ℕ, zero, suc, ◌+◌, ◌-◌, ◌<◌, List, [], ◌∷◌, ◌++◌, length, set, take, drop, slice_get, Bool, true, false, Some, refl, sym, ap, subst, arith, append_assoc}
 use Rattle.std.proofs.lemmas.List.{append-nil, take-append-drop}
 use Rattle.std.proofs.lemmas.Option.{slice_get_within}
-use Rattle.write_queue.specs.Numbers.{Numbers, IsOut, write_point, begun, with_completed}
+use Rattle.write_queue.specs.Numbers.{Numbers, IsOut, last_begun, begun, with_completed}
 use Rattle.write_queue.specs.Flights.{Differ, AreOut}
 
 differ_end : (n x : ℕ) (ms : List ℕ) → Differ n ms → (n ≡ x → ⊥) → Differ n (ms ++ x ∷ [])
@@ -48,14 +48,14 @@ all_still : (q : Numbers) (ns : List ℕ) → AreOut q ns → AreOut (begun q) n
 all_still q [] all = tt
 all_still q (n ∷ ns) all = (still_out q n all.0, all.1, all_still q ns all.2)
 
-above_all : (q : Numbers) (x : ℕ) (ns : List ℕ) → write_point q < x → AreOut q ns → Differ x ns
+above_all : (q : Numbers) (x : ℕ) (ns : List ℕ) → last_begun q < x → AreOut q ns → Differ x ns
 above_all q x [] lt all = tt
 above_all q x (n ∷ ns) lt all =
     let in' = slice_get_within q.done (n - q.last - 1) false all.0.1 in let up : q.last < n = all.0.0 in
     ((λ e. absurd (omega arith)), above_all q x ns lt all.2)
 
 -- one number more is out
-pub out_begun : (q : Numbers) (x : ℕ) (ns : List ℕ) → x ≡ write_point q + 1 → AreOut q ns → AreOut (begun q) (ns ++ x ∷ [])
+pub out_begun : (q : Numbers) (x : ℕ) (ns : List ℕ) → x ≡ last_begun q + 1 → AreOut q ns → AreOut (begun q) (ns ++ x ∷ [])
 out_begun q x ns e all = out_end (begun q) x ns (all_still q ns all) (omega arith, get_end q.done false (x - q.last - 1) (omega arith)) (above_all q x ns (omega arith) all)
 
 rest_out : (q : Numbers) (n : ℕ) (ns : List ℕ) → q.last < n → Differ n ns → AreOut q ns → AreOut (with_completed q n) ns

@@ -22,8 +22,8 @@ abbrev pub completed : Numbers → List ℕ
 completed q = completed_behind q.last q.done
 
 -- the last number that was begun
-abbrev pub write_point : Numbers → ℕ
-write_point q = q.last + length q.done
+abbrev pub last_begun : Numbers → ℕ
+last_begun q = q.last + length q.done
 
 -- the number was begun and isn't completed
 abbrev pub IsOut : Numbers → ℕ → Type 0

@@ -9,6 +9,3 @@ mod queue;
 pub use entry::WriteEntry;
 pub use error::NoMemory;
 pub use queue::WriteQueue;
-
-#[cfg(test)]
-mod tests;

@@ -3,7 +3,7 @@
 ghost use Rattle.std.specs.Prelude.{◌≡◌, ◌+◌, ◌-◌, ◌<◌, ◌≤◌, ◌^◌, [], ◌++◌, length, true, IfOk, OnOk, OnErr, replicate};
 ghost use Rattle.region_model.specs.Journal.{IsPoint};
 ghost use Rattle.std.specs.VecDeque.{deque_capacity};
-ghost use Rattle.write_queue.specs.Numbers.{write_point, completed, IsOut, IsIdle, begun, with_completed, IsOpen};
+ghost use Rattle.write_queue.specs.Numbers.{last_begun, completed, IsOut, IsIdle, begun, with_completed, IsOpen};
 
 use crate::entry::WriteEntry;
 use crate::error::NoMemory;
@@ -60,8 +60,8 @@ impl WriteQueue {
     /// Draws the next number. It takes no memory.
     pub fn begin(&mut self) -> WriteEntry
         requires room { 1 ≤ self.old.room }
-        requires limit { write_point self.old.numbers + 1 < 2 ^ 48 }
-        ensures number { result ≡ write_point self.old.numbers + 1 }
+        requires limit { last_begun self.old.numbers + 1 < 2 ^ 48 }
+        ensures number { result ≡ last_begun self.old.numbers + 1 }
         ensures queue { self.new ≡ record { numbers = begun self.old.numbers; room = self.old.room - 1 } }
     {
         let number = self.write_point() + 1;
@@ -91,7 +91,7 @@ impl WriteQueue {
 
     /// The last number that was begun.
     pub fn write_point(&self) -> u64
-        ensures point { result ≡ write_point self.now.numbers }
+        ensures point { result ≡ last_begun self.now.numbers }
         ensures limit { result < 2 ^ 48 }
     {
         self.read + self.marks.len() as u64
@@ -100,7 +100,7 @@ impl WriteQueue {
     /// Goes on behind `number`, as if it were the last one completed. It takes no memory.
     pub fn advance_to(&mut self, number: u64)
         requires idle { IsIdle self.old.numbers }
-        requires later { write_point self.old.numbers ≤ number }
+        requires later { last_begun self.old.numbers ≤ number }
         requires limit { number < 2 ^ 48 }
         ensures { self.new ≡ record { numbers = record { last = number; done = [] }; room = self.old.room } }
     {

@@ -1,36 +1,30 @@
-use Rattle.std.proofs.Common.{◌≡◌, List, [], sym, ap, ◌∙◌, subst, None}
-use Rattle.std.specs.List.{flat_map}
-use Rattle.std.proofs.lemmas.List.{append-nil}
-use Rattle.cell_model.specs.Cell.{Cell, spelling}
-use Rattle.cell_model.specs.Batch.{first_batch_limit}
-use Rattle.log_model.specs.Entry.{Entry, IsEntry}
-use Rattle.log_model.specs.Frame.{StartsCells}
+use Rattle.std.proofs.Common.{◌≡◌, ◌∙◌, List, length, arith, ap, sym, subst}
+use Rattle.cell_model.specs.Cell.{Cell}
+use Rattle.log_model.specs.Entry.{Entry, IsEntry, frame, entry_frame}
+use Rattle.log_model.proofs.FrameLaws.{length-body}
 use Rattle.entry_frame.specs.Frame.{IsRefOf}
 use Rattle.entry_frame.specs.declared.frame.EntryRef.{EntryRef}
-use Rattle.entry_frame.proofs.OwnLaws.{batch_has_no_limit}
 use Rattle.entry_frame.proofs.owning.own_entry.Goals as goal
 
-abbrev starts : (r : EntryRef) (e : Entry) → IsEntry e → IsRefOf r e → StartsCells r.cells.now r.count []
-starts r e is ref = record { cells = e.cells; count = sym ref.count; each = is.batch.each; is = ref.cells ∙ sym (append-nil (flat_map spelling e.cells)) }
+abbrev with_cells : EntryRef → List Cell → Entry
+with_cells r cells = record { region = r.region; number = r.number; time = r.time; cells = cells }
 
-same_fields : (r : EntryRef) (e : Entry) (cells : List Cell) → IsRefOf r e → cells ≡ e.cells → record { region = r.region; number = r.number; time = r.time; cells = cells } ≡ e
+same_fields : (r : EntryRef) (e : Entry) (cells : List Cell) → IsRefOf r e → cells ≡ e.cells → with_cells r cells ≡ e
 same_fields r e cells ref same = λ i. record { region = ref.region i; number = ref.number i; time = ref.time i; cells = same i }
 
-pub own_cells-requires : goal.own_cells-requires
-own_cells-requires c = starts c.args.entry.now c.requires.0 c.requires.1 c.requires.2
+pub spell_body-requires-clause-entry : goal.spell_body-requires-clause-entry
+spell_body-requires-clause-entry c = ∣ (c.requires.0, c.requires.1, c.requires.2.body_is) ∣₁
 
-pub unreachable-requires : goal.unreachable-requires
-unreachable-requires c =
-    let e : Entry = c.requires.0 in
-    let same : c.in_ok-cells.cells.items ≡ e.cells = c.in_ok-cells.ensures (starts c.args.entry.now e c.requires.1 c.requires.2) in
-    let none : first_batch_limit e.cells ≡ None = batch_has_no_limit e.cells c.requires.1.batch in
-    cc (ap first_batch_limit same, none, c.in_default.ensures)
+pub spell_body-requires-clause-within : goal.spell_body-requires-clause-within
+spell_body-requires-clause-within c = omega (arith, length-body c.requires.0, c.requires.1.batch.body, ap length c.requires.2.body_is)
 
 pub invariant_of-result : goal.invariant_of-result
 invariant_of-result c =
     let e : Entry = c.requires.0 in
-    let same : c.in_ok-cells.cells.items ≡ e.cells = c.in_ok-cells.ensures (starts c.args.entry.now e c.requires.1 c.requires.2) in
-    subst IsEntry (sym (same_fields c.args.entry.now e c.in-Ok.batch c.requires.2 (c.in-Ok.ensures.0 ∙ same))) c.requires.1
+    let same : with_cells c.args.entry.now c.in_ok-batch.batch ≡ e = same_fields c.args.entry.now e c.in_ok-batch.batch c.requires.2 (c.in_ok-batch.ensures e c.requires.1 c.requires.2) in (
+      subst IsEntry (sym same) c.requires.1,
+      c.in_ok-bytes.ensures ∙ ap (frame 1) c.requires.2.body_is ∙ sym (ap entry_frame same),
+    )
 
 pub returns : goal.returns
-returns c = λ e is ref. same_fields c.args.entry.now e c.in-Ok.batch ref (c.in-Ok.ensures.0 ∙ c.in_ok-cells.ensures (starts c.args.entry.now e is ref))
+returns c = λ e is ref. same_fields c.args.entry.now e c.in_ok-batch.batch ref (c.in_ok-batch.ensures e is ref)

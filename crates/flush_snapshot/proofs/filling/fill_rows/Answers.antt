@@ -11,7 +11,7 @@ pub returns-in_err-fill-clause-any_moment : goal.returns-in_err-fill-clause-any_
 returns-in_err-fill-clause-any_moment g c =
     let so_far = c.loop-row.invariant.0 in
     within_rows (IsTrue g.D.Disk.told) c.args.store.now c.loop-row.store c.fill.new.self (g.D.Disk.view c.args.disk.now) (g.D.Disk.view c.loop-row.disk) (g.D.Disk.view c.fill.new.disk) c.args.rows.now c.loop-row.row-index so_far
-    (λ told. c.fill.ensures.any_moment told (take c.loop-row.row-index c.args.rows.now) (so_far.filling told)) (omega (arith, c.loop-row-test.true))
+    (λ told. (c.fill.ensures.puts_in told (take c.loop-row.row-index c.args.rows.now) (so_far.filling told)).never_there) (omega (arith, c.loop-row-test.true))
 
 pub loop-row-preserved : goal.loop-row-preserved
 loop-row-preserved g c =
@@ -19,13 +19,11 @@ loop-row-preserved g c =
     let i = c.loop-row.row-index in
     let rows : List NumberedCell = c.args.rows.now in
     let x : NumberedCell = (c.number.result, c.cell.result.now) in
-    let here : get_or rows i c.row-item.result ≡ x = sym c.row-item.is ∙ (λ j. (sym c.number.ensures j, sym c.cell.ensures j)) in
-    let shape = c.fill.ensures.shape in (
+    let here : get_or rows i c.row-item.result ≡ x = sym c.row-item.is ∙ (λ j. (sym c.number.ensures j, sym c.cell.ensures j)) in (
       one_row_more (IsTrue g.D.Disk.told) c.args.store.now c.loop-row.store c.fill.new.self (g.D.Disk.view c.args.disk.now) (g.D.Disk.view c.loop-row.disk) (g.D.Disk.view c.fill.new.disk) rows i so_far
-          (λ told. c.fill.ensures.any_moment told (take i rows) (so_far.filling told)) x
+          (λ told. (c.fill.ensures.puts_in told (take i rows) (so_far.filling told)).never_there) x
           (take_more rows i c.row-item.result c.loop-row-test.true ∙ ap (λ (y : NumberedCell). take i rows ++ y ∷ []) here)
-          (record { name = shape.0; from = shape.1; to = shape.2; count = shape.3 })
-          (λ told. c.in_ok-fill.ensures.filled told (take i rows) (so_far.filling told)) c.fill.ensures.touches,
+          c.fill.ensures.shape (λ told. (c.in_ok-fill.ensures.puts_in told (take i rows) (so_far.filling told)).filling) c.fill.ensures.no_other_file,
       omega (arith, c.loop-row.invariant.1, c.fill.ensures.cause.later),
       omega (arith, c.loop-row.invariant.2, c.in_ok-fill.ensures.counted),
     )

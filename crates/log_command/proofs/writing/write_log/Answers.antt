@@ -14,7 +14,7 @@ returns-in_default-begin_with-clause-nothing g c told nothing J now =
     let v = g.D.Disk.view c.settle.new.self in
     let w = g.D.Disk.view c.begin_with.new.disk in
     let settled = c.in-Ok.ensures.settles told in
-    inr (begun_none_now v w (settled_alone u v (c.requires.empty told) settled.looks.files settled.pinned) (c.begin_with.ensures.any_moment told) J now)
+    inr (begun_none_now v w (settled_alone u v (c.requires.empty told) settled.looks.files settled.pinned) (c.begin_with.ensures.begins told).atomic J now)
 
 pub returns-in_default-begin_with-clause-any_moment : goal.returns-in_default-begin_with-clause-any_moment
 returns-in_default-begin_with-clause-any_moment g c told es is each =
@@ -22,7 +22,7 @@ returns-in_default-begin_with-clause-any_moment g c told es is each =
     let v = g.D.Disk.view c.settle.new.self in
     let w = g.D.Disk.view c.begin_with.new.disk in
     let settled = c.in-Ok.ensures.settles told in
-    begun_leaves es u v w settled.looks (settled_alone u v (c.requires.empty told) settled.looks.files settled.pinned) (c.begin_with.ensures.any_moment told)
+    begun_leaves es u v w settled.looks (settled_alone u v (c.requires.empty told) settled.looks.files settled.pinned) (c.begin_with.ensures.begins told).atomic
 
 pub returns-clause-whole : goal.returns-clause-whole
 returns-clause-whole g c told whole es is each =
@@ -35,7 +35,7 @@ returns-clause-alone g c told some es is each J now =
     let v = g.D.Disk.view c.settle.new.self in
     let w = g.D.Disk.view c.begin_with.new.disk in
     let settled = c.in-Ok.ensures.settles told in
-    let alone = begun_alone v w (settled_alone u v (c.requires.empty told) settled.looks.files settled.pinned) (c.begin_with.ensures.any_moment told) in
+    let alone = begun_alone v w (settled_alone u v (c.requires.empty told) settled.looks.files settled.pinned) (c.begin_with.ensures.begins told).atomic in
     (at_end (HasFirst es) (4 * length c.deref.result.now) w (g.D.Disk.view c.commit_each.new.disk) (c.commit_each.ensures.any_moment told es (c.deref.ensures.value ∙ is) each alone) J now).alone
 
 pub returns-clause-any_moment : goal.returns-clause-any_moment
@@ -45,5 +45,5 @@ returns-clause-any_moment g c told es is each =
     let w = g.D.Disk.view c.begin_with.new.disk in
     let settled = c.in-Ok.ensures.settles told in
     let pinned = settled_alone u v (c.requires.empty told) settled.looks.files settled.pinned in
-    commits_leave es (4 * length c.deref.result.now) u w (g.D.Disk.view c.commit_each.new.disk) (begun_leaves es u v w settled.looks pinned (c.begin_with.ensures.any_moment told))
-    (c.commit_each.ensures.any_moment told es (c.deref.ensures.value ∙ is) each (begun_alone v w pinned (c.begin_with.ensures.any_moment told)))
+    commits_leave es (4 * length c.deref.result.now) u w (g.D.Disk.view c.commit_each.new.disk) (begun_leaves es u v w settled.looks pinned (c.begin_with.ensures.begins told).atomic)
+    (c.commit_each.ensures.any_moment told es (c.deref.ensures.value ∙ is) each (begun_alone v w pinned (c.begin_with.ensures.begins told).atomic))

@@ -22,14 +22,14 @@ returns-in_err-finish-clause-any_moment g c told h ns keeps =
     let u = g.D.Disk.view c.args.disk.now in
     let v = g.D.Disk.view c.finish.new.disk in
     more_time (Between h.kept c.args.log.name h.current h.kept (log_name (c.args.log.name.number + 1)) []) 4 7 u v (omega arith)
-    (end_moments c.args.log u v v h ns keeps (g.met.D.Disk.is_true c.args.disk.now told) (g.met.D.Disk.is_true c.finish.new.disk told) (c.finish.ensures.any_moment told h.current keeps.open_log))
+    (end_moments c.args.log u v v h ns keeps (g.met.D.Disk.is_true c.args.disk.now told) (g.met.D.Disk.is_true c.finish.new.disk told) (c.finish.ensures.finishes told h.current keeps.open_log).atomic)
 
 pub returns-in_err-finish-clause-in_order : goal.returns-in_err-finish-clause-in_order
 returns-in_err-finish-clause-in_order g c told h ns keeps =
     let u = g.D.Disk.view c.args.disk.now in
     let v = g.D.Disk.view c.finish.new.disk in
     more_time (IsInOrder c.args.log.name (log_name (c.args.log.name.number + 1)) h.current) 4 7 u v (omega arith)
-    (end_in_order c.args.log u v v h ns keeps (g.met.D.Disk.is_true c.args.disk.now told) (g.met.D.Disk.is_true c.finish.new.disk told) (c.finish.ensures.any_moment told h.current keeps.open_log))
+    (end_in_order c.args.log u v v h ns keeps (g.met.D.Disk.is_true c.args.disk.now told) (g.met.D.Disk.is_true c.finish.new.disk told) (c.finish.ensures.finishes told h.current keeps.open_log).atomic)
 
 pub begin_with-requires-clause-absent : goal.begin_with-requires-clause-absent
 begin_with-requires-clause-absent g c told =
@@ -37,7 +37,7 @@ begin_with-requires-clause-absent g c told =
     let v = g.D.Disk.view c.finish.new.disk in
     let free : (r : (h : History) × (ns : List ℕ) × Keeps c.args.log u h ns) → IsAbsent v.files (log_name (c.args.log.name.number + 1)) × (v.gone (log_name (c.args.log.name.number + 1)) → ⊥) =
     λ r. still_free c.args.log u v v r.0 r.1 r.2 (g.met.D.Disk.is_true c.args.disk.now told) (g.met.D.Disk.is_true c.finish.new.disk told)
-    (c.finish.ensures.any_moment told r.0.current r.2.open_log) (c.finish.ensures.touches told) (c.in_ok-finish.ensures.finished told r.0.current r.2.open_log) in
+    (c.finish.ensures.finishes told r.0.current r.2.open_log).atomic (c.finish.ensures.no_other_file told) (c.in_ok-finish.ensures.finishes told r.0.current r.2.open_log).durable in
     subst (λ (n : Name). IsAbsent v.files n × (v.gone n → ⊥)) (sym c.requires.next)
     (absent_by (content v.files (log_name (c.args.log.name.number + 1))) (c.requires.kept told) (λ r. (free r).0), λ gone. ∥∥₁_elim (c.requires.kept told) (λ a b. absurd a) (λ r. (free r).1 gone))
 
@@ -47,8 +47,8 @@ returns-clause-any_moment g c told h ns keeps =
     let v = g.D.Disk.view c.finish.new.disk in
     let w = g.D.Disk.view c.begin_with.new.disk in
     roll_moments c.args.log u v w h ns keeps (g.met.D.Disk.is_true c.args.disk.now told) (g.met.D.Disk.is_true c.finish.new.disk told)
-    (c.finish.ensures.any_moment told h.current keeps.open_log) (c.finish.ensures.touches told) (c.in_ok-finish.ensures.finished told h.current keeps.open_log)
-    (subst (λ (n : Name). Throughout (OnlyAt n (HasEntries n []) v) 3 v w) c.requires.next (c.begin_with.ensures.any_moment told))
+    (c.finish.ensures.finishes told h.current keeps.open_log).atomic (c.finish.ensures.no_other_file told) (c.in_ok-finish.ensures.finishes told h.current keeps.open_log).durable
+    (subst (λ (n : Name). Throughout (OnlyAt n (HasEntries n []) v) 3 v w) c.requires.next (c.begin_with.ensures.begins told).atomic)
 
 pub returns-clause-in_order : goal.returns-clause-in_order
 returns-clause-in_order g c told h ns keeps =
@@ -56,8 +56,8 @@ returns-clause-in_order g c told h ns keeps =
     let v = g.D.Disk.view c.finish.new.disk in
     let w = g.D.Disk.view c.begin_with.new.disk in
     roll_in_order c.args.log u v w h ns keeps (g.met.D.Disk.is_true c.args.disk.now told) (g.met.D.Disk.is_true c.finish.new.disk told)
-    (c.finish.ensures.any_moment told h.current keeps.open_log) (c.finish.ensures.touches told) (c.in_ok-finish.ensures.finished told h.current keeps.open_log)
-    (subst (λ (n : Name). Throughout (OnlyAt n (HasEntries n []) v) 3 v w) c.requires.next (c.begin_with.ensures.any_moment told))
+    (c.finish.ensures.finishes told h.current keeps.open_log).atomic (c.finish.ensures.no_other_file told) (c.in_ok-finish.ensures.finishes told h.current keeps.open_log).durable
+    (subst (λ (n : Name). Throughout (OnlyAt n (HasEntries n []) v) 3 v w) c.requires.next (c.begin_with.ensures.begins told).atomic)
 
 three : {T E : Type 0} {P Q R S : T → Type 0} (result : Result T E) → ((t : T) → P t → Q t → R t → S t) → IfOk result P → IfOk result Q → IfOk result R → IfOk result S
 three (Ok t) then p q r = then t p q r
@@ -71,18 +71,18 @@ returns-clause-kept g c told h ns keeps none =
     three c.begin_with.result
     (λ (now : OpenLog) (is_open : IsOpen now w []) (name : now.name ≡ c.args.next) (empty : (now.entries ≡ 0) × IsStaged now []).
     roll_kept c.args.log u v w h ns keeps (g.met.D.Disk.is_true c.args.disk.now told) (g.met.D.Disk.is_true c.finish.new.disk told)
-    (c.finish.ensures.any_moment told h.current keeps.open_log) (c.finish.ensures.touches told) (c.in_ok-finish.ensures.finished told h.current keeps.open_log)
-    (subst (λ (n : Name). Throughout (OnlyAt n (HasEntries n []) v) 3 v w) c.requires.next (c.begin_with.ensures.any_moment told))
-    (subst (λ (n : Name). Touches n v w) c.requires.next (c.begin_with.ensures.touches told))
+    (c.finish.ensures.finishes told h.current keeps.open_log).atomic (c.finish.ensures.no_other_file told) (c.in_ok-finish.ensures.finishes told h.current keeps.open_log).durable
+    (subst (λ (n : Name). Throughout (OnlyAt n (HasEntries n []) v) 3 v w) c.requires.next (c.begin_with.ensures.begins told).atomic)
+    (subst (λ (n : Name). Touches n v w) c.requires.next (c.begin_with.ensures.begins told).no_other_file)
     now none c.requires.some (name ∙ c.requires.next) is_open empty.1)
-    (c.begin_with.ensures.begun told) c.begin_with.ensures.name c.begin_with.ensures.empty
+    (c.begin_with.ensures.begins told).durable c.begin_with.ensures.name c.begin_with.ensures.empty
 
 pub returns-in_err-finish-clause-names : goal.returns-in_err-finish-clause-names
 returns-in_err-finish-clause-names g c told h ns keeps =
     let u = g.D.Disk.view c.args.disk.now in
     let v = g.D.Disk.view c.finish.new.disk in
     more_time (Bears h.kept.base ns (c.args.log.name.number + 1)) 4 7 u v (omega arith)
-    (end_names c.args.log u v v h ns keeps (g.met.D.Disk.is_true c.args.disk.now told) (g.met.D.Disk.is_true c.finish.new.disk told) (c.finish.ensures.any_moment told h.current keeps.open_log))
+    (end_names c.args.log u v v h ns keeps (g.met.D.Disk.is_true c.args.disk.now told) (g.met.D.Disk.is_true c.finish.new.disk told) (c.finish.ensures.finishes told h.current keeps.open_log).atomic)
 
 pub returns-clause-names : goal.returns-clause-names
 returns-clause-names g c told h ns keeps =
@@ -90,5 +90,5 @@ returns-clause-names g c told h ns keeps =
     let v = g.D.Disk.view c.finish.new.disk in
     let w = g.D.Disk.view c.begin_with.new.disk in
     roll_names c.args.log u v w h ns keeps (g.met.D.Disk.is_true c.args.disk.now told) (g.met.D.Disk.is_true c.finish.new.disk told)
-    (c.finish.ensures.any_moment told h.current keeps.open_log) (c.finish.ensures.touches told) (c.in_ok-finish.ensures.finished told h.current keeps.open_log)
-    (subst (λ (n : Name). Throughout (OnlyAt n (HasEntries n []) v) 3 v w) c.requires.next (c.begin_with.ensures.any_moment told))
+    (c.finish.ensures.finishes told h.current keeps.open_log).atomic (c.finish.ensures.no_other_file told) (c.in_ok-finish.ensures.finishes told h.current keeps.open_log).durable
+    (subst (λ (n : Name). Throughout (OnlyAt n (HasEntries n []) v) 3 v w) c.requires.next (c.begin_with.ensures.begins told).atomic)

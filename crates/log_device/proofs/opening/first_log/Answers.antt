@@ -32,12 +32,12 @@ begin-requires-clause-absent g c told =
 pub returns-in_err-log-clause-any_moment : goal.returns-in_err-log-clause-any_moment
 returns-in_err-log-clause-any_moment g c told regions flushed opened =
     start_moments (g.D.Disk.view c.args.disk.now) regions flushed opened (g.met.D.Disk.is_true c.args.disk.now told) (g.D.Disk.view c.next_number.new.disk) (c.next_number.ensures.looks told)
-    (g.D.Disk.view c.begin.new.disk) c.in_ok-number.number (c.begin.ensures.any_moment told)
+    (g.D.Disk.view c.begin.new.disk) c.in_ok-number.number (c.begin.ensures.begins told).atomic
 
 pub returns-clause-any_moment : goal.returns-clause-any_moment
 returns-clause-any_moment g c told regions flushed opened =
     start_moments (g.D.Disk.view c.args.disk.now) regions flushed opened (g.met.D.Disk.is_true c.args.disk.now told) (g.D.Disk.view c.next_number.new.disk) (c.next_number.ensures.looks told)
-    (g.D.Disk.view c.begin.new.disk) c.in_ok-number.number (c.begin.ensures.any_moment told)
+    (g.D.Disk.view c.begin.new.disk) c.in_ok-number.number (c.begin.ensures.begins told).atomic
 
 pub returns-clause-number : goal.returns-clause-number
 returns-clause-number g c told regions flushed last opened greatest = ap (λ (m : Name). m.number) c.in_ok-log.ensures.name ∙ c.in_ok-number.ensures.next told opened.small last greatest
@@ -45,8 +45,8 @@ returns-clause-number g c told regions flushed last opened greatest = ap (λ (m 
 pub returns-clause-kept : goal.returns-clause-kept
 returns-clause-kept g c told regions flushed next_store regions_are opened are =
     start_kept (g.D.Disk.view c.args.disk.now) regions flushed opened (g.met.D.Disk.is_true c.args.disk.now told) (g.D.Disk.view c.next_number.new.disk) (c.next_number.ensures.looks told)
-    (g.D.Disk.view c.begin.new.disk) c.in_ok-number.number (c.begin.ensures.any_moment told) (c.begin.ensures.touches told)
-    next_store are (λ m there. c.in_ok-number.ensures.above told opened.small m there) regions_are (λ limit found. c.in_ok-number.ensures.reached told limit found) c.in_ok-log.log c.in_ok-log.ensures.name (c.in_ok-log.ensures.begun told) c.in_ok-log.ensures.empty.1
+    (g.D.Disk.view c.begin.new.disk) c.in_ok-number.number (c.begin.ensures.begins told).atomic (c.begin.ensures.begins told).no_other_file
+    next_store are (λ m there. c.in_ok-number.ensures.above told opened.small m there) regions_are (λ limit found. c.in_ok-number.ensures.reached told limit found) c.in_ok-log.log c.in_ok-log.ensures.name (c.in_ok-log.ensures.begins told).durable c.in_ok-log.ensures.empty.1
 
 pub returns-in_err-number-clause-names : goal.returns-in_err-number-clause-names
 returns-in_err-number-clause-names g c told regions flushed last opened greatest =
@@ -61,7 +61,7 @@ returns-in_err-log-clause-names g c told regions flushed last opened greatest =
     let u = g.D.Disk.view c.args.disk.now in
     let w = g.D.Disk.view c.begin.new.disk in
     subst (λ (n : ℕ). Throughout (Bears u.files [] n) 4 u w) (c.in_ok-number.ensures.next told opened.small last greatest)
-    (start_names u regions flushed opened (g.met.D.Disk.is_true c.args.disk.now told) (g.D.Disk.view c.next_number.new.disk) (c.next_number.ensures.looks told) w c.in_ok-number.number (c.begin.ensures.any_moment told)
+    (start_names u regions flushed opened (g.met.D.Disk.is_true c.args.disk.now told) (g.D.Disk.view c.next_number.new.disk) (c.next_number.ensures.looks told) w c.in_ok-number.number (c.begin.ensures.begins told).atomic
     [] (λ m there. c.in_ok-number.ensures.above told opened.small m there))
 
 pub returns-clause-names : goal.returns-clause-names
@@ -69,5 +69,5 @@ returns-clause-names g c told regions flushed last opened greatest =
     let u = g.D.Disk.view c.args.disk.now in
     let w = g.D.Disk.view c.begin.new.disk in
     subst (λ (n : ℕ). Throughout (Bears u.files [] n) 4 u w) (c.in_ok-number.ensures.next told opened.small last greatest)
-    (start_names u regions flushed opened (g.met.D.Disk.is_true c.args.disk.now told) (g.D.Disk.view c.next_number.new.disk) (c.next_number.ensures.looks told) w c.in_ok-number.number (c.begin.ensures.any_moment told)
+    (start_names u regions flushed opened (g.met.D.Disk.is_true c.args.disk.now told) (g.D.Disk.view c.next_number.new.disk) (c.next_number.ensures.looks told) w c.in_ok-number.number (c.begin.ensures.begins told).atomic
     [] (λ m there. c.in_ok-number.ensures.above told opened.small m there))

@@ -11,13 +11,13 @@ returns-in-Err-clause-ties g c told =
     let mid = c.flush.new.self in
     let v = g.D.Disk.view (disk_of old) in
     let u = g.D.Disk.view (disk_of mid) in
-    ties_committed old mid v u (g.met.D.Disk.is_true (disk_of old) told) (λ h whole. c.flush.ensures.any_moment told h whole)
-    (λ h file whole is. let n = c.flush.ensures.names told h file whole is in (n.0, one_higher h.kept.base (books_of old).next_store file.name.number n.0 v u n.1))
-    c.flush.ensures.few (λ h whole unbroken. c.in-Err.ensures.refused told h whole unbroken)
-    record { synced = c.flush.ensures.synced_either; stored = λ broken. c.flush.ensures.stored_still (inr (c.flush.ensures.broken.1 broken)); closed = λ _. c.flush.ensures.closed }
+    ties_committed old mid v u (g.met.D.Disk.is_true (disk_of old) told) (λ h whole. (c.flush.ensures.flushes told h whole).any_moment)
+    (λ h file whole is. let n = (c.flush.ensures.flushes told h whole).names file is in (n.0, one_higher h.kept.base (books_of old).next_store file.name.number n.0 v u n.1))
+    c.flush.ensures.books.few (λ h whole unbroken. (c.in-Err.ensures.flushes told h whole).refused unbroken)
+    record { synced = c.flush.ensures.books.synced_either; stored = λ broken. c.flush.ensures.books.stored_still (inr (c.flush.ensures.broken.1 broken)); closed = λ _. c.flush.ensures.books.closed }
 
 pub archive-requires : goal.archive-requires
-archive-requires g c told unbroken = ∥∥₁_map (c.requires.whole told) (λ x. (flushed_in (committed_in x.0) c.args.region c.in-Ok.number, (c.in-Ok.ensures.flushed told x.0 x.1).1))
+archive-requires g c told unbroken = ∥∥₁_map (c.requires.whole told) (λ x. (flushed_in (committed_in x.0) c.args.region c.in-Ok.number, (c.in-Ok.ensures.flushes told x.0 x.1).flushed.1))
 
 pub returns-in-Ok-archive-clause-ties : goal.returns-in-Ok-archive-clause-ties
 returns-in-Ok-archive-clause-ties g c told =
@@ -27,14 +27,14 @@ returns-in-Ok-archive-clause-ties g c told =
     let u = g.D.Disk.view (disk_of mid) in
     let new = c.archive.new.self in
     let w = g.D.Disk.view (disk_of new) in
-    ties_archived old mid new v u w (g.met.D.Disk.is_true (disk_of old) told) (g.met.D.Disk.is_true (disk_of mid) told) (λ h whole. c.flush.ensures.any_moment told h whole)
-    (λ h whole. (flushed_in (committed_in h) c.args.region c.in-Ok.number, (c.in-Ok.ensures.flushed told h whole).1, record { base = refl; first = λ r. refl; durable = refl; staged = refl }))
-    c.flush.ensures.served
-    c.flush.ensures.few
-    (λ h whole. c.archive.ensures.any_moment told h whole)
-    (λ h file whole is. (length h.logs, one_higher h.kept.base (books_of mid).next_store file.name.number (length h.logs) u w (c.archive.ensures.names told h file whole is)))
-    (λ h whole unbroken. let a = c.in-Ok-archive.ensures.archived told h whole in (a.0, a.1, a.3))
-    record { synced = c.archive.ensures.numbers.0; stored = c.archive.ensures.numbers.1; closed = c.archive.ensures.numbers.2; next_store = c.archive.ensures.served }
+    ties_archived old mid new v u w (g.met.D.Disk.is_true (disk_of old) told) (g.met.D.Disk.is_true (disk_of mid) told) (λ h whole. (c.flush.ensures.flushes told h whole).any_moment)
+    (λ h whole. (flushed_in (committed_in h) c.args.region c.in-Ok.number, (c.in-Ok.ensures.flushes told h whole).flushed.1, record { base = refl; first = λ r. refl; durable = refl; staged = refl }))
+    c.flush.ensures.books.served
+    c.flush.ensures.books.few
+    (λ h whole. (c.archive.ensures.archives told h whole).any_moment)
+    (λ h file whole is. (length h.logs, one_higher h.kept.base (books_of mid).next_store file.name.number (length h.logs) u w ((c.archive.ensures.archives told h whole).names file is)))
+    (λ h whole unbroken. let a = (c.in-Ok-archive.ensures.archives told h whole).archived in (a.0, a.1, a.3))
+    record { synced = c.archive.ensures.books.synced; stored = c.archive.ensures.books.stored; closed = c.archive.ensures.books.closed; next_store = c.archive.ensures.books.next_store }
 
 pub returns-in-Err-archive-clause-ties : goal.returns-in-Err-archive-clause-ties
 returns-in-Err-archive-clause-ties g c told =
@@ -44,11 +44,11 @@ returns-in-Err-archive-clause-ties g c told =
     let u = g.D.Disk.view (disk_of mid) in
     let new = c.archive.new.self in
     let w = g.D.Disk.view (disk_of new) in
-    ties_archived old mid new v u w (g.met.D.Disk.is_true (disk_of old) told) (g.met.D.Disk.is_true (disk_of mid) told) (λ h whole. c.flush.ensures.any_moment told h whole)
-    (λ h whole. (flushed_in (committed_in h) c.args.region c.in-Ok.number, (c.in-Ok.ensures.flushed told h whole).1, record { base = refl; first = λ r. refl; durable = refl; staged = refl }))
-    c.flush.ensures.served
-    c.flush.ensures.few
-    (λ h whole. c.archive.ensures.any_moment told h whole)
-    (λ h file whole is. (length h.logs, one_higher h.kept.base (books_of mid).next_store file.name.number (length h.logs) u w (c.archive.ensures.names told h file whole is)))
+    ties_archived old mid new v u w (g.met.D.Disk.is_true (disk_of old) told) (g.met.D.Disk.is_true (disk_of mid) told) (λ h whole. (c.flush.ensures.flushes told h whole).any_moment)
+    (λ h whole. (flushed_in (committed_in h) c.args.region c.in-Ok.number, (c.in-Ok.ensures.flushes told h whole).flushed.1, record { base = refl; first = λ r. refl; durable = refl; staged = refl }))
+    c.flush.ensures.books.served
+    c.flush.ensures.books.few
+    (λ h whole. (c.archive.ensures.archives told h whole).any_moment)
+    (λ h file whole is. (length h.logs, one_higher h.kept.base (books_of mid).next_store file.name.number (length h.logs) u w ((c.archive.ensures.archives told h whole).names file is)))
     (λ h whole unbroken. absurd (unbroken (c.in-Err-archive.ensures.broken.0 refl)))
-    record { synced = c.archive.ensures.numbers.0; stored = c.archive.ensures.numbers.1; closed = c.archive.ensures.numbers.2; next_store = c.archive.ensures.served }
+    record { synced = c.archive.ensures.books.synced; stored = c.archive.ensures.books.stored; closed = c.archive.ensures.books.closed; next_store = c.archive.ensures.books.next_store }

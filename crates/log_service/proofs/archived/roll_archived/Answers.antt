@@ -11,13 +11,13 @@ returns-in-Err-clause-ties g c told =
     let mid = c.roll.new.self in
     let v = g.D.Disk.view (disk_of old) in
     let u = g.D.Disk.view (disk_of mid) in
-    ties_committed old mid v u (g.met.D.Disk.is_true (disk_of old) told) (λ h whole. (11, c.roll.ensures.any_moment told h whole))
-    (λ h file whole is. (11, c.roll.ensures.names told h file whole is))
-    (few_same (books_of old) (books_of mid) c.roll.ensures.served c.roll.ensures.stored) (λ h whole unbroken. c.in-Err.ensures.refused told h whole unbroken)
-    record { synced = c.roll.ensures.synced_either; stored = λ _. c.roll.ensures.stored; closed = c.roll.ensures.closed_broken }
+    ties_committed old mid v u (g.met.D.Disk.is_true (disk_of old) told) (λ h whole. (11, (c.roll.ensures.rolls told h whole).any_moment))
+    (λ h file whole is. (11, (c.roll.ensures.rolls told h whole).names file is))
+    (few_same (books_of old) (books_of mid) c.roll.ensures.books.next_store c.roll.ensures.books.stored) (λ h whole unbroken. (c.in-Err.ensures.rolls told h whole).refused unbroken)
+    record { synced = c.roll.ensures.books.synced_either; stored = λ _. c.roll.ensures.books.stored; closed = c.roll.ensures.books.closed_broken }
 
 pub archive-requires : goal.archive-requires
-archive-requires g c told unbroken = ∥∥₁_map (c.requires.whole told) (λ x. (closed_in (committed_in x.0) c.in-Ok.rolled.closed, (c.in-Ok.ensures.rolled told x.0 x.1).0))
+archive-requires g c told unbroken = ∥∥₁_map (c.requires.whole told) (λ x. (closed_in (committed_in x.0) c.in-Ok.rolled.closed, (c.in-Ok.ensures.rolls told x.0 x.1).rolled.0))
 
 pub returns-in-Ok-archive-clause-ties : goal.returns-in-Ok-archive-clause-ties
 returns-in-Ok-archive-clause-ties g c told =
@@ -27,14 +27,14 @@ returns-in-Ok-archive-clause-ties g c told =
     let u = g.D.Disk.view (disk_of mid) in
     let new = c.archive.new.self in
     let w = g.D.Disk.view (disk_of new) in
-    ties_archived old mid new v u w (g.met.D.Disk.is_true (disk_of old) told) (g.met.D.Disk.is_true (disk_of mid) told) (λ h whole. (11, c.roll.ensures.any_moment told h whole))
-    (λ h whole. (closed_in (committed_in h) c.in-Ok.rolled.closed, (c.in-Ok.ensures.rolled told h whole).0, record { base = refl; first = λ r. refl; durable = refl; staged = refl }))
-    (λ r is. subst (λ (l : List ℕ). 0 < get_or l r 0) (sym c.roll.ensures.served) is)
-    (few_same (books_of old) (books_of mid) c.roll.ensures.served c.roll.ensures.stored)
-    (λ h whole. c.archive.ensures.any_moment told h whole)
-    (λ h file whole is. (length h.logs, one_higher h.kept.base (books_of mid).next_store file.name.number (length h.logs) u w (c.archive.ensures.names told h file whole is)))
-    (λ h whole unbroken. let a = c.in-Ok-archive.ensures.archived told h whole in (a.0, a.1, a.3))
-    record { synced = c.archive.ensures.numbers.0; stored = c.archive.ensures.numbers.1; closed = c.archive.ensures.numbers.2; next_store = c.archive.ensures.served }
+    ties_archived old mid new v u w (g.met.D.Disk.is_true (disk_of old) told) (g.met.D.Disk.is_true (disk_of mid) told) (λ h whole. (11, (c.roll.ensures.rolls told h whole).any_moment))
+    (λ h whole. (closed_in (committed_in h) c.in-Ok.rolled.closed, (c.in-Ok.ensures.rolls told h whole).rolled.0, record { base = refl; first = λ r. refl; durable = refl; staged = refl }))
+    (λ r is. subst (λ (l : List ℕ). 0 < get_or l r 0) (sym c.roll.ensures.books.next_store) is)
+    (few_same (books_of old) (books_of mid) c.roll.ensures.books.next_store c.roll.ensures.books.stored)
+    (λ h whole. (c.archive.ensures.archives told h whole).any_moment)
+    (λ h file whole is. (length h.logs, one_higher h.kept.base (books_of mid).next_store file.name.number (length h.logs) u w ((c.archive.ensures.archives told h whole).names file is)))
+    (λ h whole unbroken. let a = (c.in-Ok-archive.ensures.archives told h whole).archived in (a.0, a.1, a.3))
+    record { synced = c.archive.ensures.books.synced; stored = c.archive.ensures.books.stored; closed = c.archive.ensures.books.closed; next_store = c.archive.ensures.books.next_store }
 
 pub returns-in-Err-archive-clause-ties : goal.returns-in-Err-archive-clause-ties
 returns-in-Err-archive-clause-ties g c told =
@@ -44,11 +44,11 @@ returns-in-Err-archive-clause-ties g c told =
     let u = g.D.Disk.view (disk_of mid) in
     let new = c.archive.new.self in
     let w = g.D.Disk.view (disk_of new) in
-    ties_archived old mid new v u w (g.met.D.Disk.is_true (disk_of old) told) (g.met.D.Disk.is_true (disk_of mid) told) (λ h whole. (11, c.roll.ensures.any_moment told h whole))
-    (λ h whole. (closed_in (committed_in h) c.in-Ok.rolled.closed, (c.in-Ok.ensures.rolled told h whole).0, record { base = refl; first = λ r. refl; durable = refl; staged = refl }))
-    (λ r is. subst (λ (l : List ℕ). 0 < get_or l r 0) (sym c.roll.ensures.served) is)
-    (few_same (books_of old) (books_of mid) c.roll.ensures.served c.roll.ensures.stored)
-    (λ h whole. c.archive.ensures.any_moment told h whole)
-    (λ h file whole is. (length h.logs, one_higher h.kept.base (books_of mid).next_store file.name.number (length h.logs) u w (c.archive.ensures.names told h file whole is)))
+    ties_archived old mid new v u w (g.met.D.Disk.is_true (disk_of old) told) (g.met.D.Disk.is_true (disk_of mid) told) (λ h whole. (11, (c.roll.ensures.rolls told h whole).any_moment))
+    (λ h whole. (closed_in (committed_in h) c.in-Ok.rolled.closed, (c.in-Ok.ensures.rolls told h whole).rolled.0, record { base = refl; first = λ r. refl; durable = refl; staged = refl }))
+    (λ r is. subst (λ (l : List ℕ). 0 < get_or l r 0) (sym c.roll.ensures.books.next_store) is)
+    (few_same (books_of old) (books_of mid) c.roll.ensures.books.next_store c.roll.ensures.books.stored)
+    (λ h whole. (c.archive.ensures.archives told h whole).any_moment)
+    (λ h file whole is. (length h.logs, one_higher h.kept.base (books_of mid).next_store file.name.number (length h.logs) u w ((c.archive.ensures.archives told h whole).names file is)))
     (λ h whole unbroken. absurd (unbroken (c.in-Err-archive.ensures.broken.0 refl)))
-    record { synced = c.archive.ensures.numbers.0; stored = c.archive.ensures.numbers.1; closed = c.archive.ensures.numbers.2; next_store = c.archive.ensures.served }
+    record { synced = c.archive.ensures.books.synced; stored = c.archive.ensures.books.stored; closed = c.archive.ensures.books.closed; next_store = c.archive.ensures.books.next_store }

@@ -43,14 +43,14 @@ returns-in-Ok-clause-any_moment g c told h es whole none held =
     let mid = c.stage_all.new.device in
     let staged = c.stage_all.ensures.whole told h es whole (subst (λ (l : List Held). AreHeld l es) (sym c.into_chain.ensures) held) in
     moments g.D.Disk.view (books_of c.args.device.now).stored (books_of mid).stored (books_of c.args.device.now).closed (books_of mid).closed (disk_of c.args.device.now) (disk_of mid) (g.D.Disk.view (disk_of c.sync.new.self)) h.kept.staged es
-    c.stage_all.ensures.same.stored c.stage_all.ensures.same.closed c.stage_all.ensures.disk none (c.sync.ensures.any_moment told (all_staged_in h es) staged)
+    c.stage_all.ensures.same.stored c.stage_all.ensures.same.closed c.stage_all.ensures.disk none (c.sync.ensures.syncs told (all_staged_in h es) staged).any_moment
 
 pub returns-in-Err-clause-any_moment : goal.returns-in-Err-clause-any_moment
 returns-in-Err-clause-any_moment g c told h es whole none held =
     let mid = c.stage_all.new.device in
     let staged = c.stage_all.ensures.whole told h es whole (subst (λ (l : List Held). AreHeld l es) (sym c.into_chain.ensures) held) in
     moments g.D.Disk.view (books_of c.args.device.now).stored (books_of mid).stored (books_of c.args.device.now).closed (books_of mid).closed (disk_of c.args.device.now) (disk_of mid) (g.D.Disk.view (disk_of c.sync.new.self)) h.kept.staged es
-    c.stage_all.ensures.same.stored c.stage_all.ensures.same.closed c.stage_all.ensures.disk none (c.sync.ensures.any_moment told (all_staged_in h es) staged)
+    c.stage_all.ensures.same.stored c.stage_all.ensures.same.closed c.stage_all.ensures.disk none (c.sync.ensures.syncs told (all_staged_in h es) staged).any_moment
 
 names_from : {D : Type 0} (view : D → DiskView) (base : Files) (next next' : List ℕ) (a b : D) (w : DiskView) (m n : Name) → next' ≡ next → b ≡ a → m ≡ n
     → Throughout (Bears base next' m.number) 4 (view b) w → Throughout (Bears base next n.number) 4 (view a) w
@@ -63,7 +63,7 @@ returns-in-Ok-clause-names g c told h es file whole held is =
     let staged = c.stage_all.ensures.whole told h es whole (subst (λ (l : List Held). AreHeld l es) (sym c.into_chain.ensures) held) in
     let now = c.stage_all.ensures.file file is in
     names_from g.D.Disk.view h.kept.base (books_of c.args.device.now).next_store (books_of mid).next_store (disk_of c.args.device.now) (disk_of mid) (g.D.Disk.view (disk_of c.sync.new.self)) now.0.name file.name
-    c.stage_all.ensures.same.next_store c.stage_all.ensures.disk now.3 (c.sync.ensures.names told (all_staged_in h es) now.0 staged now.1)
+    c.stage_all.ensures.same.next_store c.stage_all.ensures.disk now.3 ((c.sync.ensures.syncs told (all_staged_in h es) staged).names now.0 now.1)
 
 pub returns-in-Err-clause-names : goal.returns-in-Err-clause-names
 returns-in-Err-clause-names g c told h es file whole held is =
@@ -71,4 +71,4 @@ returns-in-Err-clause-names g c told h es file whole held is =
     let staged = c.stage_all.ensures.whole told h es whole (subst (λ (l : List Held). AreHeld l es) (sym c.into_chain.ensures) held) in
     let now = c.stage_all.ensures.file file is in
     names_from g.D.Disk.view h.kept.base (books_of c.args.device.now).next_store (books_of mid).next_store (disk_of c.args.device.now) (disk_of mid) (g.D.Disk.view (disk_of c.sync.new.self)) now.0.name file.name
-    c.stage_all.ensures.same.next_store c.stage_all.ensures.disk now.3 (c.sync.ensures.names told (all_staged_in h es) now.0 staged now.1)
+    c.stage_all.ensures.same.next_store c.stage_all.ensures.disk now.3 ((c.sync.ensures.syncs told (all_staged_in h es) staged).names now.0 now.1)

@@ -1,5 +1,4 @@
 use Rattle.std.proofs.Common.{◌≡◌, ℕ, Bool, ap, sym, subst}
-use Rattle.hand_register.specs.Desks.{record_of}
 use Rattle.region_model.specs.Calls.{Answer}
 use Rattle.region_model.specs.Journal.{Base, Caller}
 use Rattle.region_model.specs.Lines.{Line, pending}
@@ -18,7 +17,7 @@ pub put_in-requires-clause-caller : goal.put_in-requires-clause-caller
 put_in-requires-clause-caller g c =
     let at = c.args.at.now in
     let same : c.in-Ok.job.caller ≡ c.args.caller = caller_of (line_of 0 c.in-Ok.job) (pending 0 c.args.caller c.args.time c.args.batch) (c.in-Ok.ensures.of 0) in
-    subst (λ (k : Caller). (k.handler ≡ at.hand.number) × AreCalledBelow k.call (record_of at.hand).list) (sym same) c.requires.caller
+    subst (λ (k : Caller). (k.handler ≡ at.hand.number) × AreCalledBelow k.call at.hand.record.list) (sym same) c.requires.caller
 
 puts_of : (base : Base) (r : ℕ) (sync : Bool) (answer : Answer) (old new : Known) (was is : Bool) (a b : Line) → a ≡ b
     → PutsAt base a.time r sync a.cells a.caller answer old new was is → PutsAt base b.time r sync b.cells b.caller answer old new was is

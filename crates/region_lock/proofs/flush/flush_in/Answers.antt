@@ -1,7 +1,6 @@
 use Rattle.std.proofs.Common.{◌≡◌, ℕ, ◌≤◌, Err, ap, sym, ◌∙◌, subst}
 use mathlib.Core.List.{IsPrefix}
-use Rattle.hand_register.specs.declared.hand.Hand.{Hand}
-use Rattle.hand_register.specs.Desks.{record_of}
+use Rattle.hand_register.specs.Views.{HandView}
 use Rattle.log_device.specs.declared.error.DeviceFlush.{DeviceFlush}
 use Rattle.log_service.specs.Numbers.{seen_stored}
 use Rattle.region_model.specs.Calls.{FlushOk}
@@ -16,7 +15,7 @@ returns-in-Ok-flushed-clause-flushes g c =
     let r = c.args.at.now.viewer.region in
     let looked = c.in-Ok.ensures.looked in
     let viewer : c.unmark.new.at.viewer ≡ c.args.at.now.viewer = c.unmark.ensures.same.0 ∙ c.look.ensures.same.0 in
-    let told = ap (λ (h : Hand ℕ). (record_of h).list) (c.unmark.ensures.same.3 ∙ c.look.ensures.same.3) in
+    let told = ap (λ (h : HandView ℕ). h.record.list) (c.unmark.ensures.same.3 ∙ c.look.ensures.same.3) in
     let later = subst (λ (b : Beginning). IsPrefix c.args.at.now.viewer.lines b.lines) (sym viewer) (prefix_self c.args.at.now.viewer.lines) in
     let k = c.in-Ok-flushed.number in
     let found = c.in-Ok-flushed.ensures.flushed in
@@ -31,7 +30,7 @@ returns-in-Err-flushed-clause-flushes g c =
     let r = c.args.at.now.viewer.region in
     let looked = c.in-Ok.ensures.looked in
     let viewer : c.unmark.new.at.viewer ≡ c.args.at.now.viewer = c.unmark.ensures.same.0 ∙ c.look.ensures.same.0 in
-    let told = ap (λ (h : Hand ℕ). (record_of h).list) (c.unmark.ensures.same.3 ∙ c.look.ensures.same.3) in
+    let told = ap (λ (h : HandView ℕ). h.record.list) (c.unmark.ensures.same.3 ∙ c.look.ensures.same.3) in
     let later = subst (λ (b : Beginning). IsPrefix c.args.at.now.viewer.lines b.lines) (sym viewer) (prefix_self c.args.at.now.viewer.lines) in
     let why = c.in-Err-flushed.refusal in
     let number : (m : ℕ) → why ≡ DeviceFlush.Nothing m → (c.in-Ok.upto ≤ m) × (m ≤ seen_stored n c.flush-flushed.new.seat.device.knows r) = λ m e.

@@ -1,6 +1,5 @@
 use Rattle.std.proofs.Common.{◌≡◌, ℕ, ◌≤◌, ap, sym, ◌∙◌, subst, arith}
 use Rattle.hand_register.specs.declared.known.Record.{Record}
-use Rattle.hand_register.specs.Desks.{record_of}
 use Rattle.region_model.specs.Lines.{Line, last_in}
 use Rattle.region_state.specs.States.{write_point}
 use Rattle.region_lock.specs.Marks.{IsLookedAt}
@@ -16,6 +15,6 @@ returns-then-seen-write_point-clause-looked g c =
     let there : c.deref_mut.result.now.state.region ≡ c.args.at.now.viewer.region = ap (λ (p : Part). p.state.region) (c.deref_mut.ensures.value ∙ sym c.deref.ensures) ∙ sym c.region.ensures ∙ c.if-region.true ∙ c.region-region.ensures in
     let point : write_point c.deref_mut.result.now.state ≡ c.write_point.result = ap (λ (p : Part). write_point p.state) (c.deref_mut.ensures.value ∙ sym c.deref-then-region.ensures) ∙ sym c.write_point.ensures.point in
     let within : seen ≤ write_point c.deref_mut.result.now.state = omega (arith, c.seen-seen.ensures, c.if-seen-write_point.true, point) in
-    let looked = look_at seen (flushes c.deref_mut.result.now.state.region) c.args.by c.deref_mut.result.now _ (record_of c.looking.at.hand) (record_of c.look.new.hand) c.look.result c.look.ensures.looked within in
-    let here = subst (λ (r : ℕ). IsLookedAt seen (flushes r) c.args.by (record_of c.looking.at.hand) c.look.result (record_of c.look.new.hand)) there looked in
-    subst (λ (q : Record Line). IsLookedAt seen (flushes c.args.at.now.viewer.region) c.args.by q c.look.result (record_of c.look.new.hand)) (λ j. record_of (i.0 j).hand) here
+    let looked = look_at seen (flushes c.deref_mut.result.now.state.region) c.args.by c.deref_mut.result.now _ c.looking.at.hand.record c.look.new.hand.record c.look.result c.look.ensures.looked within in
+    let here = subst (λ (r : ℕ). IsLookedAt seen (flushes r) c.args.by c.looking.at.hand.record c.look.result c.look.new.hand.record) there looked in
+    subst (λ (q : Record Line). IsLookedAt seen (flushes c.args.at.now.viewer.region) c.args.by q c.look.result c.look.new.hand.record) (λ j. (i.0 j).hand.record) here

@@ -1,5 +1,4 @@
 use Rattle.std.proofs.Common.{◌≡◌}
-use Rattle.hand_register.specs.Desks.{record_of}
 use Rattle.log_service.specs.Places.{IsSeatOf, IsLaterSeat}
 use Rattle.region_lock.specs.Jobs.{IsJob, line_of}
 use Rattle.region_lock.specs.Passes.{SameView}
@@ -8,7 +7,7 @@ use Rattle.region_lock.proofs.put.draw.Given as goal
 abbrev pub invariant-trying : goal.invariant-trying
 invariant-trying g l =
     SameView l.initial.at l.at
-    × ((record_of l.at.hand).list ≡ (record_of l.initial.at.hand).list) × ((record_of l.at.told).list ≡ (record_of l.initial.at.told).list)
+    × (l.at.hand.record.list ≡ l.initial.at.hand.record.list) × (l.at.told.record.list ≡ l.initial.at.told.record.list)
     × IsSeatOf l.service l.seat × IsLaterSeat l.initial.seat l.seat
     × IsJob l.initial.at.viewer.region l.job × (line_of 0 l.job ≡ line_of 0 l.initial.job)
     × (l.region ≡ l.initial.region) × (l.seen ≡ l.initial.seen)

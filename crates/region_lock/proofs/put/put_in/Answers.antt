@@ -1,8 +1,7 @@
 use Rattle.std.proofs.Common.{◌≡◌, ℕ, ◌-◌, ◌≤◌, true, List, [], ◌∷◌, ◌++◌, Some, refl, subst, sym, ap, ◌∙◌, arith}
 use Rattle.std.specs.Arc.{arc_value}
 use mathlib.Core.List.{IsPrefix}
-use Rattle.hand_register.specs.declared.hand.Hand.{Hand}
-use Rattle.hand_register.specs.Desks.{record_of}
+use Rattle.hand_register.specs.Views.{HandView}
 use Rattle.region_model.specs.Journal.{Done}
 use Rattle.region_model.specs.Calls.{PutOk, PutFault, PutMemory}
 use Rattle.region_model.specs.Lines.{Line, last_in}
@@ -23,16 +22,16 @@ returns-then-not-await_log-clause-puts g c =
     let job = c.args.job in
     let n = c.number-number.result in
     let nn : n ≡ c.in_ok-entry.entry = c.number-number.ensures in
-    let own : List Line = (record_of c.args.at.now.hand).list in
-    let drew : (record_of c.draw.new.at.hand).list ≡ own ++ line_of n job ∷ [] = d.0 ∙ ap (λ (m : ℕ). own ++ line_of m job ∷ []) (sym nn) in
+    let own : List Line = c.args.at.now.hand.record.list in
+    let drew : c.draw.new.at.hand.record.list ≡ own ++ line_of n job ∷ [] = d.0 ∙ ap (λ (m : ℕ). own ++ line_of m job ∷ []) (sym nn) in
     let below : AreBelow n own = subst (λ (m : ℕ). AreBelow m own) (sym nn) d.4 in
     let whole = not_before c.args.seat.now.device.knows.broken c.broken.new.seat.device.knows.broken (λ b. (c.broken.ensures.later.fault b).0) (sym c.broken.ensures.broken ∙ c.if-broken.false) in
     let words = later_trans _ _ c.await_log.new.seat (later_trans c.args.seat.now c.broken.new.seat c.draw.new.seat c.broken.ensures.later c.draw.ensures.later) c.await_log.ensures.later in
     let base = g.N.Naming-3.base c.args.at.now.viewer.region in
     let v : c.end.new.at.viewer ≡ c.args.at.now.viewer = c.end.ensures.same.0 ∙ c.draw.ensures.same.0 in
     let logged = c.if-not-await_log.ensures.logged in
-    put_at c.args.service.now.regions base job.time c.args.at.now.viewer.region c.end.new.at.viewer.region n (is_sync c.args.durability) (arc_value job.batch) job.caller (PutFault (Some n)) own (record_of c.draw.new.at.hand).list (record_of c.end.new.at.hand).list
-    c.args.at.now.viewer.lines c.end.new.at.viewer.lines (record_of c.args.at.now.told).list (record_of c.end.new.at.told).list c.args.seat.now c.await_log.new.seat
+    put_at c.args.service.now.regions base job.time c.args.at.now.viewer.region c.end.new.at.viewer.region n (is_sync c.args.durability) (arc_value job.batch) job.caller (PutFault (Some n)) own c.draw.new.at.hand.record.list c.end.new.at.hand.record.list
+    c.args.at.now.viewer.lines c.end.new.at.viewer.lines c.args.at.now.told.record.list c.end.new.at.told.record.list c.args.seat.now c.await_log.new.seat
     (ap (λ (b : Beginning). b.region) v) drew c.end.ensures.own (c.end.ensures.told ∙ d.1) (subst (λ (b : Beginning). IsPrefix c.args.at.now.viewer.lines b.lines) (sym v) (prefix_self c.args.at.now.viewer.lines)) words (omega (arith, d.2, nn)) below
     refl refl (λ m e. logged.0) (λ m e. absurd (cc e)) (λ s e. absurd (cc e)) (λ f. logged.1) whole
 
@@ -42,8 +41,8 @@ returns-in-Ok-clause-puts g c =
     let job = c.args.job in
     let n = c.number-number.result in
     let nn : n ≡ c.in_ok-entry.entry = c.number-number.ensures in
-    let own : List Line = (record_of c.args.at.now.hand).list in
-    let drew : (record_of c.draw.new.at.hand).list ≡ own ++ line_of n job ∷ [] = d.0 ∙ ap (λ (m : ℕ). own ++ line_of m job ∷ []) (sym nn) in
+    let own : List Line = c.args.at.now.hand.record.list in
+    let drew : c.draw.new.at.hand.record.list ≡ own ++ line_of n job ∷ [] = d.0 ∙ ap (λ (m : ℕ). own ++ line_of m job ∷ []) (sym nn) in
     let below : AreBelow n own = subst (λ (m : ℕ). AreBelow m own) (sym nn) d.4 in
     let whole = not_before c.args.seat.now.device.knows.broken c.broken.new.seat.device.knows.broken (λ b. (c.broken.ensures.later.fault b).0) (sym c.broken.ensures.broken ∙ c.if-broken.false) in
     let words = later_trans _ _ c.await_log.new.seat (later_trans c.args.seat.now c.broken.new.seat c.draw.new.seat c.broken.ensures.later c.draw.ensures.later) c.await_log.ensures.later in
@@ -51,16 +50,16 @@ returns-in-Ok-clause-puts g c =
     let v : c.end-2.new.at.viewer ≡ c.args.at.now.viewer = c.end-2.ensures.same.0 ∙ c.draw.ensures.same.0 in
     let region : c.show.new.at.viewer.region ≡ c.args.at.now.viewer.region = c.show.ensures.region ∙ ap (λ (b : Beginning). b.region) v in
     let later = subst (λ (b : Beginning). IsPrefix b.lines c.show.new.at.viewer.lines) v c.show.ensures.lines in
-    let ended = subst (λ (h : Hand Line). WasEnded Done (record_of c.draw.new.at.hand).list (record_of h).list) (sym c.show.ensures.hand.0) c.end-2.ensures.own in
-    let told = ap (λ (h : Hand ℕ). (record_of h).list) c.show.ensures.hand.1 ∙ c.end-2.ensures.told ∙ d.1 in
+    let ended = subst (λ (h : HandView Line). WasEnded Done c.draw.new.at.hand.record.list h.record.list) (sym c.show.ensures.hand.0) c.end-2.ensures.own in
+    let told = ap (λ (h : HandView ℕ). h.record.list) c.show.ensures.hand.1 ∙ c.end-2.ensures.told ∙ d.1 in
     let all = later_trans c.args.seat.now c.await_log.new.seat c.show.new.seat words c.show.ensures.later in
     let synced : is_sync c.args.durability ≡ true → n ≤ seen_synced c.show.new.seat.device.knows c.args.at.now.viewer.region = λ s.
     let first = c.if-not-await_log.ensures.logged s in
     let second = c.show.ensures.later.words (c.region-region.result - 1) in
     subst (λ (k : ℕ). n ≤ seen_synced c.show.new.seat.device.knows k) c.region-region.ensures (omega (arith, first, second)) in
     let seen : n ≤ last_in base c.show.new.at.viewer.lines = subst (λ (k : ℕ). n ≤ last_in (g.N.Naming-3.base k) c.show.new.at.viewer.lines) region c.in-Ok.ensures.seen in
-    put_at c.args.service.now.regions base job.time c.args.at.now.viewer.region c.show.new.at.viewer.region n (is_sync c.args.durability) (arc_value job.batch) job.caller (PutOk n) own (record_of c.draw.new.at.hand).list (record_of c.show.new.at.hand).list
-    c.args.at.now.viewer.lines c.show.new.at.viewer.lines (record_of c.args.at.now.told).list (record_of c.show.new.at.told).list c.args.seat.now c.show.new.seat
+    put_at c.args.service.now.regions base job.time c.args.at.now.viewer.region c.show.new.at.viewer.region n (is_sync c.args.durability) (arc_value job.batch) job.caller (PutOk n) own c.draw.new.at.hand.record.list c.show.new.at.hand.record.list
+    c.args.at.now.viewer.lines c.show.new.at.viewer.lines c.args.at.now.told.record.list c.show.new.at.told.record.list c.args.seat.now c.show.new.seat
     region drew ended told later all (omega (arith, d.2, nn)) below refl refl (λ m e. absurd (cc e)) (λ m e. seen) (λ s e. synced s) (λ f. absurd f) whole
 
 pub returns-in-Err-clause-puts : goal.returns-in-Err-clause-puts
@@ -69,8 +68,8 @@ returns-in-Err-clause-puts g c =
     let job = c.args.job in
     let n = c.number-number.result in
     let nn : n ≡ c.in_ok-entry.entry = c.number-number.ensures in
-    let own : List Line = (record_of c.args.at.now.hand).list in
-    let drew : (record_of c.draw.new.at.hand).list ≡ own ++ line_of n job ∷ [] = d.0 ∙ ap (λ (m : ℕ). own ++ line_of m job ∷ []) (sym nn) in
+    let own : List Line = c.args.at.now.hand.record.list in
+    let drew : c.draw.new.at.hand.record.list ≡ own ++ line_of n job ∷ [] = d.0 ∙ ap (λ (m : ℕ). own ++ line_of m job ∷ []) (sym nn) in
     let below : AreBelow n own = subst (λ (m : ℕ). AreBelow m own) (sym nn) d.4 in
     let whole = not_before c.args.seat.now.device.knows.broken c.broken.new.seat.device.knows.broken (λ b. (c.broken.ensures.later.fault b).0) (sym c.broken.ensures.broken ∙ c.if-broken.false) in
     let words = later_trans _ _ c.await_log.new.seat (later_trans c.args.seat.now c.broken.new.seat c.draw.new.seat c.broken.ensures.later c.draw.ensures.later) c.await_log.ensures.later in
@@ -78,13 +77,13 @@ returns-in-Err-clause-puts g c =
     let v : c.end-2.new.at.viewer ≡ c.args.at.now.viewer = c.end-2.ensures.same.0 ∙ c.draw.ensures.same.0 in
     let region : c.show.new.at.viewer.region ≡ c.args.at.now.viewer.region = c.show.ensures.region ∙ ap (λ (b : Beginning). b.region) v in
     let later = subst (λ (b : Beginning). IsPrefix b.lines c.show.new.at.viewer.lines) v c.show.ensures.lines in
-    let ended = subst (λ (h : Hand Line). WasEnded Done (record_of c.draw.new.at.hand).list (record_of h).list) (sym c.show.ensures.hand.0) c.end-2.ensures.own in
-    let told = ap (λ (h : Hand ℕ). (record_of h).list) c.show.ensures.hand.1 ∙ c.end-2.ensures.told ∙ d.1 in
+    let ended = subst (λ (h : HandView Line). WasEnded Done c.draw.new.at.hand.record.list h.record.list) (sym c.show.ensures.hand.0) c.end-2.ensures.own in
+    let told = ap (λ (h : HandView ℕ). h.record.list) c.show.ensures.hand.1 ∙ c.end-2.ensures.told ∙ d.1 in
     let all = later_trans c.args.seat.now c.await_log.new.seat c.show.new.seat words c.show.ensures.later in
     let synced : is_sync c.args.durability ≡ true → n ≤ seen_synced c.show.new.seat.device.knows c.args.at.now.viewer.region = λ s.
     let first = c.if-not-await_log.ensures.logged s in
     let second = c.show.ensures.later.words (c.region-region.result - 1) in
     subst (λ (k : ℕ). n ≤ seen_synced c.show.new.seat.device.knows k) c.region-region.ensures (omega (arith, first, second)) in
-    put_at c.args.service.now.regions base job.time c.args.at.now.viewer.region c.show.new.at.viewer.region n (is_sync c.args.durability) (arc_value job.batch) job.caller (PutMemory (Some n)) own (record_of c.draw.new.at.hand).list (record_of c.show.new.at.hand).list
-    c.args.at.now.viewer.lines c.show.new.at.viewer.lines (record_of c.args.at.now.told).list (record_of c.show.new.at.told).list c.args.seat.now c.show.new.seat
+    put_at c.args.service.now.regions base job.time c.args.at.now.viewer.region c.show.new.at.viewer.region n (is_sync c.args.durability) (arc_value job.batch) job.caller (PutMemory (Some n)) own c.draw.new.at.hand.record.list c.show.new.at.hand.record.list
+    c.args.at.now.viewer.lines c.show.new.at.viewer.lines c.args.at.now.told.record.list c.show.new.at.told.record.list c.args.seat.now c.show.new.seat
     region drew ended told later all (omega (arith, d.2, nn)) below refl refl (λ m e. absurd (cc e)) (λ m e. absurd (cc e)) (λ s e. synced s) (λ f. absurd f) whole

@@ -1,7 +1,6 @@
 use Rattle.std.proofs.Common.{◌≡◌, ℕ, ap, sym, ◌∙◌}
 use Rattle.std.specs.Arc.{arc_value}
-use Rattle.hand_register.specs.declared.hand.Hand.{Hand}
-use Rattle.hand_register.specs.Desks.{record_of}
+use Rattle.hand_register.specs.Views.{HandView}
 use Rattle.region_model.specs.Journal.{visible}
 use Rattle.region_model.specs.Lines.{Line, edits_in, last_in}
 use Rattle.region_state.specs.Versions.{Shown}
@@ -11,12 +10,12 @@ use Rattle.region_lock.proofs.scan.scan_in.Goals as goal
 pub returns-in_default-clause-scans : goal.returns-in_default-clause-scans
 returns-in_default-clause-scans g c n seat =
     scan_none n (g.N.Naming-2.base c.args.at.now.viewer.region) c.args.from.now c.args.to.now _ _ _ _ _ _ _ _ seat
-    c.view_in.ensures.region (ap (λ (h : Hand Line). (record_of h).list) c.view_in.ensures.hand.0) (ap (λ (h : Hand ℕ). (record_of h).list) c.view_in.ensures.hand.1) c.view_in.ensures.later
+    c.view_in.ensures.region (ap (λ (h : HandView Line). h.record.list) c.view_in.ensures.hand.0) (ap (λ (h : HandView ℕ). h.record.list) c.view_in.ensures.hand.1) c.view_in.ensures.later
 
 pub returns-clause-scans : goal.returns-clause-scans
 returns-clause-scans g c n seat =
     scan_none n (g.N.Naming-2.base c.args.at.now.viewer.region) c.args.from.now c.args.to.now _ _ _ _ _ _ _ _ seat
-    c.view_in.ensures.region (ap (λ (h : Hand Line). (record_of h).list) c.view_in.ensures.hand.0) (ap (λ (h : Hand ℕ). (record_of h).list) c.view_in.ensures.hand.1) c.view_in.ensures.later
+    c.view_in.ensures.region (ap (λ (h : HandView Line). h.record.list) c.view_in.ensures.hand.0) (ap (λ (h : HandView ℕ). h.record.list) c.view_in.ensures.hand.1) c.view_in.ensures.later
 
 pub returns-in-Ok-cells_of-clause-scans : goal.returns-in-Ok-cells_of-clause-scans
 returns-in-Ok-cells_of-clause-scans g c n seat =
@@ -34,4 +33,4 @@ returns-in-Ok-cells_of-clause-scans g c n seat =
     let cells : c.in-Ok-cells_of.cells ≡ visible base.content (edits_in r lines) c.point.result from to =
     c.in-Ok-cells_of.ensures r ∙ ap (λ (w : Shown). visible w.base.content (edits_in r w.cut) w.point from to) c.deref.ensures ∙ (λ i. visible (of i).content (edits_in r (cut i)) (sym point i) from to) in
     scan_ok n base from to _ _ _ _ _ _ _ _ seat c.point.result c.in-Ok-cells_of.cells
-    c.view_in.ensures.region (ap (λ (h : Hand Line). (record_of h).list) c.view_in.ensures.hand.0) (ap (λ (h : Hand ℕ). (record_of h).list) c.view_in.ensures.hand.1) c.view_in.ensures.later last cells
+    c.view_in.ensures.region (ap (λ (h : HandView Line). h.record.list) c.view_in.ensures.hand.0) (ap (λ (h : HandView ℕ). h.record.list) c.view_in.ensures.hand.1) c.view_in.ensures.later last cells

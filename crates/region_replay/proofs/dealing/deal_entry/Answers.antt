@@ -16,6 +16,6 @@ returns-clause-dealt c =
     (λ h. (
       x,
       ap (λ (r : ℕ). slice_set regions (r - 1) x) region,
-      λ d. subst (λ (r : ℕ). P (get_or regions (r - 1) d)) region (at_read regions P (c.entry.inside.region - 1) c.index_mut.result.now (omega (arith, c.requires, c.entry.invariant.region, c.entry.invariant.region_given)) c.index_mut.ensures.value h d),
+      λ d. subst (λ (r : ℕ). P (get_or regions (r - 1) d)) region (at_read regions P (c.entry.inside.region - 1) c.index_mut.result.now (omega (arith, c.requires, c.entry.invariant.0.region, c.entry.invariant.0.region_given)) c.index_mut.ensures.value h d),
     ))
     c.add_entry.ensures.added

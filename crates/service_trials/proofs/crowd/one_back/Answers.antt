@@ -1,7 +1,7 @@
 use Rattle.std.proofs.Common.{◌≡◌, ℕ, suc, ◌+◌, ◌-◌, length, set, Some, None, sym, ap, ◌∙◌, subst, arith, length-set}
 use Rattle.std.specs.Prelude.{slice_get}
 use Rattle.append_ring.specs.declared.pass.RingPass.{RingPass}
-use Rattle.append_ring.specs.Parts.{AreBack}
+use Rattle.append_ring.specs.Parts.{ArePlacesBack}
 use Rattle.append_ring.proofs.Handing.{back_next}
 use Rattle.log_service.specs.declared.item.Item.{Item}
 use Rattle.service_trials.proofs.CrewLaws.{seat_back}
@@ -25,7 +25,7 @@ returns g c =
     let set_is = subst (λ (i : ℕ). c.put_back.new.self ≡ set c.args.passes.now i (Some c.args.member.pass)) (sym at) c.put_back.ensures in
     let next : suc n ≡ n + 1 = omega arith in
     record {
-      passes = subst (λ (m : ℕ). AreBack is_so m c.put_back.new.self) next (subst (λ l. AreBack is_so (suc n) l) (sym set_is) r.1);
+      passes = subst (λ (m : ℕ). ArePlacesBack is_so m c.put_back.new.self) next (subst (λ l. ArePlacesBack is_so (suc n) l) (sym set_is) r.1);
       all = ap length set_is ∙ length-set c.args.passes.now n (Some c.args.member.pass) ∙ back.all;
       seats = seat_back place n c.args.seats.now.consumers c.put_back-2.new.self.consumers c.args.seats.now.devices c.put_back-2.new.self.devices c.args.member.seat c.requires.before back.seats c.requires.of.seat c.put_back-2.ensures.back c.put_back-2.ensures.rooms;
     }

@@ -2,8 +2,8 @@ use Rattle.std.proofs.Math.Logic.{∥∥₁_map}
 use Rattle.std.proofs.Common.{◌+◌, ◌-◌, List, ℕ, ◌++◌, length, take, drop, sym, ◌∙◌, subst, arith, length-append}
 use Rattle.std.proofs.lemmas.List.{take_all, length-take, length-drop}
 use Rattle.log_model.specs.Files.{Files, Reads}
-use Rattle.log_file.proofs.Looking.{looks_more, looks_on}
-use Rattle.log_file.proofs.Pieces.{some_more}
+use Rattle.file_base.proofs.Looking.{looks_more, looks_on}
+use Rattle.file_base.proofs.Pieces.{some_more}
 use Rattle.store_file.proofs.Filling.{filled}
 use Rattle.store_file.proofs.read.read_pieces.Goals as goal
 

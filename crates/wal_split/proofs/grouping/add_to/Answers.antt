@@ -15,6 +15,6 @@ returns-clause-added c =
     (λ h. (
       job,
       ap (λ (r : ℕ). slice_set jobs (r - 1) job) region,
-      λ d. subst (λ (r : ℕ). P (get_or jobs (r - 1) d)) region (at_read jobs P (c.entry.inside.region - 1) c.index_mut.result.now (omega (arith, c.requires, c.entry.invariant.region, c.entry.invariant.region_given)) c.index_mut.ensures.value h d),
+      λ d. subst (λ (r : ℕ). P (get_or jobs (r - 1) d)) region (at_read jobs P (c.entry.inside.region - 1) c.index_mut.result.now (omega (arith, c.requires, c.entry.invariant.0.region, c.entry.invariant.0.region_given)) c.index_mut.ensures.value h d),
     ))
     c.add_entry.ensures.added

@@ -10,5 +10,5 @@ pub invariant_of-self : goal.invariant_of-self
 invariant_of-self g c = record {
   kept = λ told whole.
       ∥∥₁_map (c.args.self.now.kept told (λ broken. whole (subst (λ (d : Device g.row.D.Denot). IsBroken d) (sym (c.archive.ensures.stays broken)) broken)))
-      (λ r. archive_keeps c.archive.new.self (g.D.Disk.view (disk_of c.archive.new.self)) r.0 c.archive.result (c.archive.ensures.archived told r.0 r.1) (λ err. whole (c.archive.ensures.broken.0 err)));
+      (λ r. archive_keeps c.archive.new.self (g.D.Disk.view (disk_of c.archive.new.self)) r.0 c.archive.result (c.archive.ensures.archives told r.0 r.1).archived (λ err. whole (c.archive.ensures.broken.0 err)));
 }

@@ -10,5 +10,5 @@ pub invariant_of-self : goal.invariant_of-self
 invariant_of-self g c = record {
   kept = λ told whole.
       ∥∥₁_map (c.args.self.now.kept told (λ broken. whole (subst (λ (d : Device g.row.D.Denot). IsBroken d) (sym (c.flush.ensures.stays broken)) broken)))
-      (λ r. flush_keeps c.flush.new.self (g.D.Disk.view (disk_of c.flush.new.self)) r.0 c.args.region c.flush.result (c.flush.ensures.flushed told r.0 r.1) (c.flush.ensures.refused told r.0 r.1) whole);
+      (λ r. flush_keeps c.flush.new.self (g.D.Disk.view (disk_of c.flush.new.self)) r.0 c.args.region c.flush.result (c.flush.ensures.flushes told r.0 r.1).flushed (c.flush.ensures.flushes told r.0 r.1).refused whole);
 }

@@ -10,5 +10,5 @@ pub invariant_of-self : goal.invariant_of-self
 invariant_of-self g c = record {
   kept = λ told whole.
       ∥∥₁_map (c.args.self.now.kept told (λ broken. whole (subst (λ (d : Device g.row.D.Denot). IsBroken d) (sym (c.roll.ensures.stays broken)) broken)))
-      (λ r. roll_keeps c.roll.new.self (g.D.Disk.view (disk_of c.roll.new.self)) r.0 _ c.roll.result (c.roll.ensures.rolled told r.0 r.1) (c.roll.ensures.refused told r.0 r.1) whole);
+      (λ r. roll_keeps c.roll.new.self (g.D.Disk.view (disk_of c.roll.new.self)) r.0 _ c.roll.result (c.roll.ensures.rolls told r.0 r.1).rolled (c.roll.ensures.rolls told r.0 r.1).refused whole);
 }

@@ -10,5 +10,5 @@ pub invariant_of-self : goal.invariant_of-self
 invariant_of-self g c = record {
   kept = λ told whole.
       ∥∥₁_map (c.args.self.now.kept told (λ broken. whole (subst (λ (d : Device g.row.D.Denot). IsBroken d) (sym (c.sync.ensures.stays broken)) broken)))
-      (λ r. (committed_in r.0, on_ok c.sync.result (c.sync.ensures.committed told r.0 r.1) (λ err. whole (c.sync.ensures.broken.0 err))));
+      (λ r. (committed_in r.0, on_ok c.sync.result (c.sync.ensures.syncs told r.0 r.1).committed (λ err. whole (c.sync.ensures.broken.0 err))));
 }

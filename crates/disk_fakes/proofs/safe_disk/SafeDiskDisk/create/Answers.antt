@@ -7,6 +7,7 @@ use Rattle.disk_fakes.specs.declared.safe_call.SafeCall.TheVariants.{Create}
 use Rattle.disk_fakes.specs.SafeViews.{safe_view}
 use Rattle.disk_fakes.proofs.Steps.{creates_not}
 use Rattle.disk_fakes.proofs.SafeNoted.{carried_over, stayed, creates}
+use Rattle.disk_fakes.proofs.Rooms.{none_taken}
 use Rattle.disk_fakes.proofs.safe_disk.SafeDiskDisk.create.Goals as goal
 
 pub returns-then-not-has_room-clause-creates : goal.returns-then-not-has_room-clause-creates
@@ -21,3 +22,6 @@ returns-clause-creates c =
     carried_over (λ w. Creates {T = Unit {0}} {E = Failed} c.args.name (Ok tt) (safe_view c.args.self.now) w)
     c.args.self.now.arena.items c.note.new.self.arena.items [] c.args.self.now.calls.items c.note.new.self.calls.items (Create c.args.name) c.note.ensures.arena c.note.ensures.calls
     (creates _ c.args.self.now.arena.items [] c.args.self.now.calls.items (Create c.args.name) c.args.self.now.met c.args.name refl)
+
+pub returns-then-not-has_room-clause-room : goal.returns-then-not-has_room-clause-room
+returns-then-not-has_room-clause-room c = none_taken 1 0 c.args.self.now c.fault.new.self c.fault.ensures.calls c.fault.ensures.arena

@@ -7,6 +7,7 @@ use Rattle.disk_fakes.specs.declared.safe_call.SafeCall.TheVariants.{Remove}
 use Rattle.disk_fakes.specs.SafeViews.{safe_view, safe_files}
 use Rattle.disk_fakes.proofs.Steps.{is_there, removes_not}
 use Rattle.disk_fakes.proofs.SafeNoted.{carried_over, stayed, removes}
+use Rattle.disk_fakes.proofs.Rooms.{none_taken}
 use Rattle.disk_fakes.proofs.safe_disk.SafeDiskDisk.remove.Goals as goal
 
 pub returns-then-not-has_room-clause-removes : goal.returns-then-not-has_room-clause-removes
@@ -24,3 +25,6 @@ returns-clause-removes c =
     carried_over (λ w. Removes {T = Unit {0}} {E = Failed} c.args.name (Ok tt) (safe_view c.args.self.now) w)
     c.args.self.now.arena.items c.note.new.self.arena.items [] c.args.self.now.calls.items c.note.new.self.calls.items (Remove c.args.name) c.note.ensures.arena c.note.ensures.calls
     (removes _ c.args.self.now.arena.items [] c.args.self.now.calls.items (Remove c.args.name) c.args.self.now.met c.args.name refl)
+
+pub returns-then-not-has_room-clause-room : goal.returns-then-not-has_room-clause-room
+returns-then-not-has_room-clause-room c = none_taken 1 0 c.args.self.now c.fault.new.self c.fault.ensures.calls c.fault.ensures.arena

@@ -10,6 +10,7 @@ use Rattle.disk_fakes.specs.SafeViews.{safe_view, safe_files}
 use Rattle.disk_fakes.proofs.Steps.{is_there, renames_not}
 use Rattle.disk_fakes.proofs.SafeSteps.{apart_of}
 use Rattle.disk_fakes.proofs.SafeNoted.{carried_over, stayed, renames}
+use Rattle.disk_fakes.proofs.Rooms.{none_taken}
 use Rattle.disk_fakes.proofs.safe_disk.SafeDiskDisk.rename.Goals as goal
 
 pub returns-then-not-has_room-clause-renames : goal.returns-then-not-has_room-clause-renames
@@ -29,3 +30,6 @@ returns-clause-renames c =
     carried_over (λ w. Renames {T = Unit {0}} {E = Failed} c.args.from c.args.to (Ok tt) (safe_view c.args.self.now) w)
     c.args.self.now.arena.items c.note.new.self.arena.items [] c.args.self.now.calls.items c.note.new.self.calls.items (Rename c.args.from c.args.to) c.note.ensures.arena c.note.ensures.calls
     (renames _ c.args.self.now.arena.items [] c.args.self.now.calls.items (Rename c.args.from c.args.to) c.args.self.now.met c.args.from c.args.to text.0 text.1 apart (ap (λ (o : Option (List ℕ)). moved_to (safe_files c.args.self.now) c.args.from c.args.to o) text.1))
+
+pub returns-then-not-has_room-clause-room : goal.returns-then-not-has_room-clause-room
+returns-then-not-has_room-clause-room c = none_taken 1 0 c.args.self.now c.fault.new.self c.fault.ensures.calls c.fault.ensures.arena

@@ -8,6 +8,7 @@ use Rattle.disk_fakes.specs.declared.safe_call.SafeCall.TheVariants.{Write}
 use Rattle.disk_fakes.specs.SafeViews.{safe_view, safe_files}
 use Rattle.disk_fakes.proofs.Steps.{reaches, writes_not}
 use Rattle.disk_fakes.proofs.SafeNoted.{carried_over, stayed, written_is, writes}
+use Rattle.disk_fakes.proofs.Rooms.{none_taken}
 use Rattle.disk_fakes.proofs.safe_disk.SafeDiskDisk.write_at.Goals as goal
 
 pub returns-then-at-ge-LIMIT-clause-writes : goal.returns-then-at-ge-LIMIT-clause-writes
@@ -38,3 +39,10 @@ returns-clause-writes c =
     carried_over (λ w. Writes {T = Unit {0}} {E = Failed} c.args.name c.args.at c.args.bytes.now (Ok tt) (safe_view c.args.self.now) w)
     c.args.self.now.arena.items c.note.new.self.arena.items c.args.bytes.now c.args.self.now.calls.items c.note.new.self.calls.items (Write c.args.name c.args.at c.len-start.result (length c.args.bytes.now)) c.note.ensures.arena c.note.ensures.calls
     (writes _ c.args.self.now.arena.items c.args.bytes.now c.args.self.now.calls.items (Write c.args.name c.args.at c.len-start.result (length c.args.bytes.now)) c.args.self.now.met c.args.name c.args.at c.args.bytes.now text.0 text.1 text.2 (written_is c.args.self.now.arena.items c.args.bytes.now (safe_files c.args.self.now) c.args.name c.args.at c.len-start.result (length c.args.bytes.now) text.0 start refl text.1))
+
+pub returns-then-at-ge-LIMIT-clause-room : goal.returns-then-at-ge-LIMIT-clause-room
+returns-then-at-ge-LIMIT-clause-room c = none_taken 1 (length c.args.bytes.now) c.args.self.now c.fault.new.self c.fault.ensures.calls c.fault.ensures.arena
+
+pub returns-then-not-has_room-clause-room : goal.returns-then-not-has_room-clause-room
+returns-then-not-has_room-clause-room c =
+    none_taken 1 (length c.args.bytes.now) c.args.self.now c.fault-then-not-has_room.new.self c.fault-then-not-has_room.ensures.calls c.fault-then-not-has_room.ensures.arena

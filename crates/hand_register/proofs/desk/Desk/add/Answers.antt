@@ -6,4 +6,4 @@ use Rattle.hand_register.proofs.Moves.{adds_at}
 use Rattle.hand_register.proofs.desk.Desk.add.Goals as goal
 
 pub compare_exchange_with-requires : goal.compare_exchange_with-requires
-compare_exchange_with-requires g c = (search rules, search rules, adds_at _ _ _ _ (step c.args.self.now.table.shared.table_id.slots 0 0 0 (some c.args.value.now)) (λ n. either (n == 0) 0 n) c.take_in.ensures.came refl refl)
+compare_exchange_with-requires g c = (search rules, search rules, adds_at _ _ _ _ (step c.self.inside.table.shared.table_id.slots 0 0 0 (some c.args.value.now)) (λ n. either (n == 0) 0 n) c.take_in.ensures.came refl refl)

@@ -13,5 +13,5 @@ loop-made-preserved g c =
     let hand = c.make.ensures.hand in
     let long : length c.loop-made.list.items ≡ c.loop-made.made = i.2 in
     let number : c.make.result.number ≡ 1 + length c.loop-made.list.items = hand.0 ∙ omega arith in
-    let fresh = fresh_more c.loop-made.seat.table_id 1 c.loop-made.made c.loop-made.list.items c.make.result i.3 number hand.1 hand.2 in
+    let fresh = fresh_more c.loop-made.seat.table_id 1 c.loop-made.list.items c.make.result i.3 number hand.1 hand.2 in
     rw (items, c.make.ensures.same) (i.0, outs, omega (arith, length-append c.loop-made.list.items (c.make.result ∷ []), long), fresh)

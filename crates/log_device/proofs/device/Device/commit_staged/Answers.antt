@@ -26,7 +26,7 @@ invariant_of-self-in-Ok g c = record {
   numbered = λ file is.
       subst (λ (f : OpenLog). IsNumbered f c.commit-in-Ok.new.self) (same_file c.commit.new.self file is)
       (numbered_still c.in-Some.log c.commit.new.self c.args.self.now.ledger.value c.commit-in-Ok.new.self (c.args.self.now.numbered c.in-Some.log c.in-Some.is)
-      c.commit.ensures.name (omega (arith, c.in-Ok.ensures.counted, c.in-Ok.ensures.emptied.count)) (ap (λ (b : Books). sum b.drawn) (rw c.deref_mut.ensures.value at c.commit-in-Ok.ensures.synced)) (ap (λ (b : Books). b.accounts.last) (rw c.deref_mut.ensures.value at c.commit-in-Ok.ensures.synced)));
+      c.commit.ensures.same_name (omega (arith, c.in-Ok.ensures.entries, c.in-Ok.ensures.stage_emptied.count)) (ap (λ (b : Books). sum b.drawn) (rw c.deref_mut.ensures.value at c.commit-in-Ok.ensures.synced)) (ap (λ (b : Books). b.accounts.last) (rw c.deref_mut.ensures.value at c.commit-in-Ok.ensures.synced)));
 }
 
 pub returns-in-Ok-clause-any_moment : goal.returns-in-Ok-clause-any_moment
@@ -35,7 +35,7 @@ returns-in-Ok-clause-any_moment g c told h file whole is =
     let w = g.D.Disk.view c.commit.new.disk in
     let keeps = kept_file c.args.self.now v h c.in-Some.log c.in-Some.is whole in
     subst (λ (f : OpenLog). Throughout (Between h.kept f.name h.current (committed h.kept) f.name (h.current ++ h.kept.staged)) 4 v w) (same_file c.in-Some.log file (sym c.in-Some.is ∙ is))
-    (commit_moments c.in-Some.log v h c.args.self.now.ledger.value.next_store keeps w (c.commit.ensures.any_moment told h.current h.kept.staged keeps.open_log keeps.staged))
+    (commit_moments c.in-Some.log v h c.args.self.now.ledger.value.next_store keeps w (c.commit.ensures.commits told h.current h.kept.staged keeps.open_log keeps.staged).atomic)
 
 pub returns-in-Ok-clause-committed : goal.returns-in-Ok-clause-committed
 returns-in-Ok-clause-committed g c told h whole =
@@ -46,9 +46,9 @@ returns-in-Ok-clause-committed g c told h whole =
       file = c.commit.new.self;
       is = refl;
       keeps = subst (λ (ns : List ℕ). Keeps c.commit.new.self w (committed_in h) ns) (sym (ap (λ (b : Books). b.next_store) (rw c.deref_mut.ensures.value at c.commit-in-Ok.ensures.synced)))
-          (commit_kept c.in-Some.log v h c.args.self.now.ledger.value.next_store keeps c.commit.new.self w c.commit.ensures.name
-          (c.commit.ensures.any_moment told h.current h.kept.staged keeps.open_log keeps.staged) (c.commit.ensures.touches told)
-          (c.in-Ok.ensures.committed told h.current h.kept.staged keeps.open_log keeps.staged) c.in-Ok.ensures.emptied);
+          (commit_kept c.in-Some.log v h c.args.self.now.ledger.value.next_store keeps c.commit.new.self w c.commit.ensures.same_name
+          (c.commit.ensures.commits told h.current h.kept.staged keeps.open_log keeps.staged).atomic (c.commit.ensures.no_other_file told)
+          (c.in-Ok.ensures.commits told h.current h.kept.staged keeps.open_log keeps.staged).durable c.in-Ok.ensures.stage_emptied);
       counted = (rw c.deref_mut.ensures.value at c.commit-in-Ok.ensures.counted) h whole.counted;
     }
 
@@ -58,7 +58,7 @@ returns-in-Err-clause-any_moment g c told h file whole is =
     let w = g.D.Disk.view c.commit.new.disk in
     let keeps = kept_file c.args.self.now v h c.in-Some.log c.in-Some.is whole in
     subst (λ (f : OpenLog). Throughout (Between h.kept f.name h.current (committed h.kept) f.name (h.current ++ h.kept.staged)) 4 v w) (same_file c.in-Some.log file (sym c.in-Some.is ∙ is))
-    (commit_moments c.in-Some.log v h c.args.self.now.ledger.value.next_store keeps w (c.commit.ensures.any_moment told h.current h.kept.staged keeps.open_log keeps.staged))
+    (commit_moments c.in-Some.log v h c.args.self.now.ledger.value.next_store keeps w (c.commit.ensures.commits told h.current h.kept.staged keeps.open_log keeps.staged).atomic)
 
 none_behind : behind_gate [] ≡ []
 unfolding behind_gate
@@ -67,7 +67,7 @@ none_behind = refl
 pub returns-in-Ok-clause-emptied : goal.returns-in-Ok-clause-emptied
 returns-in-Ok-clause-emptied g c file is =
     let same = same_file c.commit.new.self file is in
-    (ap (λ (f : OpenLog). f.staged) (sym same) ∙ c.in-Ok.ensures.emptied.count, ap (λ (f : OpenLog). f.bytes) (sym same) ∙ (c.in-Ok.ensures.emptied.bytes ∙ none_behind))
+    (ap (λ (f : OpenLog). f.staged) (sym same) ∙ c.in-Ok.ensures.stage_emptied.count, ap (λ (f : OpenLog). f.bytes) (sym same) ∙ (c.in-Ok.ensures.stage_emptied.bytes ∙ none_behind))
 
 pub returns-in-Ok-clause-names : goal.returns-in-Ok-clause-names
 returns-in-Ok-clause-names g c told h file whole is =
@@ -76,7 +76,7 @@ returns-in-Ok-clause-names g c told h file whole is =
     let keeps = kept_file c.args.self.now v h c.in-Some.log c.in-Some.is whole in
     subst (λ (f : OpenLog). Throughout (Bears h.kept.base c.args.self.now.ledger.value.next_store f.name.number) 4 v w) (same_file c.in-Some.log file (sym c.in-Some.is ∙ is))
     (names_moments c.in-Some.log v h c.args.self.now.ledger.value.next_store keeps (HasEither c.in-Some.log.name h.current (h.current ++ h.kept.staged)) 4 w
-    (c.commit.ensures.any_moment told h.current h.kept.staged keeps.open_log keeps.staged))
+    (c.commit.ensures.commits told h.current h.kept.staged keeps.open_log keeps.staged).atomic)
 
 pub returns-in-Err-clause-names : goal.returns-in-Err-clause-names
 returns-in-Err-clause-names g c told h file whole is =
@@ -85,4 +85,4 @@ returns-in-Err-clause-names g c told h file whole is =
     let keeps = kept_file c.args.self.now v h c.in-Some.log c.in-Some.is whole in
     subst (λ (f : OpenLog). Throughout (Bears h.kept.base c.args.self.now.ledger.value.next_store f.name.number) 4 v w) (same_file c.in-Some.log file (sym c.in-Some.is ∙ is))
     (names_moments c.in-Some.log v h c.args.self.now.ledger.value.next_store keeps (HasEither c.in-Some.log.name h.current (h.current ++ h.kept.staged)) 4 w
-    (c.commit.ensures.any_moment told h.current h.kept.staged keeps.open_log keeps.staged))
+    (c.commit.ensures.commits told h.current h.kept.staged keeps.open_log keeps.staged).atomic)

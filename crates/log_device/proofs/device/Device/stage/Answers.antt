@@ -21,7 +21,7 @@ invariant_of-self-in-Ok g c = record {
   numbered = λ file is.
       subst (λ (f : OpenLog). IsNumbered f c.stage-in-Ok.new.self) (same_file c.stage.new.self file is)
       (numbered_staged c.in-Some.log c.stage.new.self c.args.self.now.ledger.value c.stage-in-Ok.new.self (c.args.self.now.numbered c.in-Some.log c.in-Some.is)
-      c.stage.ensures.elsewhere.0 (rw c.deref_mut.ensures.value at c.stage-in-Ok.ensures.grows) (rw c.deref_mut.ensures.value at c.stage-in-Ok.ensures.files.last));
+      c.stage.ensures.same_file.name (rw c.deref_mut.ensures.value at c.stage-in-Ok.ensures.grows) (rw c.deref_mut.ensures.value at c.stage-in-Ok.ensures.files.last));
 }
 
 pub invariant_of-self-in-Err : goal.invariant_of-self-in-Err
@@ -29,20 +29,22 @@ invariant_of-self-in-Err g c = record {
   numbered = λ file is. c.args.self.now.numbered file (c.in-Some.is ∙ ap (λ (f : OpenLog). Some f) (sym c.in-Err.ensures.same) ∙ is);
 }
 
-pub returns-in-Ok-clause-staged : goal.returns-in-Ok-clause-staged
-returns-in-Ok-clause-staged g c told h e whole entry bytes region number =
-    let file : whole.file ≡ c.in-Some.log = same_file whole.file c.in-Some.log (sym whole.is ∙ c.in-Some.is) in
-    let keeps = subst (λ (f : OpenLog). Keeps f (g.D.Disk.view c.args.self.now.disk) h c.args.self.now.ledger.value.next_store) file whole.keeps in
-    let numbered = c.args.self.now.numbered c.in-Some.log c.in-Some.is in
-    let its = ap (λ (t : Haul). t.bytes) (c.behind-truck.view_is ∙ c.deref.ensures) in
-    record {
-      file = c.stage.new.self;
-      is = refl;
-      keeps = subst (λ (ns : List ℕ). Keeps c.stage.new.self (g.D.Disk.view c.args.self.now.disk) (staged_in h e) ns) (sym (rw c.deref_mut.ensures.value at c.stage-in-Ok.ensures.next_store))
-          (staged_kept c.in-Some.log c.stage.new.self (g.D.Disk.view c.args.self.now.disk) h c.args.self.now.ledger.value.next_store e keeps
-          (let drawn = whole.counted.drawn e.region (subst (λ (r : ℕ). IsServed c.args.self.now.ledger.value r) (sym region) c.requires.served) in
-          let at : get_or c.args.self.now.ledger.value.drawn e.region 0 ≡ get_or c.args.self.now.ledger.value.drawn c.args.truck.value.region 0 = ap (λ (r : ℕ). get_or c.args.self.now.ledger.value.drawn r 0) region in
-          omega (arith, c.requires.above, drawn, number, at))
-          c.stage.ensures.elsewhere (c.in-Ok.ensures.staged h.kept.staged e keeps.staged (its ∙ bytes) (of_log c.in-Some.log e numbered.region entry)));
-      counted = (rw c.deref_mut.ensures.value at c.stage-in-Ok.ensures.counted) h e whole.counted entry bytes region number;
-    }
+pub returns-in-Ok-clause-stages : goal.returns-in-Ok-clause-stages
+returns-in-Ok-clause-stages g c told h whole = record {
+  staged = λ e entry bytes region number.
+      let file : whole.file ≡ c.in-Some.log = same_file whole.file c.in-Some.log (sym whole.is ∙ c.in-Some.is) in
+      let keeps = subst (λ (f : OpenLog). Keeps f (g.D.Disk.view c.args.self.now.disk) h c.args.self.now.ledger.value.next_store) file whole.keeps in
+      let numbered = c.args.self.now.numbered c.in-Some.log c.in-Some.is in
+      let its = ap (λ (t : Haul). t.bytes) (c.behind-truck.view_is ∙ c.deref.ensures) in
+      record {
+        file = c.stage.new.self;
+        is = refl;
+        keeps = subst (λ (ns : List ℕ). Keeps c.stage.new.self (g.D.Disk.view c.args.self.now.disk) (staged_in h e) ns) (sym (rw c.deref_mut.ensures.value at c.stage-in-Ok.ensures.next_store))
+            (staged_kept c.in-Some.log c.stage.new.self (g.D.Disk.view c.args.self.now.disk) h c.args.self.now.ledger.value.next_store e keeps
+            (let drawn = whole.counted.drawn e.region (subst (λ (r : ℕ). IsServed c.args.self.now.ledger.value r) (sym region) c.requires.served) in
+            let at : get_or c.args.self.now.ledger.value.drawn e.region 0 ≡ get_or c.args.self.now.ledger.value.drawn c.args.truck.value.region 0 = ap (λ (r : ℕ). get_or c.args.self.now.ledger.value.drawn r 0) region in
+            omega (arith, c.requires.above, drawn, number, at))
+            c.stage.ensures.same_file (c.in-Ok.ensures.staged h.kept.staged e keeps.staged (its ∙ bytes) (of_log c.in-Some.log e numbered.region entry)));
+        counted = (rw c.deref_mut.ensures.value at c.stage-in-Ok.ensures.counted) h e whole.counted entry bytes region number;
+      };
+}

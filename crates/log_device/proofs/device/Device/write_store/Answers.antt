@@ -6,7 +6,7 @@ use Rattle.log_model.specs.Files.{content, IsAbsent}
 use Rattle.disk_images.specs.Crash.{Throughout}
 use Rattle.disk_images.specs.OneFile.{IsDurableFile}
 use Rattle.recovery.specs.Kept.{flushed_to}
-use Rattle.log_file.specs.declared.error.FileRefusal.{FileRefusal}
+use Rattle.file_base.specs.declared.error.FileRefusal.{FileRefusal}
 use Rattle.log_ledger.specs.Counted.{IsCounted}
 use Rattle.flush_snapshot.specs.Cut.{cut_store, ordered_cells}
 use Rattle.store_file.specs.Whole.{IsWholeOrNot}

@@ -1,5 +1,5 @@
 use Rattle.std.proofs.Math.Logic.{∥∥₁_map}
-use Rattle.std.proofs.Common.{List, Some, sym, subst}
+use Rattle.std.proofs.Common.{rules, List, Some, sym, subst}
 use Rattle.log_model.specs.Files.{content}
 use Rattle.log_model.specs.Entry.{Entry}
 use Rattle.disk_images.specs.OneFile.{IsDurableFile}
@@ -15,32 +15,26 @@ commit_behind_gate-requires-clause-closed g c told =
     let open_log = subst (λ (l : OpenLog). IsOpen l (g.D.Disk.view c.args.disk.now) r.0) (sym c.self.view_is) r.1 in
     (front c.self.inside.name.number r.0, open_log.file, open_log.gate))
 
-pub returns-in_err-commit_behind_gate-clause-any_moment : goal.returns-in_err-commit_behind_gate-clause-any_moment
-returns-in_err-commit_behind_gate-clause-any_moment g c told =
+pub returns-in_err-commit_behind_gate-clause-finishes : goal.returns-in_err-commit_behind_gate-clause-finishes
+returns-in_err-commit_behind_gate-clause-finishes g c told entries open_log =
     let log : OpenLog = record { name = c.self.inside.name; gate = c.self.inside.gate; entries = c.self.inside.entries; bytes = c.self.inside.stage; staged = c.self.inside.staged } in
     let v = g.D.Disk.view c.args.disk.now in
     let w = g.D.Disk.view c.commit_behind_gate.new.disk in
-    subst (λ (l : OpenLog). EndMoments l v w) c.self.view_is (end_moments log c.end_text.result v w c.end_text.ensures (c.commit_behind_gate.ensures.any_moment told))
+    record {
+      durable = search rules;
+      counted = search rules;
+      atomic = (subst (λ (l : OpenLog). EndMoments l v w) c.self.view_is (end_moments log c.end_text.result v w c.end_text.ensures (c.commit_behind_gate.ensures.any_moment told))) entries open_log;
+    }
 
-pub returns-clause-finished : goal.returns-clause-finished
-returns-clause-finished g c told =
+pub returns-clause-finishes : goal.returns-clause-finishes
+returns-clause-finishes g c told entries open_log =
     let log : OpenLog = record { name = c.self.inside.name; gate = c.self.inside.gate; entries = c.self.inside.entries; bytes = c.self.inside.stage; staged = c.self.inside.staged } in
     let v = g.D.Disk.view c.args.disk.now in
     let w = g.D.Disk.view c.commit_behind_gate.new.disk in
-    subst (λ (l : OpenLog). (entries : List Entry) → IsOpen l v entries → IsDurableFile w l.name (ended_text l.name.number entries)) c.self.view_is
-    (λ entries open_log. finished_file log c.end_text.result v w entries c.end_text.ensures (c.in_ok-commit_behind_gate.ensures.committed told) open_log)
-
-pub returns-clause-ended : goal.returns-clause-ended
-returns-clause-ended g c told =
-    let log : OpenLog = record { name = c.self.inside.name; gate = c.self.inside.gate; entries = c.self.inside.entries; bytes = c.self.inside.stage; staged = c.self.inside.staged } in
-    let v = g.D.Disk.view c.args.disk.now in
-    let w = g.D.Disk.view c.commit_behind_gate.new.disk in
-    subst (λ (l : OpenLog). (entries : List Entry) → IsOpen l v entries → HasText l.name entries (Some c.self.inside.entries) (content w.files l.name)) c.self.view_is
-    (λ entries open_log. finished_text log c.end_text.result v w entries c.end_text.ensures (c.in_ok-commit_behind_gate.ensures.committed told) open_log)
-
-pub returns-clause-any_moment : goal.returns-clause-any_moment
-returns-clause-any_moment g c told =
-    let log : OpenLog = record { name = c.self.inside.name; gate = c.self.inside.gate; entries = c.self.inside.entries; bytes = c.self.inside.stage; staged = c.self.inside.staged } in
-    let v = g.D.Disk.view c.args.disk.now in
-    let w = g.D.Disk.view c.commit_behind_gate.new.disk in
-    subst (λ (l : OpenLog). EndMoments l v w) c.self.view_is (end_moments log c.end_text.result v w c.end_text.ensures (c.commit_behind_gate.ensures.any_moment told))
+    record {
+      durable = (subst (λ (l : OpenLog). (es : List Entry) → IsOpen l v es → IsDurableFile w l.name (ended_text l.name.number es)) c.self.view_is
+          (λ es is. finished_file log c.end_text.result v w es c.end_text.ensures (c.in_ok-commit_behind_gate.ensures.committed told) is)) entries open_log;
+      counted = (subst (λ (l : OpenLog). (es : List Entry) → IsOpen l v es → HasText l.name es (Some c.self.inside.entries) (content w.files l.name)) c.self.view_is
+          (λ es is. finished_text log c.end_text.result v w es c.end_text.ensures (c.in_ok-commit_behind_gate.ensures.committed told) is)) entries open_log;
+      atomic = (subst (λ (l : OpenLog). EndMoments l v w) c.self.view_is (end_moments log c.end_text.result v w c.end_text.ensures (c.commit_behind_gate.ensures.any_moment told))) entries open_log;
+    }

@@ -1,7 +1,7 @@
 use Rattle.std.proofs.lemmas.Result.{err_from_is_err_and}
 use Rattle.std.proofs.Common.{◌++◌, ◌+◌, ◌-◌, List, ℕ, length, take, drop, refl, sym, ap, ◌∙◌, take-append-drop}
 use Rattle.std.proofs.lemmas.List.{length-drop}
-use Rattle.log_file.specs.Refusal.{read_refusal_of}
+use Rattle.file_base.specs.Refusal.{read_refusal_of}
 use Rattle.log_file.proofs.Pieces.{read_behind, first_read, refused, damaged_whole}
 use Rattle.log_file.proofs.read.Reading.read_piece.Goals as goal
 

@@ -3,8 +3,9 @@ use Rattle.std.proofs.Common.{◌≡◌, ◌++◌, ◌+◌, List, ℕ, length, t
 use Rattle.std.proofs.lemmas.List.{take_all, length-take}
 use Rattle.log_model.specs.Files.{Files, Reads}
 use Rattle.entry_frame.specs.Feed.{IsFed}
-use Rattle.log_file.proofs.Looking.{looks_more, looks_joined}
-use Rattle.log_file.proofs.Pieces.{read_behind, more_read, some_more}
+use Rattle.file_base.proofs.Looking.{looks_more, looks_joined}
+use Rattle.file_base.proofs.Pieces.{some_more}
+use Rattle.log_file.proofs.Pieces.{read_behind, more_read}
 use Rattle.log_file.proofs.read.Reading.read_pieces.Goals as goal
 
 pub read_piece-requires-clause-there : goal.read_piece-requires-clause-there

@@ -1,5 +1,4 @@
 use Rattle.std.proofs.Common.{ℕ, ◌+◌, sym, ap, ◌∙◌, subst, arith}
-use Rattle.hand_register.specs.Desks.{record_of}
 use Rattle.log_service.specs.Places.{Place, IsSeatOf}
 use Rattle.region_lock.specs.Answers.{is_sync, put_answer}
 use Rattle.region_lock.specs.Puts.{IsFaultExact}
@@ -15,7 +14,7 @@ put_at-answer-requires-clause-caller g c =
     let p = c.index_mut.result.now in
     let k = c.place_of-place.result in
     let u = used pass.handler pass.calls c.args.self.now.regions c.args.region k pass.regions.items p c.requires.of.count c.place_of-place.ensures.place c.requires.region.0 c.place_of-place.ensures.few c.requires.of.hands c.index_mut.ensures.value in
-    (sym u.hand.number, below_more (pass.calls + 1) c.args.call (record_of p.hand).list (omega (arith, c.requires.call)) u.hand.called)
+    (sym u.hand.number, below_more (pass.calls + 1) c.args.call p.hand.record.list (omega (arith, c.requires.call)) u.hand.called)
 
 pub returns-clause-puts : goal.returns-clause-puts
 returns-clause-puts g c =

@@ -1,6 +1,5 @@
 use Rattle.std.proofs.Common.{ℕ, ◌+◌, [], length, refl, ap, ◌∙◌, arith}
-use Rattle.hand_register.specs.declared.hand.Hand.{Hand}
-use Rattle.hand_register.specs.Desks.{record_of}
+use Rattle.hand_register.specs.Views.{HandView}
 use Rattle.region_model.specs.Calls.{ScanMemory}
 use Rattle.region_model.specs.Lines.{Line, last_in}
 use Rattle.region_lock.proofs.Lists.{length_set}
@@ -26,8 +25,8 @@ returns-clause-later g c =
     let done = c.point_in in
     let k = c.place_of-place.result in
     let u = used pass.handler pass.calls c.args.self.now.regions c.args.region k pass.regions.items p c.requires.of.count c.place_of-place.ensures.place c.requires.region.0 c.place_of-place.ensures.few c.requires.of.hands c.index_mut.ensures.value in
-    let scans = scan_none (length pass.regions.items) (g.N.Naming-4.base p.viewer.region) [] [] p.viewer.region done.new.at.viewer.region (record_of p.hand).list (record_of done.new.at.hand).list p.viewer.lines done.new.at.viewer.lines
-    (record_of p.told).list (record_of done.new.at.told).list pass.seat done.ensures.region (ap (λ (h : Hand Line). (record_of h).list) done.ensures.hand.0) (ap (λ (h : Hand ℕ). (record_of h).list) done.ensures.hand.1) done.ensures.later in
+    let scans = scan_none (length pass.regions.items) (g.N.Naming-4.base p.viewer.region) [] [] p.viewer.region done.new.at.viewer.region p.hand.record.list done.new.at.hand.record.list p.viewer.lines done.new.at.viewer.lines
+    p.told.record.list done.new.at.told.record.list pass.seat done.ensures.region (ap (λ (h : HandView Line). h.record.list) done.ensures.hand.0) (ap (λ (h : HandView ℕ). h.record.list) done.ensures.hand.1) done.ensures.later in
     (scans_used g.N.Naming-1.name g.N.Naming-4.base c.args.region k [] [] ScanMemory pass.handler pass.calls pass.regions.items p done.new.at pass.seat u c.place_of-place.ensures.bases refl scans).later
 
 pub returns-clause-own : goal.returns-clause-own
@@ -37,8 +36,8 @@ returns-clause-own g c =
     let done = c.point_in in
     let k = c.place_of-place.result in
     let u = used pass.handler pass.calls c.args.self.now.regions c.args.region k pass.regions.items p c.requires.of.count c.place_of-place.ensures.place c.requires.region.0 c.place_of-place.ensures.few c.requires.of.hands c.index_mut.ensures.value in
-    let scans = scan_none (length pass.regions.items) (g.N.Naming-4.base p.viewer.region) [] [] p.viewer.region done.new.at.viewer.region (record_of p.hand).list (record_of done.new.at.hand).list p.viewer.lines done.new.at.viewer.lines
-    (record_of p.told).list (record_of done.new.at.told).list pass.seat done.ensures.region (ap (λ (h : Hand Line). (record_of h).list) done.ensures.hand.0) (ap (λ (h : Hand ℕ). (record_of h).list) done.ensures.hand.1) done.ensures.later in
+    let scans = scan_none (length pass.regions.items) (g.N.Naming-4.base p.viewer.region) [] [] p.viewer.region done.new.at.viewer.region p.hand.record.list done.new.at.hand.record.list p.viewer.lines done.new.at.viewer.lines
+    p.told.record.list done.new.at.told.record.list pass.seat done.ensures.region (ap (λ (h : HandView Line). h.record.list) done.ensures.hand.0) (ap (λ (h : HandView ℕ). h.record.list) done.ensures.hand.1) done.ensures.later in
     (scans_used g.N.Naming-1.name g.N.Naming-4.base c.args.region k [] [] ScanMemory pass.handler pass.calls pass.regions.items p done.new.at pass.seat u c.place_of-place.ensures.bases refl scans).own
 
 pub returns-clause-of : goal.returns-clause-of

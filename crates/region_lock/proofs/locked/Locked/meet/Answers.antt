@@ -1,5 +1,4 @@
 use Rattle.std.proofs.Common.{◌≡◌, ℕ, ◌≤◌, ◌∙◌, subst, Contains}
-use Rattle.hand_register.specs.Desks.{record_of}
 use Rattle.region_model.specs.Lines.{last_in, handled_lines}
 use Rattle.region_lock.specs.Parts.{Part}
 use Rattle.region_versions.specs.Histories.{Beginning}
@@ -9,12 +8,12 @@ use Rattle.region_lock.proofs.Meeting.{met_at, holds_of}
 use Rattle.region_lock.proofs.locked.Locked.meet.Goals as goal
 
 pub returns-clause-spent : goal.returns-clause-spent
-returns-clause-spent g c = subst (λ (p : Part). (n : ℕ) → Contains (record_of c.meet_told.new.told).list n → n ≤ last_in p.state.base p.state.lines) (c.meet.ensures.same.0 ∙ c.self.view_is) c.meet_told.ensures.met
+returns-clause-spent g c = subst (λ (p : Part). (n : ℕ) → Contains c.meet_told.new.told.record.list n → n ≤ last_in p.state.base p.state.lines) (c.meet.ensures.same.0 ∙ c.self.view_is) c.meet_told.ensures.met
 
 pub returns-clause-met : goal.returns-clause-met
 returns-clause-met g c is n seat =
-    let spent = subst (λ (p : Part). (n : ℕ) → Contains (record_of c.meet_told.new.told).list n → n ≤ last_in p.state.base p.state.lines) (c.meet.ensures.same.0 ∙ c.self.view_is) c.meet_told.ensures.met in
-    let own = subst (λ (p : Part). (record_of c.meet.new.hand).list ≡ handled_lines c.meet.new.hand.number p.state.lines) c.self.view_is c.meet.ensures.own in
+    let spent = subst (λ (p : Part). (n : ℕ) → Contains c.meet_told.new.told.record.list n → n ≤ last_in p.state.base p.state.lines) (c.meet.ensures.same.0 ∙ c.self.view_is) c.meet_told.ensures.met in
+    let own = subst (λ (p : Part). c.meet.new.hand.record.list ≡ handled_lines c.meet.new.hand.number p.state.lines) c.self.view_is c.meet.ensures.own in
     let history = c.self.inside.history in
     let viewed = c.args.at.now.viewer.lines in
     let within = subst (λ (b : Beginning). IsPrefix viewed b.lines) c.front.ensures (holds_of _ c.is_within.result c.is_within.ensures is) in

@@ -1,12 +1,11 @@
 use Rattle.std.proofs.Common.{ap, ◌∙◌}
-use Rattle.hand_register.specs.Desks.{records}
 use Rattle.region_lock.proofs.NewPart.{part_new, len_replicate}
 use Rattle.region_lock.proofs.locked.Locked.of.Goals as goal
 use Rattle.std.proofs.Common.{length}
 
 pub invariant_of-part : goal.invariant_of-part
 invariant_of-part g c = (
-  part_new (g.N.Naming-1.flushes c.args.state.region) c.args.state.region c.args.state.base c.args.state.lines g.N.Naming-1.handlers (records c.args.desk) (records c.args.spent) g.N.Naming-2.ring g.N.Naming-2.lasts c.args.pass
+  part_new (g.N.Naming-1.flushes c.args.state.region) c.args.state.region c.args.state.base c.args.state.lines g.N.Naming-1.handlers c.args.desk.records c.args.spent.records g.N.Naming-2.ring g.N.Naming-2.lasts c.args.pass
       c.requires.lines c.requires.desk.1 c.requires.spent.1 c.requires.pass c.requires.last,
   record {
     desk = c.requires.desk.0;

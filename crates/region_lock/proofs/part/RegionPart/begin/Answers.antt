@@ -1,5 +1,5 @@
 use Rattle.std.proofs.Common.{◌≡◌, ℕ, ◌+◌, ◌-◌, ◌^◌, ◌<◌, ◌≤◌, List, [], ◌∷◌, ◌++◌, length, get_or, Some, refl, sym, ap, ◌∙◌, subst, arith}
-use Rattle.hand_register.specs.Desks.{records, record_of, with_value}
+use Rattle.hand_register.specs.Desks.{with_value}
 use Rattle.region_model.specs.Journal.{Follows}
 use Rattle.region_model.specs.Lines.{Line, edits_in}
 use Rattle.region_state.specs.States.{State, write_point}
@@ -21,9 +21,9 @@ push-requires-clause-whole g c =
 pub begin_edit-entry-requires-clause-call : goal.begin_edit-entry-requires-clause-call
 begin_edit-entry-requires-clause-call g c x is same =
     let h = c.args.hand.now.number in
-    let given : 1 ≤ h = c.args.hand.now.given in
+    let given : 1 ≤ h = c.meet.ensures.given in
     let k : h - 1 + 1 ≡ h = omega (arith, given) in
-    next_call (records c.self.inside.desk) c.self.inside.state.lines (h - 1) c.args.job.caller.call (record_of c.args.hand.now) c.self.invariant.0.own c.meet.ensures.met c.requires.caller.1 x is (same ∙ c.requires.caller.0 ∙ sym k)
+    next_call c.self.inside.desk.records c.self.inside.state.lines (h - 1) c.args.job.caller.call c.args.hand.now.record c.self.invariant.0.own c.meet.ensures.met c.requires.caller.1 x is (same ∙ c.requires.caller.0 ∙ sym k)
 
 pub invariant_of-self : goal.invariant_of-self
 invariant_of-self g c =
@@ -31,7 +31,7 @@ invariant_of-self g c =
     let s : State = c.self.inside.state in
     let j = c.args.job in
     let h = c.args.hand.now.number in
-    let given : 1 ≤ h = c.args.hand.now.given in
+    let given : 1 ≤ h = c.meet.ensures.given in
     let k : h - 1 + 1 ≡ h = omega (arith, given) in
     let n = write_point s + 1 in
     let x : Line = line_of n j in
@@ -42,7 +42,7 @@ invariant_of-self g c =
     let number : Some c.stamp.new.truck.number ≡ Some n = ap (λ (t : Haul). Some t.number) c.stamp.ensures.truck ∙ ap Some drawn in
     let lines : c.journal-lines.result.now ≡ s.lines ++ x ∷ [] = c.journal-lines.ensures.lines ∙ ap (λ (t : State). t.lines) c.begin_edit-entry.ensures.lines in
     let added : c.index-lines-lines.result ≡ x = c.index-lines-lines.is ∙ ap (λ (l : List Line). get_or l (length l - 1) c.index-lines-lines.result) lines ∙ last_is s.lines x c.index-lines-lines.result in
-    let p = part_begun _ s.region s.base s.lines _ _ _ c.self.inside.pass c.push.new.pass (h - 1) (record_of c.args.hand.now) x _ i.0 c.in-Ok.ensures.pushed c.push.ensures.same.1 c.meet.ensures.met (c.requires.caller.0 ∙ sym k) refl
+    let p = part_begun _ s.region s.base s.lines _ _ _ c.self.inside.pass c.push.new.pass (h - 1) c.args.hand.now.record x _ i.0 c.in-Ok.ensures.pushed c.push.ensures.same.1 c.meet.ensures.met (c.requires.caller.0 ∙ sym k) refl
     (held, tt) number in
     rw (c.begin_edit-entry.ensures.lines, c.add.ensures.desk, c.add.ensures.hand, added, c.meet.ensures.same.0, c.meet.ensures.same.1, c.meet.ensures.still.0) (
       p,
@@ -52,7 +52,7 @@ invariant_of-self g c =
         ring = c.push.ensures.same.0 ∙ i.1.ring;
         region = c.push.ensures.same.1 ∙ i.1.region;
         known = i.1.known;
-        hands = length_set (records c.self.inside.desk) (h - 1) (with_value (record_of c.args.hand.now) x) ∙ i.1.hands;
+        hands = length_set c.self.inside.desk.records (h - 1) (with_value c.args.hand.now.record x) ∙ i.1.hands;
       },
     )
 
@@ -70,9 +70,9 @@ returns-in-Ok-clause-begun g c =
     let room : s.room - 1 ≡ c.begin_edit-entry.new.self.room = sym (ap (λ (t : State). t.room) c.begin_edit-entry.ensures.lines) in
     let now : c.begin_edit-entry.new.self ≡ record s { lines = s.lines ++ line_of e j ∷ []; room = c.begin_edit-entry.new.self.room } =
     c.begin_edit-entry.ensures.lines ∙ (λ d. record s { lines = s.lines ++ line_of (back d) j ∷ []; room = room d }) in
-    let hand : record_of c.add.new.hand ≡ with_value (record_of c.args.hand.now) (line_of e j) =
+    let hand : c.add.new.hand.record ≡ with_value c.args.hand.now.record (line_of e j) =
     c.add.ensures.hand ∙ (λ i. with_value (c.meet.ensures.same.1 i) ((added ∙ ap (λ (m : ℕ). line_of m j) (sym drew)) i)) in
     let st = c.begin_edit-entry.ensures.lines in
     let all : Follows s.base.last (edits_in s.region (s.lines ++ x ∷ [])) = subst (λ (t : State). Follows t.base.last (edits_in t.region t.lines)) st c.journal-lines.ensures.journal.numbers in
-    let below = own_upto s.region s.base.last (c.args.hand.now.number - 1) (records c.self.inside.desk) s.lines (record_of c.args.hand.now) (follows_front s.region s.base.last s.lines (x ∷ []) all) i.0.own c.meet.ensures.met in
+    let below = own_upto s.region s.base.last (c.args.hand.now.number - 1) c.self.inside.desk.records s.lines c.args.hand.now.record (follows_front s.region s.base.last s.lines (x ∷ []) all) i.0.own c.meet.ensures.met in
     rw (← c.self.view_is) (drew, ap (λ (t : State). record { state = t; mark = c.self.inside.mark }) now, hand, (λ y is. let lt : y.number < write_point s + 1 = below y is in omega (arith, drew, lt)))

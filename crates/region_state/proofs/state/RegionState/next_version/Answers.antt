@@ -7,7 +7,7 @@ use Rattle.region_model.proofs.VisibleLaws.{visible_all}
 use Rattle.write_queue.specs.Numbers.{Numbers, completed}
 use Rattle.region_state.specs.Layers.{AreLayers, taken}
 use Rattle.region_state.specs.States.{State, IsReadPoint}
-use Rattle.region_state.specs.Versions.{Shown, shown_at, content_of}
+use Rattle.region_state.specs.Versions.{Shown, shown_at, shown_content}
 use Rattle.region_state.proofs.MarkTies.{all_completed, length_take, point_within, front_le}
 use Rattle.region_state.proofs.StateLaws.{mark_point, read_point_is, region_caught, shown_from}
 use Rattle.region_state.proofs.state.RegionState.next_version.Goals as goal
@@ -65,8 +65,8 @@ returns-clause-cells c =
     let is = c.«in_ok-new».ensures.ok ∙ c.new.ensures in
     let point = read_point_is s.region s.base s.lines.items s.queue.numbers s.layers.merged s.layers.waiting p c.self.invariant c.«read_point-point».ensures in
     let law = sym (visible_all s.region s.base.content s.base.last p s.lines.items c.self.invariant.journal.numbers point.least) in
-    subst (λ (v : Shown). cells_of (content_of v) ≡ visible c.args.self.now.base.content (edits_in c.args.self.now.region c.args.self.now.lines) v.point [] []) (sym is)
-    (subst (λ (w : State). cells_of (content_of (shown_at s.base p s.lines.items)) ≡ visible w.base.content (edits_in w.region w.lines) p [] []) c.self.view_is law)
+    subst (λ (v : Shown). cells_of (shown_content v) ≡ visible c.args.self.now.base.content (edits_in c.args.self.now.region c.args.self.now.lines) v.point [] []) (sym is)
+    (subst (λ (w : State). cells_of (shown_content (shown_at s.base p s.lines.items)) ≡ visible w.base.content (edits_in w.region w.lines) p [] []) c.self.view_is law)
 
 pub returns-clause-completed : goal.returns-clause-completed
 returns-clause-completed c =

@@ -1,12 +1,15 @@
-use Rattle.std.proofs.Common.{refl, ◌∙◌, ap, List, ℕ, ◌++◌, arith, length}
+use Rattle.std.proofs.Common.{rules, refl, ◌∙◌, ap, List, ℕ, ◌++◌, arith, length}
 use Rattle.store_file.specs.Open.{OpenStore, fields_text}
 use Rattle.store_file.proofs.Stores.{begin_moments}
 use Rattle.store_file.proofs.Writing.{begun_filling}
 use Rattle.store_file.proofs.file.StoreFile.begin_with.Goals as goal
 
-pub returns-in_err-create_durably-clause-any_moment : goal.returns-in_err-create_durably-clause-any_moment
-returns-in_err-create_durably-clause-any_moment g c told =
-    begin_moments c.args.name (g.D.Disk.view c.args.disk.now) (g.D.Disk.view c.create_durably.new.disk) (c.create_durably.ensures.any_moment told)
+pub returns-in_err-create_durably-clause-begins : goal.returns-in_err-create_durably-clause-begins
+returns-in_err-create_durably-clause-begins g c told = record {
+  filling = search rules;
+  never_there = begin_moments c.args.name (g.D.Disk.view c.args.disk.now) (g.D.Disk.view c.create_durably.new.disk) (c.create_durably.ensures.any_moment told);
+  no_other_file = c.create_durably.ensures.touches told;
+}
 
 pub invariant_of-result : goal.invariant_of-result
 invariant_of-result g c = record {
@@ -15,12 +18,12 @@ invariant_of-result g c = record {
   counted = omega arith;
 }
 
-pub returns-clause-begun : goal.returns-clause-begun
-returns-clause-begun g c told =
+pub returns-clause-begins : goal.returns-clause-begins
+returns-clause-begins g c told =
     let o : OpenStore = record { name = c.args.name; from = c.args.from; to = c.args.to; count = c.args.count; filled = 0; at = 1; bytes = c.add_fields.new.self } in
-    begun_filling o (g.D.Disk.view c.create_durably.new.disk) (c.in_ok-create_durably.ensures.durable told) refl
-    (c.add_fields.ensures.bytes ∙ ap (λ (l : List ℕ). l ++ fields_text c.args.name.region c.args.from c.args.to c.args.count) c.requires.«empty») refl
-
-pub returns-clause-any_moment : goal.returns-clause-any_moment
-returns-clause-any_moment g c told =
-    begin_moments c.args.name (g.D.Disk.view c.args.disk.now) (g.D.Disk.view c.create_durably.new.disk) (c.create_durably.ensures.any_moment told)
+    record {
+      filling = begun_filling o (g.D.Disk.view c.create_durably.new.disk) (c.in_ok-create_durably.ensures.durable told) refl
+          (c.add_fields.ensures.bytes ∙ ap (λ (l : List ℕ). l ++ fields_text c.args.name.region c.args.from c.args.to c.args.count) c.requires.«empty») refl;
+      never_there = begin_moments c.args.name (g.D.Disk.view c.args.disk.now) (g.D.Disk.view c.create_durably.new.disk) (c.create_durably.ensures.any_moment told);
+      no_other_file = c.create_durably.ensures.touches told;
+    }

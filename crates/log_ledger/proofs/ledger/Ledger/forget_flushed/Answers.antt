@@ -1,0 +1,54 @@
+use Rattle.std.proofs.Common.{◌≡◌, ◌+◌, List, length, subst, sym, ap, ◌∙◌, arith}
+use Rattle.seq_accounting.specs.Accounts.{ClosedFile, unflushed}
+use Rattle.log_ledger.specs.Books.{Books, AreInOrder}
+use Rattle.log_ledger.proofs.Steps.{ForgottenBy}
+use Rattle.log_ledger.proofs.Logs.{counted_length}
+use Rattle.log_ledger.proofs.Flushed.{counted_forgotten}
+use Rattle.log_ledger.proofs.Orders.{order_forgotten}
+use Rattle.log_ledger.proofs.ledger.Ledger.forget_flushed.Goals as goal
+
+-- the ledger's numbers behind the call
+abbrev after : goal.After-forget_lower → Books
+after c = record {
+  drawn = c.self.inside.drawn;
+  synced = c.self.inside.synced;
+  stored = c.self.inside.stored;
+  closed = c.self.inside.closed;
+  next_store = c.self.inside.next_store;
+  accounts = c.forget_lower.new.self;
+  chains = c.self.inside.chains;
+}
+
+forgotten : (c : goal.After-forget_lower) → ForgottenBy c.args.self.now (after c)
+forgotten c =
+    let was = c.self.view_is in record {
+      same = record {
+        drawn = λ i. (was i).drawn;
+        synced = λ i. (was i).synced;
+        stored = λ i. (was i).stored;
+        closed = λ i. (was i).closed;
+        next_store = λ i. (was i).next_store;
+        flushed = c.forget_lower.ensures.numbers.flushed ∙ (λ i. (was i).accounts.flushed);
+      };
+      noted = c.forget_lower.ensures.numbers.noted ∙ (λ i. (was i).accounts.noted);
+      flushing = c.forget_lower.ensures.numbers.flushing ∙ (λ i. (was i).accounts.flushing);
+      current = c.forget_lower.ensures.current ∙ (λ i. (was i).accounts.current);
+      files = c.forget_lower.ensures.closed ∙ (λ i. unflushed (was i).accounts.flushed (was i).accounts.closed);
+      last = c.forget_lower.ensures.last ∙ (λ i. (was i).accounts.last);
+      chains = λ i. (was i).chains;
+    }
+
+fewer : (c : goal.After-forget_lower) → length c.forget_lower.new.self.closed + c.forget_lower.result ≡ length c.args.self.now.accounts.closed
+fewer c = c.forget_lower.ensures.count ∙ ap (λ (b : Books). length b.accounts.closed) c.self.view_is
+
+pub invariant_of-self : goal.invariant_of-self
+invariant_of-self c = order_forgotten c.args.self.now (after c) (subst AreInOrder c.self.view_is c.self.invariant) (forgotten c)
+
+pub returns-clause-counted : goal.returns-clause-counted
+returns-clause-counted c h counted =
+    let found = counted_forgotten c.args.self.now (after c) h (subst AreInOrder c.self.view_is c.self.invariant) (forgotten c) counted in
+    let long = counted_length c.args.self.now c.args.self.now.accounts.closed h.logs counted.logs in
+    (found.0, found.1, omega (arith, found.2, fewer c, long), found.3)
+
+pub returns-clause-fewer : goal.returns-clause-fewer
+returns-clause-fewer c = fewer c

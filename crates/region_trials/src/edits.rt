@@ -1,0 +1,129 @@
+//! Edits of one region, and what its versions show of them.
+
+ghost use Rattle.std.specs.Prelude.{◌≡◌, [], ◌+◌, ◌<◌, ◌≤◌, ◌^◌, IfOk, OnOk};
+ghost use Rattle.region_state.specs.States.{write_point};
+ghost use Rattle.region_state.specs.Calls.{AreBelow};
+
+use kv_cell::{Batch, Cell};
+use mem_segments::{Base, Draft, Segment};
+use region_state::{Caller, Ended, RegionState, Version};
+use std::alloc::Global;
+use std::sync::Arc;
+use std::test::Fail;
+
+/// A region with no cell, and room in its journal for numbers from 1 on.
+fn empty_region(alloc: Global) -> Result<RegionState, Fail>
+    ensures { IfOk result (λ s. (s.lines ≡ []) × (s.base.last ≡ 0)) }
+{
+    let base = Base {
+        cells: Arc::new(alloc, Segment::new(alloc))?,
+        last: 0,
+    };
+    Ok(RegionState::new(alloc, 1, base)?)
+}
+
+/// One cell of a row with this byte string.
+fn batch_of(alloc: Global, row: &[u8]) -> Result<Arc<Batch, Global>, Fail> {
+    let mut cells = Vec::new(alloc);
+    cells.push(Cell::new(alloc, row, b"f", b"q", 1, 4, b"v")?)?;
+    Ok(Arc::new(alloc, Batch::new(cells)?)?)
+}
+
+/// Puts one row, with the call's number as that of the edit.
+fn put(
+    alloc: Global,
+    state: &mut RegionState,
+    call: u32,
+    row: &[u8],
+    ended: Ended,
+) -> Result<u64, Fail>
+    requires below { AreBelow call state.old.lines }
+    requires number { write_point state.old + 1 < 2 ^ 48 }
+    ensures below { OnOk result (AreBelow (call + 1) state.new.lines) }
+    ensures number { OnOk result (write_point state.new ≡ write_point state.old + 1) }
+{
+    let batch = batch_of(alloc, row)?;
+    let draft = Draft::new(alloc, &batch)?;
+    state.ready()?;
+    let caller = Caller { handler: 1, call };
+    let entry = state.begin_edit(caller, 1000, batch, draft);
+    Ok(state.end_edit(entry, ended))
+}
+
+/// The numbers of the cells that the next version shows.
+fn shown_numbers(alloc: Global, state: &mut RegionState) -> Result<Vec<u64>, Fail>
+    ensures { state.new.lines ≡ state.old.lines }
+{
+    let version = state.next_version(alloc)?;
+    let mut numbers = Vec::new(alloc);
+    let mut walk = version.scan(alloc, b"", b"")?;
+    while let Some((number, _)) = walk.next() {
+        numbers.push(number)?;
+    }
+    Ok(numbers)
+}
+
+/// A value that threads may share.
+fn share<T: Send + Sync>(_value: &T) {}
+
+#[test]
+fn failed_edit_is_not_shown(rt: HostRuntime) -> Result<(), Fail> {
+    let alloc = rt.alloc();
+    let mut state = empty_region(alloc)?;
+    assert_eq!(rt; put(alloc, &mut state, 1, b"row", Ended::Done)?, 1);
+    assert_eq!(rt; put(alloc, &mut state, 2, b"row", Ended::Failed)?, 2);
+    assert_eq!(rt; put(alloc, &mut state, 3, b"row", Ended::Done)?, 3);
+    assert_eq!(rt;
+        shown_numbers(alloc, &mut state)?.as_slice(),
+        [3, 1].as_slice()
+    );
+    assert_eq!(rt; state.journal().len(), 3);
+    let version = state.next_version(alloc)?;
+    assert_eq!(rt; version.point(), 3);
+    share(&version);
+    share(&state);
+    Ok(())
+}
+
+const EDITS: u32 = 20_000;
+
+/// How many rows of a version stand in segments that the version before it, which is still held, doesn't share. The
+/// region and the version hold each segment once, and the version before a shared one too.
+fn rows_made(version: &Version) -> usize {
+    let mut made = 0_usize;
+    for part in version.segments() {
+        if Arc::strong_count(part) <= 2 {
+            made = made.saturating_add(part.len());
+        }
+    }
+    made
+}
+
+/// Puts a row of its own under each call, and shows it: how many rows all versions together made, and the greatest
+/// number of segments that one of them has.
+fn put_many(alloc: Global, state: &mut RegionState) -> Result<(usize, usize), Fail>
+    requires { (state.old.lines ≡ []) × (state.old.base.last ≡ 0) }
+{
+    let mut shown = state.next_version(alloc)?;
+    let mut made = 0_usize;
+    let mut most = 0_usize;
+    for call in 1..EDITS + 1 {
+        put(alloc, state, call, &call.to_be_bytes(), Ended::Done)?;
+        let version = state.next_version(alloc)?;
+        made = made.saturating_add(rows_made(&version));
+        most = most.max(version.segments().len());
+        shown = version;
+    }
+    Ok((made, most))
+}
+
+#[test]
+fn many_edits_stay_in_few_segments(rt: HostRuntime) -> Result<(), Fail> {
+    let alloc = rt.alloc();
+    let mut state = empty_region(alloc)?;
+    let (made, most) = put_many(alloc, &mut state)?;
+    assert!(rt; most <= 15);
+    assert!(rt; made <= 20_000 * 15);
+    assert!(rt; made >= 20_000);
+    Ok(())
+}

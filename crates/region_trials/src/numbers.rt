@@ -1,0 +1,104 @@
+//! Numbers that are drawn in order and completed in any.
+
+ghost use Rattle.std.specs.Prelude.{◌≡◌, ◌<◌, ◌≤◌, ◌∷◌, [], MatchOption};
+ghost use Rattle.std.specs.VecDeque.{deque_capacity, deque_len};
+ghost use Rattle.write_queue.specs.Numbers.{Numbers};
+ghost use Rattle.write_queue.specs.Flights.{AreOut};
+
+use std::collections::VecDeque;
+use std::process::Abort;
+use std::test::Fail;
+use write_queue::{WriteEntry, WriteQueue};
+
+#[test]
+fn completions_in_any_order(rt: HostRuntime) -> Result<(), Fail> {
+    let mut queue = WriteQueue::new(rt.alloc(), 0)?;
+    queue.reserve(3)?;
+    let first = queue.begin();
+    let second = queue.begin();
+    let third = queue.begin();
+    assert_eq!(rt; queue.complete(third), 0);
+    assert_eq!(rt; queue.complete(first), 1);
+    assert_eq!(rt; queue.complete(second), 3);
+    assert_eq!(rt; queue.write_point(), 3);
+    Ok(())
+}
+
+#[test]
+fn numbers_go_on_behind_an_advance(rt: HostRuntime) -> Result<(), Fail> {
+    let mut queue = WriteQueue::new(rt.alloc(), 7)?;
+    queue.reserve(1)?;
+    queue.advance_to(20);
+    let entry = queue.begin();
+    assert_eq!(rt; entry.number(), 21);
+    assert_eq!(rt; queue.read_point(), 20);
+    assert_eq!(rt; queue.complete(entry), 21);
+    Ok(())
+}
+
+const COUNT: usize = 200;
+
+// the load generator's next number
+fn next(x: u64) -> u64 {
+    x.wrapping_mul(6364136223846793005)
+        .wrapping_add(1442695040888963407)
+}
+
+// one of the entries, which this number picks
+fn pick(out: &mut VecDeque<WriteEntry>, x: u64) -> Option<WriteEntry>
+    ensures out { (q : Numbers) → AreOut q out.old.items → MatchOption result (deque_len out.new ≡ 0) (λ entry. AreOut q (entry ∷ out.new.items)) }
+    ensures fewer { MatchOption result (deque_len out.new ≡ 0) (λ entry. deque_len out.new < deque_len out.old) }
+{
+    if out.is_empty() {
+        return None;
+    }
+    let turn = (x >> 33) as usize % out.len();
+    out.rotate_left(turn);
+    match out.pop_front() {
+        Some(entry) => Some(entry),
+        None => None,
+    }
+}
+
+// the greatest number up to which each is completed, looked up
+fn point_of(done: &[bool]) -> usize {
+    done.iter().position(|d| !*d).unwrap_or(done.len())
+}
+
+fn begin_all(queue: &mut WriteQueue, out: &mut VecDeque<WriteEntry>)
+    requires queue { queue.old.numbers ≡ record { last = 0; done = [] } }
+    requires room { COUNT ≤ queue.old.room }
+    requires none { out.old.items ≡ [] }
+    requires place { COUNT ≤ deque_capacity out.old }
+    ensures { AreOut queue.new.numbers out.new.items }
+{
+    for _begun in 0..COUNT {
+        out.push_back_reserved(queue.begin());
+    }
+}
+
+fn complete_all(rt: &impl Abort, queue: &mut WriteQueue, mut out: VecDeque<WriteEntry>)
+    requires { AreOut queue.old.numbers out.items }
+{
+    let mut done = [false; COUNT];
+    let mut x = 1;
+    while let Some(entry) = pick(&mut out, x) {
+        if let Some(mark) = done.get_mut(entry.number().saturating_sub(1) as usize) {
+            *mark = true;
+        }
+        assert_eq!(rt; queue.complete(entry), point_of(&done) as u64);
+        x = next(x);
+    }
+    out.destroy_empty();
+    assert_eq!(rt; queue.read_point(), 200);
+}
+
+#[test]
+fn two_hundred_in_the_order_of_the_generator(rt: HostRuntime) -> Result<(), Fail> {
+    let mut queue = WriteQueue::new(rt.alloc(), 0)?;
+    queue.reserve(COUNT)?;
+    let mut out = VecDeque::with_capacity(rt.alloc(), COUNT)?;
+    begin_all(&mut queue, &mut out);
+    complete_all(&rt, &mut queue, out);
+    Ok(())
+}

@@ -1,5 +1,0 @@
-//! Worked store files.
-
-mod one_file;
-mod reading;
-mod writing;
