@@ -86,7 +86,7 @@ module _ (D N : RattleType) (f : DiskGhosts D.Denot) (g : Ghosts N.Denot) where
         search (ring.the_sync, item_send, sendable, crosses) depth 20,
         (
           search (ring.the_sync, load_send, sendable, crosses) depth 20,
-          (search (berth.the_sync, first, sendable, crosses) depth 20, (search (berth.the_sync, second, sendable, crosses) depth 20, (search sendable, (search (sendable, crosses) fits 5000 depth 30, tt)))),
+          (search (berth.the_sync, first, sendable, crosses) depth 20, (search (berth.the_sync, second, sendable, crosses) depth 20, (search sendable, (search (sendable, crosses) fits 5000 depth 30, (search (sendable, crosses) fits 5000 depth 30, tt))))),
         ),
       ))
 

@@ -74,7 +74,7 @@ closed_over n b old new low raised closed r above within =
     omega (arith, low (r - 1), first, last, raised (n + n + r - 1) (omega (arith, above, within)), ap (λ (k : ℕ). get_or b.synced k 0) here, ap (λ (k : ℕ). get_or b.closed k 0) there, ap (λ (l : List ℕ). get_or l r 0) closed)
 
 -- so is the stored word at the region's number
-pub stored_over : (n : ℕ) (b : Books) (new : List ℕ) → ((i : ℕ) → i < 3 * n → get_or new i 0 ≡ get_or (told_numbers n b) i 0) → (r : ℕ) → 0 < r → r ≤ n → get_or b.stored r 0 ≤ get_or new (n + r - 1) 0
+pub stored_over : (n : ℕ) (b : Books) (new : List ℕ) → ((i : ℕ) → i < 3 * n → get_or new i 0 ≡ get_or (told_numbers n b) i 0) → (r : ℕ) → 0 < r → r ≤ n → get_or b.stored r 0 ≡ get_or new (n + r - 1) 0
 stored_over n b new raised r above within =
     let at = told_stored n b (n + r - 1) (omega (arith, above)) (omega (arith, above, within)) in
     let there : (n + r - 1 - n) + 1 ≡ r = omega (arith, above) in

@@ -64,6 +64,7 @@ impl<D: Disk, N: Naming> LogService<D, N> {
             device,
             regions: _,
             turns: _,
+            shows: _,
         } = self;
         let LogSeats { consumers, devices } = seats;
         let Berthed {

@@ -1,5 +1,5 @@
 //! The work of a device's turn.
-ghost use Rattle.std.specs.Prelude.{◌≡◌, ◌++◌, ℕ, List, [], ◌∷◌, length};
+ghost use Rattle.std.specs.Prelude.{◌≡◌, ◌≤◌, ◌+◌, ◌++◌, IsTrue, ℕ, List, [], ◌∷◌, length};
 ghost use Rattle.crossbeam_queue.specs.Passes.{view};
 ghost use Rattle.disk_images.specs.Calls.{Rose};
 ghost use Rattle.log_trucks.specs.Held.{Held};
@@ -40,6 +40,8 @@ impl<D: Disk, N: Naming> DeviceHalf<D, N> {
         ensures fault { result ≡ Commit.WriteFault → IsBroken self.new.device × Rose (D.faults (disk_of self.old.device)) (D.faults (disk_of self.new.device)) }
         ensures later { TellsLater self.old.regions self.old.device self.new.regions self.new.device }
         ensures same { self.new.regions ≡ self.old.regions }
+        ensures clock { IsTrue D.told → (D.view (disk_of self.new.device)).clock ≤ (D.view (disk_of self.old.device)).clock + 4 }
+        ensures some { (n : ℕ) → result ≡ Commit.Committed n → 1 ≤ n }
     {
         let Some(load) = hand.pop(rt, &mut self.consumer) else {
             return Commit::Clean;

@@ -1,22 +1,64 @@
 //! What was moved is committed, by who has both turns.
-ghost use Rattle.std.specs.Prelude.{◌≡◌, ◌<◌, ◌≤◌, [], get_or, IsTrue, IsFalse};
+ghost use Rattle.std.specs.Prelude.{◌≡◌, ◌<◌, ◌≤◌, ◌+◌, ◌⊎◌, [], length, get_or, IsTrue, IsFalse};
 ghost use Rattle.crossbeam_queue.specs.Passes.{view};
 ghost use Rattle.log_device.specs.Whole.{IsBroken, books_of};
 ghost use Rattle.log_service.specs.Numbers.{TellsLater};
-ghost use Rattle.log_service.specs.Moves.{WasFull};
+ghost use Rattle.log_service.specs.Moves.{WasEmpty, WasFull};
 
 use crate::committer::DeviceHalf;
 use crate::committing::Commit;
 use crate::consumer::ConsumerHalf;
 use crate::item::Item;
 use crate::load::Load;
+use crate::moving::Moves;
 use crate::name::Naming;
 use append_ring::Ring;
 use disk_images::Disk;
 use std::sync::Wait;
 use std::thread;
 
+/// How many items a roll and a flush move at least, where there are so many.
+const MOST: u64 = 1024;
+
 impl<N: Naming> ConsumerHalf<N> {
+    /// Moves items until the ring was empty at one moment, or 1,024 were moved. A load that they don't fit is committed, and the moves go
+    /// on. True where the device broke.
+    pub(crate) fn move_all<D: Disk, R: Wait>(
+        &mut self,
+        rt: &R,
+        ring: &Ring<Item>,
+        hand: &Ring<Load>,
+        committer: &mut DeviceHalf<D, N>,
+    ) -> bool
+        requires rings { (ring.now.id ≡ N.ring) × (hand.now.id ≡ N.hand) }
+        requires unbroken { IsBroken committer.old.device → ⊥ }
+        ensures failed { IsTrue result → IsBroken committer.new.device }
+        ensures unbroken { IsFalse result → IsBroken committer.new.device → ⊥ }
+        ensures moved { IsFalse result → WasEmpty (view self.new.consumer.pass)
+            ⊎ (length (view self.old.consumer.pass).popped + 1023 ≤ length (view self.new.consumer.pass).popped) }
+        ensures later { TellsLater committer.old.regions committer.old.device committer.new.regions committer.new.device }
+        ensures same { committer.new.regions ≡ committer.old.regions }
+    {
+        let mut moved = 0;
+        for _move in rt.forever() {
+            match self.move_items(rt, ring) {
+                Moves::Empty => return false,
+                Moves::Moved(count) => {
+                    moved += count;
+                    if moved >= MOST {
+                        return false;
+                    }
+                }
+                Moves::StageFull => {
+                    if self.drain(rt, hand, committer) {
+                        return true;
+                    }
+                }
+            }
+        }
+        unreachable!()
+    }
+
     /// Commits the loads in the ring of loads until it was empty at one moment, the own load among them. True where the device broke.
     pub(crate) fn drain<D: Disk, R: Wait>(
         &mut self,
@@ -64,6 +106,7 @@ impl<N: Naming> ConsumerHalf<N> {
         ensures failed { IsTrue result → IsBroken committer.new.device }
         ensures unbroken { IsFalse result → IsBroken committer.new.device → ⊥ }
         ensures done { IsFalse result → upto ≤ get_or (books_of committer.new.device).synced region 0 }
+        ensures grows { length (view self.old.consumer.pass).popped ≤ length (view self.new.consumer.pass).popped }
         ensures later { TellsLater committer.old.regions committer.old.device committer.new.regions committer.new.device }
         ensures same { committer.new.regions ≡ committer.old.regions }
     {

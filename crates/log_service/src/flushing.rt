@@ -1,10 +1,10 @@
 //! A region's entries go into a store file.
-ghost use Rattle.std.specs.Prelude.{◌≡◌, ◌≤◌, ◌<◌, ◌↔◌, ℕ, true, [], get_or, Err, IfOk, OnOk, IsErrOf};
+ghost use Rattle.std.specs.Prelude.{◌≡◌, ◌≤◌, ◌<◌, ◌+◌, ◌⊎◌, ◌↔◌, ℕ, true, [], length, get_or, Err, IfOk, OnOk, IsErrOf};
 ghost use Rattle.crossbeam_queue.specs.Passes.{view};
 ghost use Rattle.disk_images.specs.Calls.{Rose};
 ghost use Rattle.log_device.specs.Whole.{IsBroken, disk_of, books_of};
 ghost use Rattle.log_service.specs.Numbers.{TellsLater, seen_stored};
-ghost use Rattle.log_service.specs.Moves.{WasFull};
+ghost use Rattle.log_service.specs.Moves.{WasEmpty, WasFull};
 ghost use Rattle.log_service.specs.Places.{IsSeatOf, IsLaterSeat};
 
 use crate::archived::flush_archived;
@@ -40,7 +40,8 @@ impl<D: Disk, N: Naming> DeviceHalf<D, N> {
 }
 
 impl<N: Naming> ConsumerHalf<N> {
-    /// Moves and commits the region's entries up to a number, commits all else that was moved, and flushes the region.
+    /// Moves and commits the region's entries up to a number, moves on until the ring was empty at one moment or 1,024 items were moved, commits
+    /// all that was moved, and flushes the region.
     fn flush<D: Disk, R: Wait>(
         &mut self,
         rt: &R,
@@ -59,10 +60,15 @@ impl<N: Naming> ConsumerHalf<N> {
         ensures later { TellsLater committer.old.regions committer.old.device committer.new.regions committer.new.device }
         // The loads in the ring were committed until it was empty at one moment, and the own load with them.
         ensures drained { OnOk result ((self.new.load ≡ []) × WasFull 0 (view committer.new.consumer.pass)) }
+        ensures moved { OnOk result (WasEmpty (view self.new.consumer.pass)
+            ⊎ (length (view self.old.consumer.pass).popped + 1023 ≤ length (view self.new.consumer.pass).popped)) }
         ensures same { committer.new.regions ≡ committer.old.regions }
     {
         let (ring, hand) = rings;
         if self.move_up_to(rt, ring, hand, committer, region, upto) {
+            return Err(DeviceFlush::WriteFault);
+        }
+        if self.move_all(rt, ring, hand, committer) {
             return Err(DeviceFlush::WriteFault);
         }
         if self.drain(rt, hand, committer) {
@@ -94,6 +100,7 @@ impl<D: Disk, N: Naming> LogService<D, N> {
         ensures later { IsLaterSeat seat.old seat.new }
         ensures flushed { IfOk result (λ n. (upto ≤ n) × (n ≤ seen_stored self.now.regions seat.new.device.knows region)) }
         ensures nothing { (n : ℕ) → result ≡ Err (DeviceFlush.Nothing n) → (upto ≤ n) × (n ≤ seen_stored self.now.regions seat.new.device.knows region) }
+        ensures exact { IfOk result (λ n. n ≡ seen_stored self.now.regions seat.new.device.knows region) }
         ensures fault { IsErrOf result DeviceFlush.WriteFault ↔ (seat.new.device.knows.broken ≡ true) }
     {
         let (mut mover, mut turn) = self.take_both(rt, seat);

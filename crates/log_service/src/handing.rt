@@ -33,6 +33,7 @@ impl<N: Naming> ConsumerHalf<N> {
         requires hand { hand.now.id ≡ N.hand }
         ensures handed { (self.new.load ≡ []) ⊎ (((self.new.asked ≡ false) × (self.new.held ≡ None)) ⊎ WasFull hand.now.capacity (view self.old.hand.pass)) }
         ensures same { (view self.new.consumer.pass ≡ view self.old.consumer.pass) × (self.new.held ≡ self.old.held) }
+        ensures kept { self.old.asked ≡ false → self.old.held ≡ None → (self.new.load ≡ self.old.load) × (view self.new.hand.pass ≡ view self.old.hand.pass) }
     {
         if self.asked || self.held.is_some() {
             self.push_load(rt, hand);

@@ -86,6 +86,7 @@ impl<N: Naming> ConsumerHalf<N> {
             × ((xs : List TheItem) × (length xs ≡ n) × HasMoved (bench_of self.old) (bench_of self.new) xs) }
         ensures empty { result ≡ Moves.Empty → HasMoved (bench_of self.old) (bench_of self.new) [] × WasEmpty (view self.new.consumer.pass) }
         ensures full { result ≡ Moves.StageFull → HasMoved (bench_of self.old) (bench_of self.new) [] × IsTooLong (bench_of self.new) }
+        ensures grows { length (view self.old.consumer.pass).popped ≤ length (view self.new.consumer.pass).popped }
     {
         for moved in 0..MOST {
             if !self.refill(rt, ring) {

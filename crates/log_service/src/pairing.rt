@@ -19,7 +19,7 @@ use std::sync::Wait;
 use std::thread;
 
 impl<D: Disk, N: Naming> LogService<D, N> {
-    /// Takes both turns, the consumer's first, which it gives back where the device's is taken.
+    /// Takes both turns, the consumer's first, which it gives back where the device's is taken. Then it sleeps until that turn has ended.
     #[tactic(auto, using(crate::proofs::SeatLaws::later_trans))]
     pub(crate) fn take_both<R: Wait>(
         &self,
@@ -36,6 +36,7 @@ impl<D: Disk, N: Naming> LogService<D, N> {
         ensures later { IsLaterSeat seat.old seat.new }
     {
         for _try in rt.forever() {
+            let turns = self.turns();
             let Ok(mover) = self.consumer.take(&mut seat.consumer) else {
                 thread::yield_now();
                 continue;
@@ -44,7 +45,7 @@ impl<D: Disk, N: Naming> LogService<D, N> {
                 Ok(turn) => return (mover, turn),
                 Err(_) => {
                     self.consumer.give(&mut seat.consumer, mover);
-                    thread::yield_now();
+                    self.rest(rt, turns);
                 }
             }
         }

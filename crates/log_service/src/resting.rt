@@ -67,6 +67,22 @@ impl<D: Disk, N: Naming> LogService<D, N> {
         self.turns.rest(rt, turns);
     }
 
+    /// How often a put has told that it ended or showed an edit, modulo 2^64.
+    pub fn shows(&self) -> u64 {
+        self.shows.now()
+    }
+
+    /// Sleeps until a put has told so since `shows` was so many. It may also return for no reason. It is for who waits for an edit before its own
+    /// in its region: who ends or shows that one tells so afterwards.
+    pub fn rest_shows<R: Wait>(&self, rt: &R, shows: u64) {
+        self.shows.rest(rt, shows);
+    }
+
+    /// Tells who sleeps that an edit has ended, or was shown.
+    pub fn tell_show(&self) {
+        self.shows.raise();
+    }
+
     /// Tells who sleeps that a turn of the device has ended. Who gives that turn back calls it afterwards.
     pub(crate) fn tell_turn(&self) {
         self.turns.raise();

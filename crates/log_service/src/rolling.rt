@@ -1,15 +1,16 @@
 //! From one log file to the next.
-ghost use Rattle.std.specs.Prelude.{◌≡◌, ◌≤◌, ◌<◌, ◌↔◌, ℕ, true, [], Err, IfOk, OnOk, IsErrOf};
+ghost use Rattle.std.specs.Prelude.{◌≡◌, ◌≤◌, ◌<◌, ◌+◌, ◌⊎◌, ◌↔◌, ℕ, true, [], length, Err, IfOk, OnOk, IsErrOf};
 ghost use Rattle.crossbeam_queue.specs.Passes.{view};
 ghost use Rattle.disk_images.specs.Calls.{Rose};
 ghost use Rattle.log_device.specs.Whole.{IsBroken, disk_of, books_of};
 ghost use Rattle.log_service.specs.Numbers.{TellsLater, seen_synced, seen_closed};
-ghost use Rattle.log_service.specs.Moves.{WasFull};
+ghost use Rattle.log_service.specs.Moves.{WasEmpty, WasFull};
 ghost use Rattle.log_service.specs.Places.{IsSeatOf, IsLaterSeat};
 
 use crate::archived::roll_archived;
 use crate::committer::DeviceHalf;
 use crate::consumer::ConsumerHalf;
+use crate::item::Item;
 use crate::load::Load;
 use crate::name::Naming;
 use crate::seats::LogSeat;
@@ -37,15 +38,15 @@ impl<D: Disk, N: Naming> DeviceHalf<D, N> {
 }
 
 impl<N: Naming> ConsumerHalf<N> {
-    /// Commits all that was moved, and rolls.
+    /// Moves until the ring was empty at one moment or 1,024 items were moved, commits all that was moved, and rolls.
     fn roll<D: Disk, R: Wait>(
         &mut self,
         rt: &R,
         alloc: Global,
-        hand: &Ring<Load>,
+        rings: (&Ring<Item>, &Ring<Load>),
         committer: &mut DeviceHalf<D, N>,
     ) -> Result<Rolled, RollRefusal>
-        requires hand { hand.now.id ≡ N.hand }
+        requires rings { (rings.0.now.id ≡ N.ring) × (rings.1.now.id ≡ N.hand) }
         requires unbroken { IsBroken committer.old.device → ⊥ }
         ensures closed { OnOk result ((books_of committer.new.device).closed ≡ (books_of committer.new.device).synced) }
         ensures nothing { (n : ℕ) → result ≡ Err (RollRefusal.NothingToRoll n)
@@ -54,8 +55,14 @@ impl<N: Naming> ConsumerHalf<N> {
         ensures later { TellsLater committer.old.regions committer.old.device committer.new.regions committer.new.device }
         // The loads in the ring were committed until it was empty at one moment, and the own load with them.
         ensures drained { OnOk result ((self.new.load ≡ []) × WasFull 0 (view committer.new.consumer.pass)) }
+        ensures moved { OnOk result (WasEmpty (view self.new.consumer.pass)
+            ⊎ (length (view self.old.consumer.pass).popped + 1023 ≤ length (view self.new.consumer.pass).popped)) }
         ensures same { committer.new.regions ≡ committer.old.regions }
     {
+        let (ring, hand) = rings;
+        if self.move_all(rt, ring, hand, committer) {
+            return Err(RollRefusal::WriteFault);
+        }
         if self.drain(rt, hand, committer) {
             return Err(RollRefusal::WriteFault);
         }
@@ -67,7 +74,7 @@ impl<N: Naming> ConsumerHalf<N> {
 }
 
 impl<D: Disk, N: Naming> LogService<D, N> {
-    /// Takes both turns, commits all that was moved, rolls, and after Ok renames the closed logs that are wholly flushed. After Ok, and
+    /// Takes both turns, moves what was pushed, up to 1,024 items, commits all that was moved, rolls, and after Ok renames the closed logs that are wholly flushed. After Ok, and
     /// where there is nothing to roll, the seat has seen each closed word at or above the synced words that it had seen before.
     /// `WriteFault` exactly where the seat has then seen the fault.
     #[tactic(auto, using(crate::proofs::SeatLaws::later_trans))]
@@ -93,7 +100,8 @@ impl<D: Disk, N: Naming> LogService<D, N> {
             self.tell_turn();
             return Err(RollRefusal::WriteFault);
         }
-        let rolled = mover.ware.roll(rt, alloc, &self.hand, &mut turn.ware);
+        let rings = (&self.ring, &self.hand);
+        let rolled = mover.ware.roll(rt, alloc, rings, &mut turn.ware);
         self.give_both(seat, mover, turn);
         match rolled {
             Ok(rolled) => Ok(rolled),

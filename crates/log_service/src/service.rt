@@ -28,6 +28,8 @@ pub struct LogService<D: Disk, N: Naming> {
     pub(crate) regions: u32,
     // How many turns of the device have ended.
     pub(crate) turns: EventCount,
+    // How often a put has ended or shown an edit.
+    pub(crate) shows: EventCount,
 }
 
 impl<D: Disk, N: Naming> Model for LogService<D, N> {

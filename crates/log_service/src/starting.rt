@@ -173,6 +173,7 @@ impl<D: Disk, N: Naming> LogService<D, N> {
                     device: berth,
                     regions,
                     turns: EventCount::new(),
+                    shows: EventCount::new(),
                 },
                 passes: items.passes,
                 seats: LogSeats { consumers, devices },

@@ -1,11 +1,14 @@
 //! Turns.
-ghost use Rattle.std.specs.Prelude.{◌≡◌, ◌≤◌, ◌<◌, ◌+◌, ◌⊎◌, ◌↔◌, ℕ, true, false, slice_index, IsTrue, IsFalse};
+ghost use Rattle.std.specs.Prelude.{◌≡◌, ◌≤◌, ◌<◌, ◌+◌, ◌⊎◌, ◌↔◌, ◌++◌, ◌∷◌, [], List, length, ℕ, true, false, slice_index, IsTrue, IsFalse};
+ghost use Rattle.crossbeam_queue.specs.Passes.{view};
+ghost use Rattle.log_trucks.specs.Held.{Held};
+ghost use Rattle.log_service.specs.Moves.{WasFull};
 ghost use Rattle.log_berth.specs.Words.{NoMore, looked};
 ghost use Rattle.log_berth.specs.Turns.{turn_id};
 ghost use Rattle.log_device.specs.Whole.{IsBroken, books_of};
 ghost use Rattle.log_service.specs.Halves.{broken_of};
 ghost use Rattle.log_service.specs.Numbers.{told_numbers};
-ghost use Rattle.log_service.specs.Places.{IsSeatOf, IsLaterSeat, FoundTaken, HadTurn};
+ghost use Rattle.log_service.specs.Places.{IsSeatOf, IsLaterSeat, FoundTaken, HadTurn, LastFoundTaken, LastHadTurn};
 
 use crate::committer::DeviceHalf;
 use crate::committing::Commit;
@@ -17,6 +20,10 @@ use crate::service::LogService;
 use disk_images::Disk;
 use log_berth::{LogSeat as BerthSeat, Turn, Ware};
 use std::sync::Wait;
+use std::thread;
+
+/// How often a sync turn tries for the consumer's turn.
+const TRIES: u32 = 1000;
 
 /// What a consumer's turn did.
 #[derive(Clone, Copy, Debug, PartialEq, Eq)]
@@ -93,14 +100,39 @@ impl<D: Disk, N: Naming> LogService<D, N> {
         ensures tried { HadTurn seat.old.device.knows seat.new.device.knows
             ⊎ ((seat.new.consumer ≡ seat.old.consumer) × FoundTaken seat.old.device.knows seat.new.device.knows) }
         ensures busy { result ≡ SyncTurn.Busy
-            → (FoundTaken seat.old.consumer.knows seat.new.consumer.knows × HadTurn seat.old.device.knows seat.new.device.knows)
+            → (LastFoundTaken seat.old.consumer.knows seat.new.consumer.knows × HadTurn seat.old.device.knows seat.new.device.knows)
             ⊎ ((seat.new.consumer ≡ seat.old.consumer) × FoundTaken seat.old.device.knows seat.new.device.knows) }
-        ensures clean { result ≡ SyncTurn.Clean → HadTurn seat.old.consumer.knows seat.new.consumer.knows
+        ensures clean { result ≡ SyncTurn.Clean → LastHadTurn seat.old.consumer.knows seat.new.consumer.knows
             × HadTurn seat.old.device.knows seat.new.device.knows }
-        ensures synced { (n : ℕ) → result ≡ SyncTurn.Synced n → HadTurn seat.old.consumer.knows seat.new.consumer.knows
+        ensures synced { (n : ℕ) → result ≡ SyncTurn.Synced n → LastHadTurn seat.old.consumer.knows seat.new.consumer.knows
             × HadTurn seat.old.device.knows seat.new.device.knows }
         ensures fault { result ≡ SyncTurn.WriteFault → (seat.old.device.knows.broken ≡ false) × (seat.new.device.knows.broken ≡ true) }
-        ensures broken { result ≡ SyncTurn.Broken → seat.new.device.knows.broken ≡ true }
+        ensures broken { result ≡ SyncTurn.Broken → (seat.new.device.knows.broken ≡ true) × (seat.new.consumer ≡ seat.old.consumer) }
+        ensures some { (n : ℕ) → result ≡ SyncTurn.Synced n → 1 ≤ n }
+        ensures whole { ((n : ℕ) → result ≡ SyncTurn.Synced n → seat.new.device.knows.broken ≡ false)
+            × (result ≡ SyncTurn.Clean → seat.new.device.knows.broken ≡ false) }
+    {
+        self.turn_over(rt, seat, false)
+    }
+
+    /// The same. Before the load is handed over it may move up to 64 items, so that a commit has all that was pushed before it.
+    pub(crate) fn turn_over<R: Wait>(&self, rt: &R, seat: &mut LogSeat, moves: bool) -> SyncTurn
+        requires seat { IsSeatOf self.now seat.old }
+
+        ensures seat { IsSeatOf self.now seat.new }
+        ensures later { IsLaterSeat seat.old seat.new }
+        ensures tried { HadTurn seat.old.device.knows seat.new.device.knows
+            ⊎ ((seat.new.consumer ≡ seat.old.consumer) × FoundTaken seat.old.device.knows seat.new.device.knows) }
+        ensures busy { result ≡ SyncTurn.Busy
+            → (LastFoundTaken seat.old.consumer.knows seat.new.consumer.knows × HadTurn seat.old.device.knows seat.new.device.knows)
+            ⊎ ((seat.new.consumer ≡ seat.old.consumer) × FoundTaken seat.old.device.knows seat.new.device.knows) }
+        ensures clean { result ≡ SyncTurn.Clean → LastHadTurn seat.old.consumer.knows seat.new.consumer.knows
+            × HadTurn seat.old.device.knows seat.new.device.knows }
+        ensures synced { (n : ℕ) → result ≡ SyncTurn.Synced n → LastHadTurn seat.old.consumer.knows seat.new.consumer.knows
+            × HadTurn seat.old.device.knows seat.new.device.knows }
+        ensures fault { result ≡ SyncTurn.WriteFault → (seat.old.device.knows.broken ≡ false) × (seat.new.device.knows.broken ≡ true) }
+        ensures broken { result ≡ SyncTurn.Broken → (seat.new.device.knows.broken ≡ true) × (seat.new.consumer ≡ seat.old.consumer) }
+        ensures some { (n : ℕ) → result ≡ SyncTurn.Synced n → 1 ≤ n }
         ensures whole { ((n : ℕ) → result ≡ SyncTurn.Synced n → seat.new.device.knows.broken ≡ false)
             × (result ≡ SyncTurn.Clean → seat.new.device.knows.broken ≡ false) }
     {
@@ -111,7 +143,7 @@ impl<D: Disk, N: Naming> LogService<D, N> {
             self.end_turn(&mut seat.device, turn);
             return SyncTurn::Broken;
         }
-        if !self.hand_load(rt, &mut seat.consumer) {
+        if !self.hand_load(rt, &mut seat.consumer, moves) {
             self.end_turn(&mut seat.device, turn);
             return SyncTurn::Busy;
         }
@@ -125,8 +157,25 @@ impl<D: Disk, N: Naming> LogService<D, N> {
     }
 
     /// Hands the load over where a sync request was moved since the last time or an item is held. False where another seat has the consumer's
-    /// turn.
-    fn hand_load<R: Wait>(&self, rt: &R, seat: &mut BerthSeat) -> bool
+    /// turn at each of many tries: it has it for a moment only, unless it has lost its processor.
+    fn hand_load<R: Wait>(&self, rt: &R, seat: &mut BerthSeat, moves: bool) -> bool
+        requires seat { seat.old.berth ≡ self.now.consumer }
+        requires no_turn { seat.old.knows.turn ≡ false }
+        ensures seat { (seat.new.berth ≡ seat.old.berth) × (seat.new.knows.turn ≡ false) }
+        ensures had { IsTrue result → LastHadTurn seat.old.knows seat.new.knows }
+        ensures busy { IsFalse result → LastFoundTaken seat.old.knows seat.new.knows }
+    {
+        for _try in 0..TRIES {
+            if self.try_hand(rt, seat, moves) {
+                return true;
+            }
+            thread::yield_now();
+        }
+        self.try_hand(rt, seat, moves)
+    }
+
+    /// The same in one try.
+    fn try_hand<R: Wait>(&self, rt: &R, seat: &mut BerthSeat, moves: bool) -> bool
         requires seat { seat.old.berth ≡ self.now.consumer }
         requires no_turn { seat.old.knows.turn ≡ false }
         ensures seat { (seat.new.berth ≡ seat.old.berth) × (seat.new.knows.turn ≡ false) }
@@ -136,6 +185,9 @@ impl<D: Disk, N: Naming> LogService<D, N> {
         let Ok(mut turn) = self.consumer.take(seat) else {
             return false;
         };
+        if moves {
+            turn.ware.move_items(rt, &self.ring);
+        }
         turn.ware.hand_over(rt, &self.hand);
         self.consumer.give(seat, turn);
         true
@@ -162,6 +214,10 @@ impl<D: Disk, N: Naming> LogService<D, N> {
         ensures raised { (n : ℕ) → result ≡ Commit.Committed n → (i : ℕ) → i < self.now.regions
             → slice_index seat.new.device.knows.seen i ≡ slice_index (told_numbers turn.new.ware.regions (books_of turn.new.ware.device)) i }
         ensures fault { result ≡ Commit.WriteFault → seat.new.device.knows.broken ≡ true }
+        ensures committed { (n : ℕ) → result ≡ Commit.Committed n → (load : List Held)
+            × ((view turn.new.ware.consumer.pass).popped ≡ (view turn.old.ware.consumer.pass).popped ++ load ∷ []) × (n ≡ length load) }
+        ensures clean { result ≡ Commit.Clean → (turn.new.ware.device ≡ turn.old.ware.device) × WasFull 0 (view turn.old.ware.consumer.pass) }
+        ensures some { (n : ℕ) → result ≡ Commit.Committed n → 1 ≤ n }
         ensures whole { ((n : ℕ) → result ≡ Commit.Committed n → seat.new.device.knows.broken ≡ false)
             × (result ≡ Commit.Clean → seat.new.device.knows.broken ≡ false) }
     {

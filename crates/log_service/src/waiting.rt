@@ -63,13 +63,15 @@ impl<D: Disk, N: Naming> LogService<D, N> {
             if broken {
                 return Waited::Broken;
             }
-            let _moves = self.consumer_turn(rt, seat);
-            match self.sync_turn(rt, seat) {
+            match self.turn_over(rt, seat, true) {
                 SyncTurn::Synced(_) => {}
                 // No wake-up is lost. A turn was found taken after the count was read, and who has the device's turn raises the count after
                 // giving it back. Who has the consumer's turn has the device's too, or tries for it next: then that thread raises the count,
                 // or the one that it finds with the device's turn.
-                SyncTurn::Busy => self.rest(rt, turns),
+                SyncTurn::Busy => {
+                    let _moves = self.consumer_turn(rt, seat);
+                    self.rest(rt, turns);
+                }
                 _ => thread::yield_now(),
             }
         }

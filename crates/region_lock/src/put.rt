@@ -135,14 +135,16 @@ fn await_log<
     }
 }
 
-/// Ends the edit, in another hold of the region's lock.
+/// Ends the edit, in another hold of the region's lock, and shows it where none before it is pending. True where one is: who ends that one
+/// shows both.
 fn end<N: Naming + log_service::Naming + region_versions::Naming, R: Wait + Drop, S: Wait>(
     rt: &S,
+    alloc: Global,
     lock: &Mutex<Locked<N, R>>,
     at: &mut RegionPass<N>,
     entry: WriteEntry,
     ended: Ended,
-)
+) -> bool
     requires last { EndsPending at.old.hand.record.list entry }
     ensures own { WasEnded (outcome_at_end ended) at.old.hand.record.list at.new.hand.record.list }
     ensures told { at.new.told.record.list ≡ at.old.told.record.list }
@@ -152,14 +154,20 @@ fn end<N: Naming + log_service::Naming + region_versions::Naming, R: Wait + Drop
     'looking: for _ in rt.forever() {
         let mut guard = lock.lock(rt);
         if guard.region() == region {
-            guard.end(&mut at.hand, entry, ended);
-            return;
+            let number = entry.number();
+            let point = guard.end(&mut at.hand, entry, ended);
+            if point < number {
+                return true;
+            }
+            let _shown = guard.show(alloc);
+            return false;
         }
     }
     unreachable!()
 }
 
-/// Shows until the pass sees the number. Each round shows again: a version that another put had no memory for is shown by nobody else.
+/// Waits until the pass sees the number, where an edit before it is pending, and else shows. After a wait it shows again: a version that
+/// another put had no memory for is shown by nobody else.
 fn show<
     N: Naming + log_service::Naming + region_versions::Naming,
     D: Disk,
@@ -173,6 +181,7 @@ fn show<
     at: &mut RegionPass<N>,
     seat: &mut LogSeat,
     number: u64,
+    waits: bool,
 ) -> Result<(), NoMemory>
     requires service { IsSeatOf service.now seat.old }
     ensures seen { OnOk result (number ≤ last_in (N.Naming-3.base at.new.viewer.region) at.new.viewer.lines) }
@@ -182,12 +191,20 @@ fn show<
     ensures seat { IsSeatOf service.now seat.new }
     ensures later { IsLaterSeat seat.old seat.new }
 {
+    let mut waits = waits;
     'showing: for _ in rt.forever() {
-        lock.lock(rt).show(alloc)?;
+        let shows = service.shows();
         if number <= at.viewer.point() {
             return Ok(());
         }
-        help(rt, service, seat);
+        if waits {
+            let _helped = service.help(rt, seat);
+            service.rest_shows(rt, shows);
+        } else {
+            lock.lock(rt).show(alloc)?;
+            service.tell_show();
+        }
+        waits = !waits;
     }
     unreachable!()
 }
@@ -239,13 +256,15 @@ pub fn put_in<
     if !await_log(
         rt, service, lock, region, caller, seat, durability, number, gate,
     ) {
-        end(rt, lock, at, entry, Ended::Failed);
+        let _waits = end(rt, alloc, lock, at, entry, Ended::Failed);
+        service.tell_show();
         return Err(PutRefusal::WriteFault {
             number: Some(number),
         });
     }
-    end(rt, lock, at, entry, Ended::Done);
-    match show(rt, alloc, service, lock, at, seat, number) {
+    let waits = end(rt, alloc, lock, at, entry, Ended::Done);
+    service.tell_show();
+    match show(rt, alloc, service, lock, at, seat, number, waits) {
         Ok(()) => Ok(number),
         Err(_) => {
             Err(PutRefusal::Memory {

@@ -78,14 +78,14 @@ fn roll_behind_a_load(rt: HostRuntime) -> Result<(), Fail> {
     let left = run_held(&rt, alloc, HeldTrial::Roll)?;
     assert_eq!(rt;
         (left.answer, left.broken, left.synced),
-        (Some(4), false, 4)
+        (Some(5), false, 5)
     );
-    // The close moves and commits the fifth, of which no seat is told.
+    // The roll moved the fifth too.
     let disk = left.disk.disk();
     for choice in 0..4 {
         let mut image = disk.crash(alloc, disk.clock(), choice)?;
-        assert!(rt; has_numbers(alloc, &mut image, 1, 1, 1, 5)?);
-        assert!(rt; has_numbers(alloc, &mut image, 2, 1, 5, 6)?);
+        assert!(rt; has_numbers(alloc, &mut image, 1, 1, 1, 6)?);
+        assert!(rt; has_numbers(alloc, &mut image, 2, 1, 6, 6)?);
     }
     Ok(())
 }

@@ -28,11 +28,11 @@ returns-then-not-await_log-clause-puts g c =
     let whole = not_before c.args.seat.now.device.knows.broken c.broken.new.seat.device.knows.broken (λ b. (c.broken.ensures.later.fault b).0) (sym c.broken.ensures.broken ∙ c.if-broken.false) in
     let words = later_trans _ _ c.await_log.new.seat (later_trans c.args.seat.now c.broken.new.seat c.draw.new.seat c.broken.ensures.later c.draw.ensures.later) c.await_log.ensures.later in
     let base = g.N.Naming-3.base c.args.at.now.viewer.region in
-    let v : c.end.new.at.viewer ≡ c.args.at.now.viewer = c.end.ensures.same.0 ∙ c.draw.ensures.same.0 in
+    let v : c.end-waits.new.at.viewer ≡ c.args.at.now.viewer = c.end-waits.ensures.same.0 ∙ c.draw.ensures.same.0 in
     let logged = c.if-not-await_log.ensures.logged in
-    put_at c.args.service.now.regions base job.time c.args.at.now.viewer.region c.end.new.at.viewer.region n (is_sync c.args.durability) (arc_value job.batch) job.caller (PutFault (Some n)) own c.draw.new.at.hand.record.list c.end.new.at.hand.record.list
-    c.args.at.now.viewer.lines c.end.new.at.viewer.lines c.args.at.now.told.record.list c.end.new.at.told.record.list c.args.seat.now c.await_log.new.seat
-    (ap (λ (b : Beginning). b.region) v) drew c.end.ensures.own (c.end.ensures.told ∙ d.1) (subst (λ (b : Beginning). IsPrefix c.args.at.now.viewer.lines b.lines) (sym v) (prefix_self c.args.at.now.viewer.lines)) words (omega (arith, d.2, nn)) below
+    put_at c.args.service.now.regions base job.time c.args.at.now.viewer.region c.end-waits.new.at.viewer.region n (is_sync c.args.durability) (arc_value job.batch) job.caller (PutFault (Some n)) own c.draw.new.at.hand.record.list c.end-waits.new.at.hand.record.list
+    c.args.at.now.viewer.lines c.end-waits.new.at.viewer.lines c.args.at.now.told.record.list c.end-waits.new.at.told.record.list c.args.seat.now c.await_log.new.seat
+    (ap (λ (b : Beginning). b.region) v) drew c.end-waits.ensures.own (c.end-waits.ensures.told ∙ d.1) (subst (λ (b : Beginning). IsPrefix c.args.at.now.viewer.lines b.lines) (sym v) (prefix_self c.args.at.now.viewer.lines)) words (omega (arith, d.2, nn)) below
     refl refl (λ m e. logged.0) (λ m e. absurd (cc e)) (λ s e. absurd (cc e)) (λ f. logged.1) whole
 
 pub returns-in-Ok-clause-puts : goal.returns-in-Ok-clause-puts
@@ -47,11 +47,11 @@ returns-in-Ok-clause-puts g c =
     let whole = not_before c.args.seat.now.device.knows.broken c.broken.new.seat.device.knows.broken (λ b. (c.broken.ensures.later.fault b).0) (sym c.broken.ensures.broken ∙ c.if-broken.false) in
     let words = later_trans _ _ c.await_log.new.seat (later_trans c.args.seat.now c.broken.new.seat c.draw.new.seat c.broken.ensures.later c.draw.ensures.later) c.await_log.ensures.later in
     let base = g.N.Naming-3.base c.args.at.now.viewer.region in
-    let v : c.end-2.new.at.viewer ≡ c.args.at.now.viewer = c.end-2.ensures.same.0 ∙ c.draw.ensures.same.0 in
+    let v : c.end-waits-2.new.at.viewer ≡ c.args.at.now.viewer = c.end-waits-2.ensures.same.0 ∙ c.draw.ensures.same.0 in
     let region : c.show.new.at.viewer.region ≡ c.args.at.now.viewer.region = c.show.ensures.region ∙ ap (λ (b : Beginning). b.region) v in
     let later = subst (λ (b : Beginning). IsPrefix b.lines c.show.new.at.viewer.lines) v c.show.ensures.lines in
-    let ended = subst (λ (h : HandView Line). WasEnded Done c.draw.new.at.hand.record.list h.record.list) (sym c.show.ensures.hand.0) c.end-2.ensures.own in
-    let told = ap (λ (h : HandView ℕ). h.record.list) c.show.ensures.hand.1 ∙ c.end-2.ensures.told ∙ d.1 in
+    let ended = subst (λ (h : HandView Line). WasEnded Done c.draw.new.at.hand.record.list h.record.list) (sym c.show.ensures.hand.0) c.end-waits-2.ensures.own in
+    let told = ap (λ (h : HandView ℕ). h.record.list) c.show.ensures.hand.1 ∙ c.end-waits-2.ensures.told ∙ d.1 in
     let all = later_trans c.args.seat.now c.await_log.new.seat c.show.new.seat words c.show.ensures.later in
     let synced : is_sync c.args.durability ≡ true → n ≤ seen_synced c.show.new.seat.device.knows c.args.at.now.viewer.region = λ s.
     let first = c.if-not-await_log.ensures.logged s in
@@ -74,11 +74,11 @@ returns-in-Err-clause-puts g c =
     let whole = not_before c.args.seat.now.device.knows.broken c.broken.new.seat.device.knows.broken (λ b. (c.broken.ensures.later.fault b).0) (sym c.broken.ensures.broken ∙ c.if-broken.false) in
     let words = later_trans _ _ c.await_log.new.seat (later_trans c.args.seat.now c.broken.new.seat c.draw.new.seat c.broken.ensures.later c.draw.ensures.later) c.await_log.ensures.later in
     let base = g.N.Naming-3.base c.args.at.now.viewer.region in
-    let v : c.end-2.new.at.viewer ≡ c.args.at.now.viewer = c.end-2.ensures.same.0 ∙ c.draw.ensures.same.0 in
+    let v : c.end-waits-2.new.at.viewer ≡ c.args.at.now.viewer = c.end-waits-2.ensures.same.0 ∙ c.draw.ensures.same.0 in
     let region : c.show.new.at.viewer.region ≡ c.args.at.now.viewer.region = c.show.ensures.region ∙ ap (λ (b : Beginning). b.region) v in
     let later = subst (λ (b : Beginning). IsPrefix b.lines c.show.new.at.viewer.lines) v c.show.ensures.lines in
-    let ended = subst (λ (h : HandView Line). WasEnded Done c.draw.new.at.hand.record.list h.record.list) (sym c.show.ensures.hand.0) c.end-2.ensures.own in
-    let told = ap (λ (h : HandView ℕ). h.record.list) c.show.ensures.hand.1 ∙ c.end-2.ensures.told ∙ d.1 in
+    let ended = subst (λ (h : HandView Line). WasEnded Done c.draw.new.at.hand.record.list h.record.list) (sym c.show.ensures.hand.0) c.end-waits-2.ensures.own in
+    let told = ap (λ (h : HandView ℕ). h.record.list) c.show.ensures.hand.1 ∙ c.end-waits-2.ensures.told ∙ d.1 in
     let all = later_trans c.args.seat.now c.await_log.new.seat c.show.new.seat words c.show.ensures.later in
     let synced : is_sync c.args.durability ≡ true → n ≤ seen_synced c.show.new.seat.device.knows c.args.at.now.viewer.region = λ s.
     let first = c.if-not-await_log.ensures.logged s in

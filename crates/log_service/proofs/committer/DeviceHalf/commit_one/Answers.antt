@@ -1,6 +1,7 @@
 use Rattle.std.proofs.Common.{◌≡◌, ◌<◌, ◌≤◌, ℕ, List, [], ◌∷◌, ◌++◌, length, get_or, sym, ap, ◌∙◌, subst, arith}
 use Rattle.std.proofs.Math.Logic.{∥∥₁_map, ∥∥₁_map₂, ∥∥₁_elim}
 use mathlib.Core.Logic.{∥∥₁_prop}
+use Rattle.std.specs.Coded.{le_prop}
 use Rattle.crossbeam_queue.specs.Passes.{view}
 use Rattle.append_ring.specs.Rules.{base_of, of}
 use Rattle.disk_images.specs.Crash.{Since}
@@ -128,3 +129,19 @@ returns-in-Ok-clause-later g c =
     let more = come_later (length lasts) (drawn_in (books_of s.device)) c.in-Some.load r rising in
     omega (arith, was, is, more, said.drawn r))
     said.told.0 said.told.1
+
+pub returns-in-Ok-clause-clock : goal.returns-in-Ok-clause-clock
+returns-in-Ok-clause-clock g c told =
+    let s = c.args.self.now in
+    let said = c.commit_load.ensures in
+    ∥∥₁_elim (s.stands told c.requires.unbroken) le_prop (λ x.
+    ∥∥₁_elim (spelled_entries c.in-Some.load c.in-Some.ensures.popped.good.0.2) le_prop (λ e.
+    (said.any_moment told x.0 e.0 x.1.whole x.1.idle e.1).time.by_most))
+
+pub returns-in-Err-clause-clock : goal.returns-in-Err-clause-clock
+returns-in-Err-clause-clock g c told =
+    let s = c.args.self.now in
+    let said = c.commit_load.ensures in
+    ∥∥₁_elim (s.stands told c.requires.unbroken) le_prop (λ x.
+    ∥∥₁_elim (spelled_entries c.in-Some.load c.in-Some.ensures.popped.good.0.2) le_prop (λ e.
+    (said.any_moment told x.0 e.0 x.1.whole x.1.idle e.1).time.by_most))

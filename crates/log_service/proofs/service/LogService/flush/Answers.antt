@@ -26,9 +26,22 @@ returns-in-Ok-clause-flushed g c =
     let fine : c.give_both.new.seat.device.knows.broken ≡ false = sym whole ∙ is_some (log_of ware.device) (λ broken. cc (c.in-Ok.ensures.broken.1 broken)) in
     let raised = subst (λ (m : ℕ). (i : ℕ) → i < 3 * m → get_or c.give_both.new.seat.device.knows.seen i 0 ≡ get_or (told_numbers n (books_of ware.device)) i 0) (sym n_is) (c.give_both.ensures.raised fine) in
     let said = c.in-Ok.ensures.flushed in
-    let stored = subst (λ (m : ℕ). get_or (books_of ware.device).stored c.args.region 0 ≤ get_or c.give_both.new.seat.device.knows.seen (m + c.args.region - 1) 0) n_is
+    let stored = subst (λ (m : ℕ). get_or (books_of ware.device).stored c.args.region 0 ≡ get_or c.give_both.new.seat.device.knows.seen (m + c.args.region - 1) 0) n_is
     (stored_over n (books_of ware.device) c.give_both.new.seat.device.knows.seen raised c.args.region c.requires.region.0 (omega (arith, c.requires.region, n_is))) in
     (said.0, omega (arith, said.1, stored))
+
+pub returns-in-Ok-clause-exact : goal.returns-in-Ok-clause-exact
+returns-in-Ok-clause-exact g c =
+    let ware = c.flush-flushed.new.committer in
+    let n : ℕ = ware.regions in
+    let n_is : n ≡ c.args.self.now.regions = ware.all.0 ∙ (sym c.self.invariant.6 ∙ ap (λ (p : Place). p.regions) c.self.view_is) in
+    let whole = c.give_both.ensures.broken in
+    let fine : c.give_both.new.seat.device.knows.broken ≡ false = sym whole ∙ is_some (log_of ware.device) (λ broken. cc (c.in-Ok.ensures.broken.1 broken)) in
+    let raised = subst (λ (m : ℕ). (i : ℕ) → i < 3 * m → get_or c.give_both.new.seat.device.knows.seen i 0 ≡ get_or (told_numbers n (books_of ware.device)) i 0) (sym n_is) (c.give_both.ensures.raised fine) in
+    let said = c.in-Ok.ensures.flushed in
+    let stored = subst (λ (m : ℕ). get_or (books_of ware.device).stored c.args.region 0 ≡ get_or c.give_both.new.seat.device.knows.seen (m + c.args.region - 1) 0) n_is
+    (stored_over n (books_of ware.device) c.give_both.new.seat.device.knows.seen raised c.args.region c.requires.region.0 (omega (arith, c.requires.region, n_is))) in
+    omega (arith, said.1, stored)
 
 pub returns-in-Err-clause-nothing : goal.returns-in-Err-clause-nothing
 returns-in-Err-clause-nothing g c m is =
@@ -39,6 +52,6 @@ returns-in-Err-clause-nothing g c m is =
     let fine : c.give_both.new.seat.device.knows.broken ≡ false = sym whole ∙ is_some (log_of ware.device) (λ broken. cc (c.in-Err.ensures.broken.1 broken)) in
     let raised = subst (λ (m : ℕ). (i : ℕ) → i < 3 * m → get_or c.give_both.new.seat.device.knows.seen i 0 ≡ get_or (told_numbers n (books_of ware.device)) i 0) (sym n_is) (c.give_both.ensures.raised fine) in
     let said = c.in-Err.ensures.nothing m is in
-    let stored = subst (λ (m : ℕ). get_or (books_of ware.device).stored c.args.region 0 ≤ get_or c.give_both.new.seat.device.knows.seen (m + c.args.region - 1) 0) n_is
+    let stored = subst (λ (m : ℕ). get_or (books_of ware.device).stored c.args.region 0 ≡ get_or c.give_both.new.seat.device.knows.seen (m + c.args.region - 1) 0) n_is
     (stored_over n (books_of ware.device) c.give_both.new.seat.device.knows.seen raised c.args.region c.requires.region.0 (omega (arith, c.requires.region, n_is))) in
     (said.0, omega (arith, said.1, stored))
