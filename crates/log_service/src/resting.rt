@@ -13,6 +13,7 @@ use disk_images::Disk;
 use log_berth::{LogSeat as BerthSeat, Turn};
 use std::sync::Wait;
 use std::sync::atomic::{AtomicU64, Ordering};
+use std::time::Duration;
 
 /// How many values the half of a count has on which threads sleep.
 const HALF: u64 = 4_294_967_296;
@@ -23,6 +24,14 @@ pub(crate) struct EventCount {
     count: AtomicU64,
     // How many threads sleep or are about to.
     sleepers: AtomicU64,
+    // How many sync requests were pushed; how many of them were handed over; how many are worth being waited for.
+    asked: AtomicU64,
+    served: AtomicU64,
+    wanted: AtomicU64,
+    batch: AtomicU64,
+    // On what a committer sleeps, and whether it does.
+    word: AtomicU64,
+    leading: AtomicU64,
 }
 
 impl EventCount {
@@ -30,6 +39,12 @@ impl EventCount {
         EventCount {
             count: AtomicU64::new(0),
             sleepers: AtomicU64::new(0),
+            asked: AtomicU64::new(0),
+            served: AtomicU64::new(0),
+            wanted: AtomicU64::new(1),
+            batch: AtomicU64::new(0),
+            word: AtomicU64::new(0),
+            leading: AtomicU64::new(0),
         }
     }
 
@@ -46,6 +61,55 @@ impl EventCount {
         self.sleepers.fetch_sub(1, Ordering::SeqCst);
     }
 
+    /// Another put waits. Wakes the committer that sleeps where its company is whole.
+    fn ask(&self) {
+        let asked = self.asked.fetch_add(1, Ordering::SeqCst).wrapping_add(1);
+        if self.leading.load(Ordering::SeqCst) > 0 {
+            let pending = asked.wrapping_sub(self.served.load(Ordering::SeqCst));
+            if pending >= self.wanted.load(Ordering::SeqCst) {
+                self.word.fetch_add(1, Ordering::SeqCst);
+                self.word.wake_one();
+            }
+        }
+    }
+
+    fn pending(&self) -> u64 {
+        self.asked
+            .load(Ordering::SeqCst)
+            .wrapping_sub(self.served.load(Ordering::SeqCst))
+    }
+
+    /// Sleeps for company, for a moment at most.
+    fn gather<R: Wait>(&self, rt: &R) {
+        let seen = self.word.load(Ordering::SeqCst);
+        self.leading.store(1, Ordering::SeqCst);
+        if self.pending() < self.wanted.load(Ordering::SeqCst) {
+            self.word
+                .park_timeout(rt, (seen % HALF) as u32, Duration::from_micros(80));
+        }
+        self.leading.store(0, Ordering::SeqCst);
+        let pending = self.pending();
+        let wanted = self.wanted.load(Ordering::SeqCst);
+        if pending < wanted && wanted > 1 {
+            self.wanted.store(wanted - 1, Ordering::SeqCst);
+        }
+        self.batch.store(pending, Ordering::SeqCst);
+        let served = self.served.load(Ordering::SeqCst);
+        self.served
+            .store(served.wrapping_add(pending), Ordering::SeqCst);
+    }
+
+    /// A commit has ended: what it had and what was asked meanwhile is the next one's company.
+    fn learn(&self) {
+        let company = self
+            .batch
+            .load(Ordering::SeqCst)
+            .saturating_add(self.pending());
+        if company > self.wanted.load(Ordering::SeqCst) {
+            self.wanted.store(company.min(64), Ordering::SeqCst);
+        }
+    }
+
     /// Raises the count, and wakes all that sleep on it.
     fn raise(&self) {
         self.count.fetch_add(1, Ordering::SeqCst);
@@ -56,6 +120,18 @@ impl EventCount {
 }
 
 impl<D: Disk, N: Naming> LogService<D, N> {
+    pub(crate) fn ask_company(&self) {
+        self.turns.ask();
+    }
+
+    pub(crate) fn gather_company<R: Wait>(&self, rt: &R) {
+        self.turns.gather(rt);
+    }
+
+    pub(crate) fn learn_company(&self) {
+        self.turns.learn();
+    }
+
     /// How many turns of the device have ended, modulo 2^64.
     pub fn turns(&self) -> u64 {
         self.turns.now()

@@ -143,11 +143,15 @@ impl<D: Disk, N: Naming> LogService<D, N> {
             self.end_turn(&mut seat.device, turn);
             return SyncTurn::Broken;
         }
+        if moves {
+            self.gather_company(rt);
+        }
         if !self.hand_load(rt, &mut seat.consumer, moves) {
             self.end_turn(&mut seat.device, turn);
             return SyncTurn::Busy;
         }
         let commit = self.commit_and_raise(rt, seat, &mut turn);
+        self.learn_company();
         self.end_turn(&mut seat.device, turn);
         match commit {
             Commit::Committed(count) => SyncTurn::Synced(count),

@@ -54,6 +54,7 @@ impl<D: Disk, N: Naming> LogService<D, N> {
         ensures broken { result ≡ Waited.Broken → (seat.new.device.knows.broken ≡ true) × (seen_synced seat.new.device.knows region < number) }
         ensures stands { result ≡ Waited.Broken → slice_index seat.new.device.knows.last (region - 1) < number }
     {
+        self.ask_company();
         for _turn in rt.forever() {
             let turns = self.turns();
             let (broken, synced) = self.look(seat, region);
