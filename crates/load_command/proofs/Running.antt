@@ -1,12 +1,14 @@
 -- What a run leaves for the end of a load.
 use Rattle.std.proofs.Common.{◌≡◌, ◌≢◌, ℕ, ◌^◌, ◌≤◌, ◌⊎◌, Bool, true, false, if◌then◌else◌, List, [], ◌∷◌, ◌++◌, map, Contains, Option, Some, None, inl, inr, refl, sym, ap, ◌∙◌, subst, arith}
 use Rattle.std.specs.FinMap.{keys}
-use Rattle.std.proofs.Math.Logic.{∥∥₁_map, ∥∥₁_elim, ∥∥₁_prop}
+use Rattle.std.proofs.Math.Logic.{∥∥₁_map, ∥∥₁_map₂, ∥∥₁_elim, ∥∥₁_prop}
+use Rattle.std.proofs.lemmas.Bool.{cases_lt}
 use Rattle.std.proofs.lemmas.List.{map-append}
 use Rattle.log_model.specs.declared.name.Name.{Name}
 use Rattle.log_model.specs.Damage.{IsDamage}
 use Rattle.log_model.specs.Files.{Files, IsSound, IsPresent}
 use Rattle.log_model.specs.Recovered.{RecoversAlike}
+use Rattle.recovery.specs.Alike.{AllAlike}
 use Rattle.log_model.proofs.DamageLaws.{sound_undamaged}
 use Rattle.disk_images.specs.Crash.{DiskView, IsImageNow, Elapses, Throughout}
 use Rattle.disk_images.specs.Calls.{Looks, Rose}
@@ -28,7 +30,7 @@ use Rattle.region_calls.specs.declared.refusal.StartWhy.{StartWhy}
 use Rattle.region_calls.specs.declared.refusal.StartWhy.TheVariants as whys
 use Rattle.region_calls.specs.declared.closed.ClosedRegion.{ClosedRegion}
 use Rattle.script_run.specs.Ends.{closed_at, lines_of, HasClosed}
-use Rattle.load_model.specs.Loaded.{HasBroken}
+use Rattle.load_model.specs.Loaded.{HasBroken, HasStopped}
 use Rattle.load_model.proofs.Empty.{empty_is_sound, no_bytes}
 use Rattle.command_ends.specs.Invocation.{invocation, AtEachMoment, GoesOn}
 use Rattle.command_ends.specs.Prints.{Prints}
@@ -107,7 +109,7 @@ not_opened why result options script had has before after rose cut is half print
   where
     go : (why : StartWhy) → ((text : List ℕ) → refusal_line (status_for why) ≡ Some text → Prints had has text cut) → EndsLoad (status_for why) options (invocation script before after had has) rose cut
     go whys.Memory p = (refused_so had has refused_memory cut (p refused_memory refl), half_keeps before after half)
-    go whys.DiskFault p = inr (refused_so had has refused_disk cut (p refused_disk refl), half_keeps before after half)
+    go whys.DiskFault p = inr (refused_so had has refused_disk cut (p refused_disk refl), half)
     go (whys.Damaged damage) p = tt
 
 pub opening_end : (why : StartWhy) → IsClosedEnd (status_for why)
@@ -149,24 +151,28 @@ headline_before {script} {status} {text} u v w looks goes h = record {
   others = λ J r image above. subst (λ (f : Files). RecoversAlike f J r) looks.files (h.others J r image above);
   images_sound = λ low J image. h.images_sound (subst (λ (f : Files). (name : Name) → IsPresent f name → name.number ≤ 2 ^ 61) (sym looks.files) low) J image;
   done = h.done;
-  throughout = λ t J low high image. ∥∥₁_elim all ∥∥₁_prop (λ (over : (moments : ℕ) × Throughout Left moments u w). over.1.each t J low high image);
+  throughout = ∥∥₁_map₂ goes h.throughout (λ past from. (
+    from.0,
+    record {
+      begun = (omega (arith, looks.time.later, from.1.begun.0), from.1.begun.1);
+      before = λ t J low high image. elim (cases_lt t v.clock) [
+        | inl early ↦ inl (looked_at t J low (omega (arith, early)) (past.1.past t J (omega (arith, early)) image))
+        | inr later ↦ elim (from.1.before t J (omega (arith, later)) high image) as (λ _. IsImageNow u J ⊎ AllAlike u.files J) [
+          | inl was ↦ inl (looks.crash J was)
+          | inr alike ↦ inr (subst (λ (f : Files). AllAlike f J) looks.files alike)
+        ]
+      ];
+      since = from.1.since;
+    },
+  ));
 }
   where
-    AreFit : Files → Type 0
-    AreFit J = (x : History) → Contains h.histories x → (m : ℕ) × Fits J x.region x.base x.edits m
-
-    Left : Files → Type 0
-    Left J = ∥ IsImageNow u J ⊎ AreFit J ∥₁
-
-    earlier : (J : Files) → IsImageNow v J ⊎ AreFit J → IsImageNow u J ⊎ AreFit J
-    earlier J (inl was) = inl (looks.crash J was)
-    earlier J (inr fit) = inr fit
-
-    behind : AtEachMoment Left v w
-    behind = ∥∥₁_map goes (λ (past : (moments : ℕ) × Elapses moments v w). (past.0, record { time = past.1; each = λ t J low high image. ∥∥₁_map (h.throughout t J low high image) (earlier J) }))
-
-    all : AtEachMoment Left u w
-    all = each_on Left u v w (looked Left u v looks (λ J now. ∣ inl now ∣₁)) behind
+    -- at each moment of the look an image is one of before
+    looked_at : (t : ℕ) (J : Files) → u.clock ≤ t → t ≤ v.clock → v.image t J → IsImageNow u J
+    looked_at t J low high image = elim (cases_lt u.clock t) [
+      | inl later ↦ looks.crash J (subst (λ (k : ℕ). v.image k J) (omega (arith, later, high, looks.time.by_most)) image)
+      | inr same ↦ subst (λ (k : ℕ). u.image k J) (omega (arith, low, same)) (looks.time.past t J (omega (arith, same)) image)
+    ]
 
 kept_before : (u v : DiskView) → Looks u v → (J : Files) → MayKeep v J → MayKeep u J
 kept_before u v looks J may = ∥∥₁_map may (λ either. elim either as (λ _. IsImageNow u J ⊎ KeepsIn u.files J) [
@@ -184,15 +190,24 @@ looked_only u v looks = looked (MayKeep u) u v looks (λ J now. ∣ inl now ∣�
 pub moments_before : (u v w : DiskView) → Looks u v → AtEachMoment (MayKeep v) v w → AtEachMoment (MayKeep u) u w
 moments_before u v w looks over = each_on (MayKeep u) u v w (looked_only u v looks) (each_then (MayKeep v) (MayKeep u) v w (kept_before u v looks) over)
 
-broken_before : (options : LoadOptions) (u v w : DiskView) (text : List ℕ) → Looks u v → GoesOn v w → ∥ HasBroken options v w text ∥₁ → ∥ HasBroken options u w text ∥₁
-broken_before options u v w text looks goes stands = ∥∥₁_map stands (λ b. record { is = b.is; report = b.report; headline = headline_before u v w looks goes b.headline })
+broken_before : (options : LoadOptions) (u v w : DiskView) (text : List ℕ) → Looks u v → GoesOn v w → ∥ HasBroken options v w text ⊎ HasStopped options w text ∥₁ → ∥ HasBroken options u w text ⊎ HasStopped options w text ∥₁
+broken_before options u v w text looks goes stands = ∥∥₁_map stands (λ either. elim either as (λ _. HasBroken options u w text ⊎ HasStopped options w text) [
+  | inl b ↦ inl (record { is = b.is; report = b.report; headline = headline_before u v w looks goes b.headline })
+  | inr s ↦ inr s
+])
+
+half_before : (u v w : DiskView) → Looks u v → IsHalfOpened v w → IsHalfOpened u w
+half_before u v w looks half J image = ∥∥₁_map (half J image) (λ either. elim either as (λ _. IsImageNow u J ⊎ AllAlike u.files J) [
+  | inl was ↦ inl (looks.crash J was)
+  | inr alike ↦ inr (subst (λ (f : Files). AllAlike f J) looks.files alike)
+])
 
 pub ends_before : (status : Status) (options : LoadOptions) (script had has : List ℕ) (u v w : DiskView) (rose wider cut : Type 0) → IsClosedEnd status → Looks u v → GoesOn v w → (rose → wider)
     → EndsLoad status options (invocation script v w had has) rose cut → EndsLoad status options (invocation script u w had has) wider cut
 ends_before ends.Done options script had has u v w rose wider cut may looks goes more e = e
 ends_before ends.Memory options script had has u v w rose wider cut may looks goes more e = (e.0, keeps_before u v w looks e.1)
 ends_before ends.DiskFault options script had has u v w rose wider cut may looks goes more (inl broken) = inl (broken_before options u v w _ looks goes broken)
-ends_before ends.DiskFault options script had has u v w rose wider cut may looks goes more (inr refused) = inr (refused.0, keeps_before u v w looks refused.1)
+ends_before ends.DiskFault options script had has u v w rose wider cut may looks goes more (inr refused) = inr (refused.0, half_before u v w looks refused.1)
 ends_before ends.SinkFault options script had has u v w rose wider cut may looks goes more (text, begins, Done done) = (text, begins, Done done)
 ends_before ends.SinkFault options script had has u v w rose wider cut may looks goes more (text, begins, Failed rise broken) = (text, begins, Failed (more rise) (broken_before options u v w text looks goes broken))
 ends_before (ends.Damaged damage) options script had has u v w rose wider cut may looks goes more e = tt
@@ -235,7 +250,7 @@ refused_first status result options script had has u v rose cut is may looks pri
 
     go : (s : Status) → IsStoreRefusal s → ((text : List ℕ) → refusal_line s ≡ Some text → Prints had has text cut) → EndsLoad s options (invocation script u v had has) rose cut
     go ends.Memory m p = (refused_so had has refused_memory cut (p refused_memory refl), looked)
-    go ends.DiskFault m p = inr (refused_so had has refused_disk cut (p refused_disk refl), looked)
+    go ends.DiskFault m p = inr (refused_so had has refused_disk cut (p refused_disk refl), λ J image. ∣ inl (looks.crash J image) ∣₁)
     go (ends.NotEmpty name) m p = tt
     go ends.Done m p = absurd m
     go ends.SinkFault m p = absurd m

@@ -1,7 +1,7 @@
 -- How a load ends.
-use Rattle.std.proofs.Common.{Err, ◌≡◌, ◌≢◌, ℕ, ◌-◌, ◌^◌, min, sum_by, List, [], length, Some, inl, inr, refl, sym, ap, ◌∙◌, subst}
+use Rattle.std.proofs.Common.{Err, ◌≡◌, ◌≢◌, ◌⊎◌, ℕ, ◌-◌, ◌^◌, min, sum_by, List, [], length, Some, inl, inr, refl, sym, ap, ◌∙◌, subst}
 use Rattle.std.proofs.Math.Logic.{∥∥₁_map, ∥∥₁_elim}
-use Rattle.log_model.specs.Files.{IsSound}
+use Rattle.log_model.specs.Files.{Files, IsSound}
 use Rattle.log_model.specs.Damage.{IsDamage}
 use Rattle.log_model.specs.declared.damage.Damage.{Damage}
 use Rattle.log_model.proofs.DamageLaws.{sound_undamaged}
@@ -21,8 +21,8 @@ use Rattle.made_script.specs.declared.counts.CallCounts.{CallCounts}
 use Rattle.run_model.specs.Headline.{KeepsFound}
 use Rattle.run_model.proofs.KeepsFound.{all_keep}
 use Rattle.load_model.specs.Text.{load_text, ended_text}
-use Rattle.load_model.specs.Loaded.{HasLoaded, HasBroken}
-use Rattle.load_model.proofs.Leaves.{loaded, none_spent, sound_left}
+use Rattle.load_model.specs.Loaded.{HasLoaded, HasBroken, HasStopped}
+use Rattle.load_model.proofs.Leaves.{loaded, stopped, none_spent, sound_left}
 use Rattle.command_ends.specs.Invocation.{invocation}
 use Rattle.command_ends.specs.Prints.{Prints}
 use Rattle.command_ends.specs.Ends.{Done, Failed}
@@ -65,11 +65,11 @@ printed_ends ends.SourceFault options text script had has before after rose cut 
 printed_ends (ends.NumbersSpent region last) options text script had has before after rose cut may loads keeps printed refused = absurd may
 printed_ends (ends.NotEmpty name) options text script had has before after rose cut may loads keeps printed refused = absurd may
 
-pub refused_ends : (refusal : SplitRefusal) (options : LoadOptions) (script had has : List ℕ) (before after : DiskView) (rose cut : Type 0) → KeepsFound before after
+pub refused_ends : (refusal : SplitRefusal) (options : LoadOptions) (script had has : List ℕ) (before after : DiskView) (rose cut : Type 0) → (refusal ≡ refusals.DiskFault → ⊥) → KeepsFound before after
     → ((text : List ℕ) → refusal_line (refused_as refusal) ≡ Some text → Prints had has text cut) → EndsLoad (refused_as refusal) options (invocation script before after had has) rose cut
-refused_ends refusals.Memory options script had has before after rose cut keeps printed = (refused_so had has refused_memory cut (printed refused_memory refl), keeps)
-refused_ends refusals.DiskFault options script had has before after rose cut keeps printed = inr (refused_so had has refused_disk cut (printed refused_disk refl), keeps)
-refused_ends (refusals.Damaged damage) options script had has before after rose cut keeps printed = tt
+refused_ends refusals.Memory options script had has before after rose cut no_fault keeps printed = (refused_so had has refused_memory cut (printed refused_memory refl), keeps)
+refused_ends refusals.DiskFault options script had has before after rose cut no_fault keeps printed = absurd (no_fault refl)
+refused_ends (refusals.Damaged damage) options script had has before after rose cut no_fault keeps printed = tt
 
 -- ---- what can't come
 
@@ -103,16 +103,21 @@ none_spent_here : (options : LoadOptions) (before left : DiskView) (region last 
 none_spent_here options before left region last ended =
     ∥∥₁_elim (ended.reported (λ e. absurd cc)) (λ x y. absurd x) (λ h. none_spent options before left h.0 ended.right ended.empty h.1)
 
-broken : (options : LoadOptions) (before left : DiskView) → HasEnded options before left ends.DiskFault → ∥ HasBroken options before left (ended_text (counts_of (made_script options)) 5) ∥₁
-broken options before left ended = ∥∥₁_map (ended.reported (λ e. absurd cc)) (λ h. record { is = refl; report = h.0; headline = h.1 })
+broken : (options : LoadOptions) (before left : DiskView) → HasEnded options before left ends.DiskFault → ∥ HasBroken options before left (ended_text (counts_of (made_script options)) 5) ⊎ HasStopped options left (ended_text (counts_of (made_script options)) 5) ∥₁
+broken options before left ended = ∥∥₁_map (ended.reported (λ e. absurd cc)) (λ h. inl (record { is = refl; report = h.0; headline = h.1 }))
 
-broken_ends : (result : Status) (options : LoadOptions) (text script had has : List ℕ) (before left : DiskView) (rose cut : Type 0) → IsPrintedAs ends.DiskFault result → ∥ HasBroken options before left text ∥₁ → KeepsFound before left → rose
+-- the run was done, and the opening behind it met a fault
+pub stopped_at : (options : LoadOptions) (before left after : DiskView) → HasEnded options before left ends.Done → IsImageNow left left.files → ((J : Files) → IsImageNow after J → IsImageNow left J ⊎ AllAlike left.files J)
+    → ∥ HasBroken options before after (ended_text (counts_of (made_script options)) 5) ⊎ HasStopped options after (ended_text (counts_of (made_script options)) 5) ∥₁
+stopped_at options before left after ended now either = ∥∥₁_map (ended.reported (λ e. absurd cc)) (λ h. inr (stopped options before left after h.0 ended.right ended.empty h.1 now either))
+
+pub broken_ends : (result : Status) (options : LoadOptions) (text script had has : List ℕ) (before left : DiskView) (rose cut : Type 0) → IsPrintedAs ends.DiskFault result → ∥ HasBroken options before left text ⊎ HasStopped options left text ∥₁ → KeepsFound before left → rose
     → (result ≢ ends.Memory → Prints had has text (result ≡ ends.SinkFault)) → (result ≡ ends.Memory → Prints had has refused_memory cut)
     → EndsLoad result options (invocation script before left had has) rose cut
 broken_ends result options text script had has before left rose cut (inl same) stands keeps rise printed refused =
     let said : Prints had has text (result ≡ ends.SinkFault) = printed (λ e. let no : ends.DiskFault ≡ ends.Memory = sym same ∙ e in absurd cc) in
     subst (λ (s : Status). EndsLoad s options (invocation script before left had has) rose cut) (sym same)
-    (inl (subst (λ (t : List ℕ). ∥ HasBroken options before left t ∥₁) (sym (taken_whole had has text _ said (λ e. let no : ends.DiskFault ≡ ends.SinkFault = sym same ∙ e in absurd cc))) stands))
+    (inl (subst (λ (t : List ℕ). ∥ HasBroken options before left t ⊎ HasStopped options left t ∥₁) (sym (taken_whole had has text _ said (λ e. let no : ends.DiskFault ≡ ends.SinkFault = sym same ∙ e in absurd cc))) stands))
 broken_ends result options text script had has before left rose cut (inr (inl memory)) stands keeps rise printed refused =
     subst (λ (s : Status). EndsLoad s options (invocation script before left had has) rose cut) (sym memory) (refused_so had has refused_memory cut (refused memory), keeps)
 broken_ends result options text script had has before left rose cut (inr (inr sink)) stands keeps rise printed refused =
@@ -126,7 +131,7 @@ pub unfinished_ends : (status result : Status) (options : LoadOptions) (counts :
     → EndsLoad result options (invocation script before left had has) rose cut
 unfinished_ends ends.DiskFault result options counts script had has before left rose cut may undone found as_said same ended rise printed refused =
     broken_ends result options (ended_text counts 5) script had has before left rose cut as_said
-    (subst (λ (k : CallCounts). ∥ HasBroken options before left (ended_text k 5) ∥₁) (sym same) (broken options before left ended)) (all_keep before left ended.keeps) (rise refl) printed refused
+    (subst (λ (k : CallCounts). ∥ HasBroken options before left (ended_text k 5) ⊎ HasStopped options left (ended_text k 5) ∥₁) (sym same) (broken options before left ended)) (all_keep before left ended.keeps) (rise refl) printed refused
 unfinished_ends (ends.NumbersSpent region last) result options counts script had has before left rose cut may undone found as_said same ended rise printed refused = absurd (none_spent_here options before left region last ended)
 unfinished_ends ends.Done result options counts script had has before left rose cut may undone found as_said same ended rise printed refused = absurd (undone refl)
 unfinished_ends ends.Memory result options counts script had has before left rose cut may undone found as_said same ended rise printed refused = absurd (found refl)

@@ -1,25 +1,25 @@
 -- What stands with each status of a load.
-use Rattle.std.specs.Prelude.{◌≡◌, ◌≢◌, ℕ, List, []}
+use Rattle.std.specs.Prelude.{◌≡◌, ◌≢◌, ℕ, ◌⊎◌, List, []}
 use Rattle.std.specs.FinMap.{keys}
 use Rattle.disk_images.specs.Crash.{DiskView}
 use Rattle.made_script.specs.Made.{AreOptions, made_script}
 use Rattle.made_script.specs.declared.options.LoadOptions.{LoadOptions}
-use Rattle.run_model.specs.Headline.{IsHeadline, AllKeep, KeepsFound}
-use Rattle.load_model.specs.Loaded.{HasLoaded, HasBroken}
+use Rattle.run_model.specs.Headline.{IsHeadline, AllKeep, KeepsFound, IsHalfOpened}
+use Rattle.load_model.specs.Loaded.{HasLoaded, HasBroken, HasStopped}
 use Rattle.command_ends.specs.Invocation.{Invocation}
 use Rattle.command_ends.specs.Ends.{Effects, EndsAs}
 use Rattle.command_ends.specs.Status.{exit_status}
 use Rattle.command_ends.specs.declared.status.Status.{Status}
 use Rattle.command_ends.specs.declared.status.Status.TheVariants as ends
 
--- What stands with a text that is its output. Where one line alone is printed, each image was one before, or has the cells that
--- were there before and no other ones of their numbers.
+-- What stands with a text that is its output. Where want of memory alone is told, each image was one before, or has the cells that were there
+-- before and no other ones of their numbers; where a fault of the disk alone is told, nothing was run, and each image was one before or recovers alike.
 abbrev pub loads : LoadOptions → Invocation → Effects
 loads options o = record {
   done = λ text. ∥ HasLoaded options o.after text ∥₁;
-  failed = λ text. ∥ HasBroken options o.before o.after text ∥₁;
+  failed = λ text. ∥ HasBroken options o.before o.after text ⊎ HasStopped options o.after text ∥₁;
   no_memory = KeepsFound o.before o.after;
-  no_disk = KeepsFound o.before o.after;
+  no_disk = IsHalfOpened o.before o.after;
 }
 
 -- what stands with each status of the command

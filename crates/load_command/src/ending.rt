@@ -40,6 +40,7 @@ pub fn end_load<D: Disk, K: Sink>(
         → AtEachMoment (MayKeep (D.view first)) (D.view disk.old) (D.view disk.new) }
     ensures ends { IsTrue D.told → IsTrue K.told → (options : LoadOptions) (first : D) (script : List ℕ) → counts ≡ counts_of (made_script options)
         → HasEnded options (D.view first) (D.view disk.old) status → (status ≡ Status.DiskFault → Rose (D.faults first) (D.faults disk.new))
+        → D.faults first ≤ D.faults disk.old
         → EndsLoad result options (invocation script (D.view first) (D.view disk.new) (K.taken out.old) (K.taken out.new))
         (Rose (D.faults first) (D.faults disk.new)) (Rose (K.faults out.old) (K.faults out.new)) }
     ensures refusal { IsTrue K.told → IsRefusal result → (text : List ℕ) → refusal_line result ≡ Some text
@@ -78,7 +79,7 @@ fn print_ended<K: Sink>(alloc: Global, counts: CallCounts, status: Status, out: 
     }
 }
 
-/// Opens the store that a run left, and prints how many calls there were and how many cells are there.
+/// Opens the store that a run left, and prints how many calls there were and how many cells are there; where the disk fails, the calls alone.
 fn recover_load<D: Disk, K: Sink>(
     alloc: Global,
     counts: CallCounts,
@@ -88,10 +89,10 @@ fn recover_load<D: Disk, K: Sink>(
     ensures any_moment { IsTrue D.told → (options : LoadOptions) (first : D) → HasEnded options (D.view first) (D.view disk.old) Status.Done
         → AtEachMoment (MayKeep (D.view first)) (D.view disk.old) (D.view disk.new) }
     ensures ends { IsTrue D.told → IsTrue K.told → (options : LoadOptions) (first : D) (script : List ℕ) → counts ≡ counts_of (made_script options)
-        → HasEnded options (D.view first) (D.view disk.old) Status.Done
+        → HasEnded options (D.view first) (D.view disk.old) Status.Done → D.faults first ≤ D.faults disk.old
         → EndsLoad result options (invocation script (D.view first) (D.view disk.new) (K.taken out.old) (K.taken out.new))
         (Rose (D.faults first) (D.faults disk.new)) (Rose (K.faults out.old) (K.faults out.new)) }
-    ensures refusal { IsTrue K.told → (text : List ℕ) → refusal_line result ≡ Some text
+    ensures refusal { IsTrue K.told → IsRefusal result → (text : List ℕ) → refusal_line result ≡ Some text
         → Prints (K.taken out.old) (K.taken out.new) text (Rose (K.faults out.old) (K.faults out.new)) }
     ensures status { IsReadingEnd result }
     ensures damage { IsTrue D.told → IsDamageOf result (IsDamage (D.view disk.new).files) }
@@ -104,7 +105,10 @@ fn recover_load<D: Disk, K: Sink>(
 {
     match recover_all(alloc, disk) {
         Ok(regions) => print_loaded(alloc, counts, count_cells(regions.as_slice()), out),
-        Err(refusal) => refuse(out, status_of(refusal)),
+        Err(refusal) => match status_of(refusal) {
+            Status::DiskFault => print_ended(alloc, counts, Status::DiskFault, out),
+            status => refuse(out, status),
+        },
     }
 }
 

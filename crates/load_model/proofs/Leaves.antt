@@ -1,5 +1,5 @@
 -- What a load leaves, once its store was recovered, and what can't come of one.
-use Rattle.std.proofs.Common.{◌≡◌, ℕ, zero, suc, ◌+◌, ◌-◌, ◌*◌, ◌^◌, ◌≤◌, min, Bool, List, [], ◌∷◌, length, Contains, refl, sym, ap, ◌∙◌, subst, arith}
+use Rattle.std.proofs.Common.{inl, inr, ◌≡◌, ◌⊎◌, ℕ, zero, suc, ◌+◌, ◌-◌, ◌*◌, ◌^◌, ◌≤◌, min, Bool, List, [], ◌∷◌, length, Contains, refl, sym, ap, ◌∙◌, subst, arith}
 use Rattle.std.specs.FinMap.{empty, len, keys}
 use Rattle.std.proofs.lemmas.List.{length-append, length-map}
 use Rattle.cell_model.specs.Cell.{Cell}
@@ -21,8 +21,8 @@ use Rattle.made_script.specs.Made.{AreOptions, made_calls, made_handlers, made_s
 use Rattle.made_script.specs.Counts.{counts_of, is_put}
 use Rattle.made_script.specs.declared.options.LoadOptions.{LoadOptions}
 use Rattle.made_script.proofs.MadeLaws.{made_right}
-use Rattle.load_model.specs.Text.{load_text}
-use Rattle.load_model.specs.Loaded.{ArePuts, HasLoaded, sum_over}
+use Rattle.load_model.specs.Text.{load_text, ended_text}
+use Rattle.load_model.specs.Loaded.{ArePuts, HasLoaded, HasStopped, sum_over}
 use Rattle.load_model.proofs.Empty.{no_file, last_is_0}
 use Rattle.load_model.proofs.Members.{no_more, pairs_from, pairs_weaker}
 use Rattle.load_model.proofs.Tallies.{tally_from, tally_length}
@@ -126,3 +126,27 @@ loaded o before left after report text count right none h now no_logs no_logs_in
       no_logs = no_logs;
       no_logs_in = no_logs_in;
     }
+
+-- ---- what is left where it could not be recovered
+
+pub stopped : (o : LoadOptions) (before left after : DiskView) (report : List ℕ) → AreOptions o → keys before.files ≡ [] → IsHeadline (made_script o) before left 0 report
+    → IsImageNow left left.files → ((J : Files) → IsImageNow after J → IsImageNow left J ⊎ AllAlike left.files J) → HasStopped o after (ended_text (counts_of (made_script o)) 5)
+stopped o before left after report right none h now either = record {
+  is = refl;
+  edits = edits_at h.histories;
+  puts = are_puts (made_script o) before left 0 report h none refl (among_regions o right);
+  holds = λ J r image low. elim (either J image) [
+    | inl was ↦ here J was r low
+    | inr alike ↦ λ v p. (
+      (λ there_now. ((alike r).content v p).0 ((here left.files now r low v p).0 there_now)),
+      (λ there_now. (here left.files now r low v p).1 (((alike r).content v p).1 there_now)),
+    )
+  ];
+  fit = λ J image. elim (either J image) [
+    | inl was ↦ (let first = there (made_script o) before left 0 report h none 1 (omega arith) right.some_region in ((h.endures first.0 first.1).images J was).1.fit)
+    | inr alike ↦ (alike 0).fit
+  ];
+}
+  where
+    here : (J : Files) → IsImageNow left J → (r : ℕ) → 1 ≤ r → IsContent (IsRecovered J r) (put_edits empty (edits_at h.histories r))
+    here J image r low = held (made_script o) before left 0 report h none (λ no. absurd (omega (arith, no))) J image r low

@@ -170,3 +170,19 @@ fn load_wants_an_empty_store(rt: HostRuntime) -> Result<(), TestFail> {
     assert_eq!(rt; out.as_slice(), b"refused store log-1\n".as_slice());
     Ok(())
 }
+
+#[test]
+fn rename_of_the_last_opening_fails(rt: HostRuntime) -> Result<(), TestFail> {
+    let fail = Fail {
+        call: CallKind::Rename,
+        nth: 1,
+    };
+    let disk = MemDisk::new(rt.alloc(), &[fail])?;
+    let (outcome, out) = call_words(&rt, TWO_PUTS.as_slice(), b"", disk)?;
+    assert_eq!(rt; outcome.status, Status::DiskFault);
+    assert_eq!(rt;
+        out.as_slice(),
+        b"load puts 2 scans 0 flushes 0 rolls 0\nvalue bytes 4\nend 5\n".as_slice()
+    );
+    Ok(())
+}

@@ -288,7 +288,16 @@ its_status = record {
 
 -- so the headline stands
 pub fault_has_its_headline : ∥ IsHeadline script disk disk 5 (report_text (report_of (map history_of (record { region = 1; it = region } ∷ [])) replies 5)) ∥₁
-fault_has_its_headline = headline closed disk 5 refl (λ t J low high image. ∣ inl (subst (λ k. disk.image k J) (same t low high) image) ∣₁) its_status (λ no_5. absurd (no_5 refl))
+fault_has_its_headline = headline closed disk 5 refl ∣ (
+  disk.clock,
+  record {
+    begun = (omega arith, omega arith);
+    before = λ t J low high image. inl (subst (λ k. disk.image k J) (same t low high) image);
+    since = λ t J low high image.
+        let kept = survives.images J (subst (λ k. disk.image k J) (same t low high) image) in
+        ∣ only (λ (x : ClosedAt). (m : ℕ) × Fits J x.region x.it.base x.it.edits m) (record { region = 1; it = region }) (kept.0, kept.1) ∣₁;
+  },
+) ∣₁ its_status (λ no_5. absurd (no_5 refl))
   where
     same : (t : ℕ) → disk.clock ≤ t → t ≤ disk.clock → t ≡ disk.clock
     same t low high = omega (arith, low, high)

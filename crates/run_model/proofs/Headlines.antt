@@ -16,7 +16,7 @@ use Rattle.server_model.proofs.JournalLaws.{pairs_all, contains_cons}
 use Rattle.server_model.proofs.RepliesLaw.{survives, flush_was_done, RollCovers, rolls_cover, has_pass, kept_of}
 use Rattle.region_model.specs.Crash.{Fits}
 use Rattle.run_model.specs.Headline.{History, report_of, IsOneJournal, Endures, AreDone, IsRolledBehind, FitsStatus, IsHeadline}
-use Rattle.run_model.specs.Closed.{ClosedAt, Closed, FitsThroughout}
+use Rattle.run_model.specs.Closed.{ClosedAt, Closed, FitsFrom, FitsThroughout}
 use Rattle.run_model.proofs.FromClose.{history_of, same_regions, at_each, lawful_at, one_journal, on_region, base_at}
 use Rattle.run_model.proofs.Choices.{each_in}
 use Rattle.std.proofs.Math.Logic.{∥∥₁_map, ∥∥₁_map₂}
@@ -81,10 +81,14 @@ module _ {script : Script} {found : Files} {left : DiskView} {name : Naming} {hs
     others = λ J r image above. subst (λ f. RecoversAlike f J r) (sym same) (left_so.others J r image above);
     images_sound = λ low J image. left_so.sound J image (subst (λ f. (name : Name) → IsPresent f name → name.number ≤ 2 ^ 61) same low);
     done = are_done status whole;
-    throughout = λ t J low high image. ∥∥₁_map (moments t J low high image) (λ either. elim either as (λ _. IsImageNow before J ⊎ ((h : History) → Contains (map history_of xs) h → (m : ℕ) × Fits J h.region h.base h.edits m)) [
-      | inl was ↦ inl was
-      | inr each ↦ inr (at_each c (λ h. (m : ℕ) × Fits J h.region h.base h.edits m) each)
-    ]);
+    throughout = ∥∥₁_map moments (λ (s : (start : ℕ) × FitsFrom before left start (λ J. (x : ClosedAt) → Contains xs x → (m : ℕ) × Fits J x.region x.it.base x.it.edits m)). (
+      s.0,
+      record {
+        begun = s.1.begun;
+        before = s.1.before;
+        since = λ t J low high image. ∥∥₁_map (s.1.since t J low high image) (λ each. at_each c (λ h. (m : ℕ) × Fits J h.region h.base h.edits m) each);
+      },
+    ));
   }
 
 -- A closed server and its handlers' replies give the headline for the report of a status that fits them.

@@ -32,19 +32,19 @@ alike_fits found J r base edits follows is alike =
     }
 
 -- Up to the moment at which the server was begun a crash leaves what an opening leaves, and from then on what fits each region's edits.
-pub fits_throughout : (found now left : DiskView) (xs : List ClosedAt)
-    → ((x : ClosedAt) → Contains xs x → IsFound found.files x.region x.it.base × Follows x.it.base.last x.it.edits)
+pub fits_throughout : (found now left : DiskView) (xs : List ClosedAt) → found.clock ≤ now.clock → now.clock ≤ left.clock
     → ((t : ℕ) (J : Files) → found.clock ≤ t → t ≤ now.clock → now.image t J → IsImageNow found J ⊎ AllAlike found.files J)
     → ((t : ℕ) (J : Files) → t ≤ now.clock → left.image t J → now.image t J)
     → ((x : ClosedAt) → Contains xs x → (t : ℕ) (J : Files) → now.clock ≤ t → t ≤ left.clock → left.image t J → ∥ ((m : ℕ) × Fits J x.region x.it.base x.it.edits m) ∥₁)
     → FitsThroughout found left xs
-fits_throughout found now left xs bases opened past since t J low high image = elim (cases_lt now.clock t) [
-  | inl later ↦ ∥∥₁_map (each_in (λ (x : ClosedAt). (m : ℕ) × Fits J x.region x.it.base x.it.edits m) xs (λ x is. since x is t J (omega (arith, later)) high image)) (λ each. inr each)
-  | inr early ↦ ∣ (elim (opened t J low (omega (arith, early)) (past t J (omega (arith, early)) image)) as (λ _. IsImageNow found J ⊎ ((x : ClosedAt) → Contains xs x → (m : ℕ) × Fits J x.region x.it.base x.it.edits m)) [
-    | inl was ↦ inl was
-    | inr alike ↦ inr (λ x is. (x.it.base.last, alike_fits found.files J x.region x.it.base x.it.edits (bases x is).1 (bases x is).0 (alike x.region)))
-  ]) ∣₁
-]
+fits_throughout found now left xs first last opened past since = ∣ (
+  now.clock,
+  record {
+    begun = (first, last);
+    before = λ t J low high image. opened t J low high (past t J high image);
+    since = λ t J low high image. each_in (λ (x : ClosedAt). (m : ℕ) × Fits J x.region x.it.base x.it.edits m) xs (λ x is. since x is t J low high image);
+  },
+) ∣₁
 
 -- ---- what was found is kept at each moment
 

@@ -3,6 +3,7 @@ use Rattle.std.specs.Prelude.{◌≡◌, ℕ, ◌≤◌, ◌⊎◌, ◌==◌, Bo
 use Rattle.std.specs.List.{range_with_len}
 use Rattle.log_model.specs.Files.{Files, IsSound}
 use Rattle.log_model.specs.Recovered.{IsRecovered, IsContent, IsLast}
+use Rattle.recovery.specs.Alike.{AllAlike}
 use Rattle.region_model.specs.Journal.{Base, Caller}
 use Rattle.region_model.specs.Calls.{Call, Put, Scan, Flush, Roll}
 use Rattle.region_model.specs.Crash.{Fits}
@@ -59,8 +60,13 @@ pub record Closed (script : Script) (found : Files) (left : DiskView) (name : Na
   pub sound : IsSound found
   pub bases : (r : ℕ) → 1 ≤ r → r ≤ script.regions → IsFound found r (name.bases r)
 
--- At each moment from the one at which the disk was found so, a crash leaves an image of that moment, or of each of these regions the base
--- with a beginning of its edits.
+-- Up to a moment at which the server was begun a crash leaves an image of the disk as found, or files that recover alike for every region; at each
+-- moment from then on what it leaves is fit so.
+pub record FitsFrom (found left : DiskView) (start : ℕ) (Fit : Files → Type 0) : Type 0 where
+  pub begun : (found.clock ≤ start) × (start ≤ left.clock)
+  pub before : (t : ℕ) (J : Files) → found.clock ≤ t → t ≤ start → left.image t J → IsImageNow found J ⊎ AllAlike found.files J
+  pub since : (t : ℕ) (J : Files) → start ≤ t → t ≤ left.clock → left.image t J → ∥ Fit J ∥₁
+
+-- from some moment on it leaves of each of these regions the base with a beginning of its edits
 abbrev pub FitsThroughout : DiskView → DiskView → List ClosedAt → Type 0
-FitsThroughout found left xs = (t : ℕ) (J : Files) → found.clock ≤ t → t ≤ left.clock → left.image t J
-    → ∥ IsImageNow found J ⊎ ((x : ClosedAt) → Contains xs x → (m : ℕ) × Fits J x.region x.it.base x.it.edits m) ∥₁
+FitsThroughout found left xs = ∥ ((start : ℕ) × FitsFrom found left start (λ J. (x : ClosedAt) → Contains xs x → (m : ℕ) × Fits J x.region x.it.base x.it.edits m)) ∥₁

@@ -19,6 +19,7 @@ use Rattle.server_model.specs.Steps.{IsRolled, IsFault}
 use Rattle.script_model.specs.Calls.{Script, asked, asked_by}
 use Rattle.run_model.specs.declared.spent.Spent.{Spent}
 use Rattle.run_model.specs.Spent.{IsSpent, IsFirstSpent}
+use Rattle.run_model.specs.Closed.{FitsFrom}
 use Rattle.one_thread.specs.History.{IsHistory}
 
 -- one region's base and its one list of edits
@@ -127,9 +128,8 @@ pub record IsHeadline (script : Script) (found left : DiskView) (status : ℕ) (
   pub others : (J : Files) (r : ℕ) → IsImageNow left J → script.regions < r → RecoversAlike found.files J r
   pub images_sound : ((name : Name) → IsPresent found.files name → name.number ≤ 2 ^ 61) → (J : Files) → IsImageNow left J → IsSound J
   pub done : AreDone left status replies
-  -- at each moment of the run a crash leaves an image of the disk as found, or of each region the base with a beginning of the edits
-  pub throughout : (t : ℕ) (J : Files) → found.clock ≤ t → t ≤ left.clock → left.image t J
-      → ∥ IsImageNow found J ⊎ ((h : History) → Contains histories h → (m : ℕ) × Fits J h.region h.base h.edits m) ∥₁
+  -- from the moment at which the server was begun a crash leaves of each region the base with a beginning of the edits; before, what an opening leaves
+  pub throughout : ∥ ((start : ℕ) × FitsFrom found left start (λ J. (h : History) → Contains histories h → (m : ℕ) × Fits J h.region h.base h.edits m)) ∥₁
 
 -- a headline whose status names the first put that was answered spent
 abbrev pub IsSpentHeadline : Script → DiskView → DiskView → Spent → List ℕ → Type 0

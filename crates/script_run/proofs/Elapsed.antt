@@ -63,12 +63,11 @@ module _ (found now left : DiskView) (start : ℕ) (past : ℕ → Files → Typ
         let x = region_there c r low high in subst (λ (k : ℕ). ∥ HasStood found.files start k left ∥₁) x.2 (stood x.0 x.1))
 
     pub closed_throughout : ∥ HasElapsed start past found.files script.regions left ∥₁ → FitsThroughout found left (map closed_at cs)
-    closed_throughout elapsed t J low high image = ∥∥₁_elim elapsed ∥∥₁_prop (λ e.
-        fits_throughout found now left (map closed_at cs) (λ x there. (base_at c x there, (c.regions x there).journal.numbers)) during.1.each (stays e.goes_on)
+    closed_throughout elapsed = ∥∥₁_elim elapsed ∥∥₁_prop (λ e.
+        fits_throughout found now left (map closed_at cs) during.1.time.later (omega (arith, is, e.goes_on.begun)) during.1.each (stays e.goes_on)
         (λ x there u K low high image.
         let m = mapped closed_at cs x there in
-        ∥∥₁_elim (subst (λ (y : ClosedAt). ∥ HasSurvived start left y.region y.it ∥₁) m.2 (survived m.0 m.1)) ∥∥₁_prop (λ s. s.each u K (omega (arith, is, low)) high image))
-        t J low high image)
+        ∥∥₁_elim (subst (λ (y : ClosedAt). ∥ HasSurvived start left y.region y.it ∥₁) m.2 (survived m.0 m.1)) ∥∥₁_prop (λ s. s.each u K (omega (arith, is, low)) high image)))
 
   -- of one that could not be closed
   pub left_moments : (name : Naming) (passes : List Pass) (regions : ℕ) → 1 ≤ regions → name.regions ≡ regions → ((r : ℕ) → 1 ≤ r → r ≤ regions → IsFound found.files r (name.bases r))

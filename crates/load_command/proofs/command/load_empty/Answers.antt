@@ -41,7 +41,7 @@ returns-in-Closed-clause-ends g c told sink script =
     c.end_load-status.ensures.ends told sink c.args.options c.args.disk script (c.count_calls-counts.ensures ∙ ap counts_of c.in-Ok.ensures.made)
     (ended_from c.args.options _ (g.D.Disk.view c.args.disk) (g.D.Disk.view c.in-Closed.disk) c.in-Closed.regions.items c.in-Closed.replies.items c.in-Closed.spent c.in-Closed.broken c.decided_status-status.result
     c.requires.options (c.requires.empty told) c.in-Ok.ensures.made (c.in-Closed.ensures.ran told) c.decided_status-status.ensures.either)
-    (λ is. rose_later _ _ _ (c.in-Closed.ensures.cause (c.decided_status-status.ensures.cause is)) c.end_load-status.ensures.later.0)
+    (λ is. rose_later _ _ _ (c.in-Closed.ensures.cause (c.decided_status-status.ensures.cause is)) c.end_load-status.ensures.later.0) c.in-Closed.ensures.later
 
 pub returns-in-Closed-clause-refusal : goal.returns-in-Closed-clause-refusal
 returns-in-Closed-clause-refusal g c sink is text line = c.end_load-status.ensures.refusal sink is text line

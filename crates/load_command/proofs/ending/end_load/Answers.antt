@@ -15,7 +15,7 @@ pub returns-in-Memory-clause-any_moment : goal.returns-in-Memory-clause-any_mome
 returns-in-Memory-clause-any_moment g c told options first ended = stays_kept (g.D.Disk.view first) (g.D.Disk.view c.args.disk.now) ended.keeps
 
 pub returns-in-Memory-clause-ends : goal.returns-in-Memory-clause-ends
-returns-in-Memory-clause-ends g c told taken options first script counts ended rise =
+returns-in-Memory-clause-ends g c told taken options first script counts ended rise low =
     memory_ends c.refuse.result options script (g.K.Sink.taken c.args.out.now) (g.K.Sink.taken c.refuse.new.sink) (g.D.Disk.view first) (g.D.Disk.view c.args.disk.now) _ _ c.refuse.ensures.status
     (all_keep (g.D.Disk.view first) (g.D.Disk.view c.args.disk.now) ended.keeps) (c.refuse.ensures.prints taken refused_memory refl)
 
@@ -30,11 +30,11 @@ returns-in-Done-clause-any_moment g c told options first ended =
     c.recover_load.ensures.any_moment told options first (subst (λ (s : Status). HasEnded options (g.D.Disk.view first) (g.D.Disk.view c.args.disk.now) s) c.in-Done.is ended)
 
 pub returns-in-Done-clause-ends : goal.returns-in-Done-clause-ends
-returns-in-Done-clause-ends g c told taken options first script counts ended rise =
-    c.recover_load.ensures.ends told taken options first script counts (subst (λ (s : Status). HasEnded options (g.D.Disk.view first) (g.D.Disk.view c.args.disk.now) s) c.in-Done.is ended)
+returns-in-Done-clause-ends g c told taken options first script counts ended rise low =
+    c.recover_load.ensures.ends told taken options first script counts (subst (λ (s : Status). HasEnded options (g.D.Disk.view first) (g.D.Disk.view c.args.disk.now) s) c.in-Done.is ended) low
 
 pub returns-in-Done-clause-refusal : goal.returns-in-Done-clause-refusal
-returns-in-Done-clause-refusal g c taken is text line = c.recover_load.ensures.refusal taken text line
+returns-in-Done-clause-refusal g c taken is text line = c.recover_load.ensures.refusal taken is text line
 
 pub returns-in-Done-clause-status : goal.returns-in-Done-clause-status
 returns-in-Done-clause-status g c = reading_closed c.recover_load.result c.recover_load.ensures.status
@@ -53,7 +53,7 @@ pub returns-in_default-clause-any_moment : goal.returns-in_default-clause-any_mo
 returns-in_default-clause-any_moment g c told options first ended = stays_kept (g.D.Disk.view first) (g.D.Disk.view c.args.disk.now) ended.keeps
 
 pub returns-in_default-clause-ends : goal.returns-in_default-clause-ends
-returns-in_default-clause-ends g c told taken options first script counts ended rise =
+returns-in_default-clause-ends g c told taken options first script counts ended rise low =
     unfinished_ends c.args.status c.print_ended.result options c.args.counts script (g.K.Sink.taken c.args.out.now) (g.K.Sink.taken c.print_ended.new.out) (g.D.Disk.view first) (g.D.Disk.view c.args.disk.now)
     (Rose (g.D.Disk.faults first) (g.D.Disk.faults c.args.disk.now)) (Rose (g.K.Sink.faults c.args.out.now) (g.K.Sink.faults c.print_ended.new.out))
     c.requires c.in_default.not-Done c.in_default.not-Memory c.print_ended.ensures.status counts ended rise (c.print_ended.ensures.prints taken) (c.print_ended.ensures.refusal taken)
