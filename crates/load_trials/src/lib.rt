@@ -1,15 +1,7 @@
-//! Tests of the top call over fake disks, sources and sinks.
+//! Trials of the top call over a disk in memory: a stop at each moment. What it prints stands in the rows.
 #![tactic(auto)]
 
-#[cfg(test)]
-mod dump_tests;
-#[cfg(test)]
-mod load_tests;
 #[cfg(test)]
 mod log_tests;
 #[cfg(test)]
 mod recover_tests;
-#[cfg(test)]
-mod refusal_tests;
-#[cfg(test)]
-mod show_tests;

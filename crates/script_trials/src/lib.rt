@@ -1,14 +1,8 @@
-//! Trials of the grammar of scripts and of the program's outputs: tables of texts with what each says, or the line and cause
-//! that it is refused for; the words of a load and its script. A library of tests alone, so that no crate is proved twice for them.
+//! Trials of words and outputs that no run of the program shows: the greatest load, and replies of refused memory and of a
+//! flush that is under way. What scripts say, and what else is printed, stands in the rows. A library of tests alone.
 #![tactic(auto)]
 
 #[cfg(test)]
-mod limits;
-#[cfg(test)]
-mod loads;
-#[cfg(test)]
 mod reports;
-#[cfg(test)]
-mod scripts;
 #[cfg(test)]
 mod words;
