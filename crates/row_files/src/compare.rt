@@ -95,8 +95,13 @@ fn file_difference(
             let bytes = file.bytes.as_slice();
             let (length, count) = (wanted.len(), bytes.len());
             let place = first_difference(wanted, bytes);
-            let (byte, other) = (byte_at(alloc, wanted, place)?, byte_at(alloc, bytes, place)?);
-            format!(in alloc; "bytes: {name} differs at {place}: expected {byte} of {length} bytes, found {other} of {count}")?
+            let (byte, other) = (
+                byte_at(alloc, wanted, place)?,
+                byte_at(alloc, bytes, place)?,
+            );
+            format!(in alloc;
+                "bytes: {name} differs at {place}: expected {byte} of {length} bytes, found {other} of {count}"
+            )?
         }
     };
     Ok(Some(Difference {

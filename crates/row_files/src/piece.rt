@@ -118,11 +118,7 @@ fn either(alloc: Global, inside: &str) -> Result<Piece, LineFault> {
 }
 
 /// The pieces of a line's text, in the turn of this number where the line is repeated.
-pub fn read_pieces(
-    alloc: Global,
-    text: &str,
-    turn: Option<u64>,
-) -> Result<Vec<Piece>, LineFault> {
+pub fn read_pieces(alloc: Global, text: &str, turn: Option<u64>) -> Result<Vec<Piece>, LineFault> {
     let mut reader = PieceReader {
         alloc,
         turn,

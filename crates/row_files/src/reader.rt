@@ -1,12 +1,12 @@
 //! Reading a row's file, line by line.
 
+mod files;
+mod streams;
+
 use crate::fault::{LineFault, RowFault};
-use crate::hexadecimal::add_bytes;
-use crate::output::ExpectedLine;
-use crate::piece::{add_script, read_pieces};
-use crate::repeated::{Block, StreamLine};
-use crate::row::{Base, ExpectedFile, ExpectedNames, Row, Step, StoredFile};
-use crate::words::{LineKind, fail_of, kind_of, names_of, one_name, parted, words_of};
+use crate::repeated::Block;
+use crate::row::{Row, Step};
+use crate::words::{LineKind, kind_of, parted, words_of};
 use std::alloc::Global;
 
 /// Where in a row the next line stands.
@@ -94,156 +94,6 @@ impl RowReader {
         Ok(())
     }
 
-    fn take_head(&mut self, line: u64, kind: LineKind, rest: &str) -> Result<(), LineFault> {
-        if self.place != Place::Head {
-            return Err(LineFault::BehindHead);
-        }
-        if kind == LineKind::File {
-            let file = self.file_of(rest)?;
-            if self.row.files.iter().any(|other| other.name == file.name) {
-                return Err(LineFault::Twice);
-            }
-            self.row.files.push(file)?;
-            return Ok(());
-        }
-        if self.row.base.is_some() {
-            return Err(LineFault::Twice);
-        }
-        if rest.is_empty() {
-            return Err(LineFault::NoRow);
-        }
-        let name = String::from_str(self.alloc, rest)?;
-        self.row.base = Some(Base { line, name });
-        Ok(())
-    }
-
-    /// `NAME HEX`, which the next line may go on with.
-    fn file_of(&mut self, text: &str) -> Result<StoredFile, LineFault> {
-        let (name, spelled) = parted(text);
-        let name = one_name(name)?;
-        let mut bytes = Vec::new(self.alloc);
-        add_bytes(&mut bytes, spelled)?;
-        self.extends = true;
-        Ok(StoredFile { name, bytes })
-    }
-
-    /// More hexadecimal of the file above.
-    fn extend(&mut self, text: &str) -> Result<(), LineFault> {
-        self.extends = true;
-        if self.place == Place::Head {
-            return match self.row.files.last_mut() {
-                Some(file) => add_bytes(&mut file.bytes, text),
-                None => Err(LineFault::NothingToExtend),
-            };
-        }
-        let Some(step) = self.row.steps.last_mut() else {
-            return Err(LineFault::NothingToExtend);
-        };
-        match step.files.last_mut() {
-            Some(expected) => add_bytes(&mut expected.file.bytes, text),
-            None => Err(LineFault::NothingToExtend),
-        }
-    }
-
-    fn take_behind(&mut self, line: u64, kind: LineKind, rest: &str) -> Result<(), LineFault> {
-        if self.place != Place::Behind {
-            return Err(LineFault::BeforeStatus);
-        }
-        if kind == LineKind::Bytes {
-            let file = self.file_of(rest)?;
-            let step = self.step()?;
-            step.files.push(ExpectedFile { line, file })?;
-            return Ok(());
-        }
-        let names = names_of(self.alloc, rest)?;
-        let step = self.step()?;
-        if step.left.is_some() {
-            return Err(LineFault::Twice);
-        }
-        step.left = Some(ExpectedNames { line, names });
-        Ok(())
-    }
-
-    fn take_inside(&mut self, line: u64, kind: LineKind, rest: &str) -> Result<(), LineFault> {
-        if self.place != Place::Inside {
-            return Err(LineFault::OutsideStep);
-        }
-        match kind {
-            LineKind::Repeat => {
-                self.block = Some(Block::begun(self.alloc, rest)?);
-                Ok(())
-            }
-            LineKind::Status => self.end_step(line, rest),
-            LineKind::Fail => {
-                let fail = fail_of(line, rest)?;
-                self.step()?.fails.push(fail)?;
-                Ok(())
-            }
-            _ => self.take_stream(line, kind, rest, None),
-        }
-    }
-
-    fn end_step(&mut self, line: u64, text: &str) -> Result<(), LineFault> {
-        let Ok(number) = text.parse::<u8>() else {
-            return Err(LineFault::NoNumber);
-        };
-        let step = self.step()?;
-        step.status = number;
-        step.status_line = line;
-        self.place = Place::Behind;
-        Ok(())
-    }
-
-    /// A line of the script or of the output.
-    fn take_stream(
-        &mut self,
-        line: u64,
-        kind: LineKind,
-        text: &str,
-        turn: Option<u64>,
-    ) -> Result<(), LineFault> {
-        let is_ended = matches!(kind, LineKind::Script | LineKind::Output);
-        match kind {
-            LineKind::Script | LineKind::ScriptEnd => self.add_script_line(text, is_ended, turn),
-            _ => self.add_output_line(line, text, is_ended, turn),
-        }
-    }
-
-    fn add_script_line(
-        &mut self,
-        text: &str,
-        is_ended: bool,
-        turn: Option<u64>,
-    ) -> Result<(), LineFault> {
-        if self.is_script_over {
-            return Err(LineFault::BehindLast);
-        }
-        self.is_script_over = !is_ended;
-        let pieces = read_pieces(self.alloc, text, turn)?;
-        let step = self.step()?;
-        add_script(&mut step.script, &pieces)?;
-        if is_ended {
-            step.script.push(b'\n')?;
-        }
-        Ok(())
-    }
-
-    fn add_output_line(
-        &mut self,
-        line: u64,
-        text: &str,
-        is_ended: bool,
-        turn: Option<u64>,
-    ) -> Result<(), LineFault> {
-        if self.is_output_over {
-            return Err(LineFault::BehindLast);
-        }
-        self.is_output_over = !is_ended;
-        let expected = ExpectedLine::read(self.alloc, line, text, is_ended, turn)?;
-        self.step()?.output.push(expected)?;
-        Ok(())
-    }
-
     /// The step that is read.
     fn step(&mut self) -> Result<&mut Step, LineFault> {
         match self.row.steps.last_mut() {
@@ -252,28 +102,13 @@ impl RowReader {
         }
     }
 
-    /// Takes the lines of a block, turn by turn.
-    fn end_block(&mut self) -> Result<(), LineFault> {
-        let Some(block) = self.block.take() else {
-            return Err(LineFault::NoRepeat);
-        };
-        for turn in 0..block.turns {
-            self.take_turn(&block.lines, turn + 1)?;
-        }
-        Ok(())
-    }
-
-    fn take_turn(&mut self, lines: &[StreamLine], turn: u64) -> Result<(), LineFault> {
-        for it in lines {
-            self.take_stream(it.line, it.kind, it.text.as_str(), Some(turn))?;
-        }
-        Ok(())
-    }
-
     /// The whole row.
     fn end(self) -> Result<Row, LineFault> {
         let RowReader {
-            row, place, block, ..
+            row,
+            place,
+            block,
+            ..
         } = self;
         if block.is_some() {
             return Err(LineFault::NoDone);

@@ -40,12 +40,9 @@ impl Book {
         Ok(Book { entries })
     }
 
-    pub fn len(&self) -> usize {
-        self.entries.len()
-    }
-
-    pub fn get(&self, place: usize) -> Option<&Entry> {
-        self.entries.get(place)
+    /// The rows in the order in which they are run.
+    pub fn entries(&self) -> &[Entry] {
+        &self.entries
     }
 
     fn base(&self, base: &Base) -> Result<&Row, BaseFault> {

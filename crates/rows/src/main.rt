@@ -13,7 +13,7 @@ mod folder;
 mod row_run;
 mod step_run;
 
-use book::Book;
+use book::{Book, Entry};
 use error::RowsError;
 use row_run::told_of;
 use std::process::ExitCode;
@@ -26,8 +26,8 @@ fn run_rows<R: Print + Threads + Wait + Sync + AllocGlobal>(
     book: &Book,
 ) -> Result<bool, RowsError> {
     let mut are_well = true;
-    for place in 0..book.len() {
-        are_well = run_row(rt, book, place)? && are_well;
+    for entry in book.entries() {
+        are_well = run_row(rt, book, entry)? && are_well;
     }
     Ok(are_well)
 }
@@ -36,11 +36,8 @@ fn run_rows<R: Print + Threads + Wait + Sync + AllocGlobal>(
 fn run_row<R: Print + Threads + Wait + Sync + AllocGlobal>(
     rt: &R,
     book: &Book,
-    place: usize,
+    entry: &Entry,
 ) -> Result<bool, RowsError> {
-    let Some(entry) = book.get(place) else {
-        return Ok(true);
-    };
     let name = entry.title.name.as_str();
     let told = told_of(rt, book, entry)?;
     if told.is_empty() {
