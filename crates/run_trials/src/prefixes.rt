@@ -77,20 +77,24 @@ fn of(prefixes: Prefixes, edits: u64) -> Result<(u64, &'static str), TestFail> {
 pub(crate) fn shown(alloc: Global, first: u64, second: u64) -> Result<String, TestFail> {
     let (one, cells) = of(FIRST, first)?;
     let (two, others) = of(SECOND, second)?;
-    Ok(format!(in alloc; "hwal 1
+    Ok(format!(in alloc;
+        "hwal 1
 region 1 base {first} {one}
 region 2 base {second} {two}
 reply 1 1 scan {first} {one}
 {cells}reply 1 2 scan {second} {two}
 {others}end 0
-")?)
+"
+    )?)
 }
 
 /// The greatest number that a handler was told is durable: by a put that waits, or a flush.
 pub(crate) fn durable(report: &str, handler: u64) -> u64 {
     let mut most: u64 = 0;
     for line in report.lines() {
-        let is_told = word(line, 0) == "reply" && number(line, 1) == handler && word(line, 4) == "ok";
+        let is_told = word(line, 0) == "reply"
+            && number(line, 1) == handler
+            && word(line, 4) == "ok";
         let waits = word(line, 3) == "flush" || (word(line, 3) == "put" && number(line, 2) != 2);
         if is_told && waits {
             most = most.max(number(line, 5));
