@@ -20,6 +20,8 @@ mod many;
 #[cfg(test)]
 mod plans;
 #[cfg(test)]
+mod prefixes;
+#[cfg(test)]
 mod report;
 #[cfg(test)]
 mod stores;

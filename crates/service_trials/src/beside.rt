@@ -9,11 +9,14 @@ use crate::entries::SMALL;
 use crate::held::{HeldDisk, HeldTrial};
 use crate::overlap::move_beside;
 use crate::puts::{ask, put};
+use crate::queues::roll_full;
 use crate::rolls::roll_beside;
+use crate::waits::wait_beside;
 use crate::watch::{Watch, commit_watched};
 use append_ring::RingPass;
 use log_service::{ConsumerTurn, Item, LogSeat, LogService, Naming, SyncTurn};
 use std::alloc::Global;
+use std::process::Abort;
 use std::sync::Wait;
 use std::thread::{Threads, join_mut};
 
@@ -44,7 +47,7 @@ pub(crate) fn put_and_move<N: Naming, R: Wait>(
 }
 
 /// Runs a trial beside the other thread's commit, and lets that go on.
-fn run_beside<N: Naming, R: Wait>(
+fn run_beside<N: Naming + Send + Sync, R: Wait + Threads + Sync + Abort>(
     rt: &R,
     alloc: Global,
     service: &LogService<HeldDisk, N>,
@@ -54,6 +57,7 @@ fn run_beside<N: Naming, R: Wait>(
     before: u64,
     trial: HeldTrial,
 ) -> Option<u64>
+    requires regions { service.now.regions ≡ 1 }
     requires ring { (pass.old.pass.table_id ≡ service.now.ring) × (pass.old.region ≡ 1) }
     requires last { last_pushed number_of pass.old ≡ 1 }
     requires seat { IsSeatOf service.now seat.old }
@@ -63,13 +67,15 @@ fn run_beside<N: Naming, R: Wait>(
     let answer = match trial {
         HeldTrial::Move => move_beside(rt, alloc, service, pass, seat, watch, before),
         HeldTrial::Roll => roll_beside(rt, alloc, service, pass, seat, watch, before),
+        HeldTrial::Wait => wait_beside(rt, service, pass, seat, watch, before),
+        HeldTrial::Full => roll_full(rt, alloc, service, pass, seat, watch, before),
     };
     watch.release();
     answer
 }
 
 /// Runs a trial while another thread is held back in the commit of the first edit.
-pub(crate) fn while_held<N: Naming + Send + Sync, R: Wait + Threads + Sync>(
+pub(crate) fn while_held<N: Naming + Send + Sync, R: Wait + Threads + Sync + Abort>(
     rt: &R,
     alloc: Global,
     service: &LogService<HeldDisk, N>,
@@ -79,6 +85,7 @@ pub(crate) fn while_held<N: Naming + Send + Sync, R: Wait + Threads + Sync>(
     watch: &Watch,
     trial: HeldTrial,
 ) -> Option<u64>
+    requires regions { service.now.regions ≡ 1 }
     requires ring { (pass.old.pass.table_id ≡ service.now.ring) × (pass.old.region ≡ 1) }
     requires last { last_pushed number_of pass.old ≡ 0 }
     requires seats { IsSeatOf service.now first.old × IsSeatOf service.now second.old }
@@ -94,7 +101,7 @@ pub(crate) fn while_held<N: Naming + Send + Sync, R: Wait + Threads + Sync>(
             ensures { IsSeatOf service.entry.now first.exit.now }
         { commit_watched(rt, service, first, watch) },
         &mut || -> Option<u64>
-            requires { (pass.now.pass.table_id ≡ service.now.ring) × (pass.now.region ≡ 1)
+            requires { (service.now.regions ≡ 1) × (pass.now.pass.table_id ≡ service.now.ring) × (pass.now.region ≡ 1)
                 × (last_pushed number_of pass.now ≡ 1) × IsSeatOf service.now second.now }
             ensures { (pass.exit.now.pass.table_id ≡ service.entry.now.ring) × (pass.exit.now.region ≡ 1)
                 × IsSeatOf service.entry.now second.exit.now }

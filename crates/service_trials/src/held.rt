@@ -19,6 +19,7 @@ use log_device::Device;
 use log_service::{LogSeat, LogSeats, LogService, Naming, Rings, ServiceParts};
 use std::alloc::Global;
 use std::marker::Brand;
+use std::process::Abort;
 use std::snapshot::Snapshot;
 use std::sync::atomic::AtomicU64;
 use std::sync::{Arc, Wait};
@@ -32,6 +33,8 @@ pub(crate) type HeldDisk = WatchDisk<MemDisk>;
 pub(crate) enum HeldTrial {
     Move,
     Roll,
+    Wait,
+    Full,
 }
 
 /// What is left of a service, and what its trial found.
@@ -65,7 +68,7 @@ fn two_seats<N: Naming>(
 }
 
 /// Starts a service over a device, has a trial run on it, and closes it.
-fn over_held<N: Naming + Send + Sync, R: Wait + Threads + Sync>(
+fn over_held<N: Naming + Send + Sync, R: Wait + Threads + Sync + Abort>(
     rt: &R,
     alloc: Global,
     rings: Rings,
@@ -123,7 +126,7 @@ fn over_held<N: Naming + Send + Sync, R: Wait + Threads + Sync>(
 }
 
 /// Runs a trial over an empty disk.
-pub(crate) fn run_held<R: Wait + Threads + Sync>(
+pub(crate) fn run_held<R: Wait + Threads + Sync + Abort>(
     rt: &R,
     alloc: Global,
     trial: HeldTrial,

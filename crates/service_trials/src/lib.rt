@@ -27,6 +27,8 @@ mod overlap;
 #[cfg(test)]
 mod puts;
 #[cfg(test)]
+mod queues;
+#[cfg(test)]
 mod rolls;
 #[cfg(test)]
 mod threads;
@@ -34,6 +36,8 @@ mod threads;
 mod trial;
 #[cfg(test)]
 mod turns;
+#[cfg(test)]
+mod waits;
 #[cfg(test)]
 mod watch;
 

@@ -1,10 +1,10 @@
 //! What is pushed into a service.
 
-ghost use Rattle.std.specs.Prelude.{◌≡◌, ◌+◌, ◌<◌, ◌≤◌, ◌^◌, IfSome};
+ghost use Rattle.std.specs.Prelude.{◌≡◌, ◌+◌, ◌<◌, ◌≤◌, ◌^◌, IfSome, IfNone};
 ghost use Rattle.append_ring.specs.Parts.{last_pushed};
 ghost use Rattle.log_service.specs.Items.{number_of};
 
-use crate::entries::{Size, truck};
+use crate::entries::{SMALL, Size, truck};
 use append_ring::RingPass;
 use disk_images::Disk;
 use log_service::{Item, LogService, Naming};
@@ -26,6 +26,7 @@ pub(crate) fn put<D: Disk, N: Naming, R: Wait>(
     requires number { number < 2 ^ 48 }
     ensures same { (pass.new.pass.table_id ≡ pass.old.pass.table_id) × (pass.new.region ≡ pass.old.region) }
     ensures last { IfSome result (λ _. last_pushed number_of pass.new ≡ number) }
+    ensures none { IfNone result (last_pushed number_of pass.new ≡ last_pushed number_of pass.old) }
 {
     let truck = truck(alloc, pass.region, number, size)?;
     match service.push(rt, pass, Item::Append(truck)) {
@@ -52,4 +53,42 @@ pub(crate) fn ask<D: Disk, N: Naming, R: Wait>(
         Err(_) => return None,
     }
     Some(())
+}
+
+/// Pushes the edits behind this number, up to another.
+pub(crate) fn put_all<D: Disk, N: Naming, R: Wait>(
+    rt: &R,
+    alloc: Global,
+    service: &LogService<D, N>,
+    pass: &mut RingPass<Item>,
+    from: u64,
+    last: u64,
+) -> Option<()>
+    requires ring { pass.old.pass.table_id ≡ service.now.ring }
+    requires region { pass.old.region ≤ 64 }
+    requires from { last_pushed number_of pass.old ≡ from }
+    requires last { (from ≤ last) × (last ≤ 2000) }
+    ensures same { (pass.new.pass.table_id ≡ pass.old.pass.table_id) × (pass.new.region ≡ pass.old.region) }
+    ensures last { IfSome result (λ _. last_pushed number_of pass.new ≡ last) }
+{
+    for before in from..last {
+        put(rt, alloc, service, pass, before + 1, SMALL)?;
+    }
+    Some(())
+}
+
+/// Pushes wishes until the ring is full.
+pub(crate) fn fill<D: Disk, N: Naming, R: Wait>(
+    rt: &R,
+    service: &LogService<D, N>,
+    pass: &mut RingPass<Item>,
+)
+    requires ring { pass.old.pass.table_id ≡ service.now.ring }
+    ensures same { (pass.new.pass.table_id ≡ pass.old.pass.table_id) × (pass.new.region ≡ pass.old.region) }
+{
+    for _ in 0..2_000u32 {
+        if ask(rt, service, pass, 1).is_none() {
+            return;
+        }
+    }
 }

@@ -7,16 +7,22 @@ use log_service::{LogSeat, LogService, Naming, SyncTurn};
 use std::sync::atomic::{AtomicU64, Ordering};
 use std::sync::{Arc, Wait};
 use std::thread;
+use std::time::Duration;
 
 /// How often a thread looks at most for another one's sync.
 const LOOKS: u64 = 50_000_000;
 
-/// How many syncs were begun, whether syncs are held back, and whether the committing thread is back from its turn.
+/// How many milliseconds a thread waits at most for the answer of one that waits for the log.
+const PATIENCE: u64 = 20_000;
+
+/// How many syncs were begun, whether syncs are held back, whether the committing thread is back from its turn, and whether the one that
+/// waits for the log was answered.
 #[derive(Drop)]
 pub(crate) struct Watch {
     seen: Arc<AtomicU64>,
     held: Arc<AtomicU64>,
     back: AtomicU64,
+    answered: AtomicU64,
 }
 
 impl Watch {
@@ -25,6 +31,7 @@ impl Watch {
             seen,
             held,
             back: AtomicU64::new(0),
+            answered: AtomicU64::new(0),
         }
     }
 
@@ -57,6 +64,38 @@ impl Watch {
             }
             thread::yield_now();
         }
+    }
+
+    /// Tells that who waits for the log was answered.
+    pub(crate) fn tell_answer(&self) {
+        self.answered.store(1, Ordering::SeqCst);
+        self.answered.wake_all();
+    }
+
+    /// Sleeps for a millisecond, unless who waits for the log was answered.
+    pub(crate) fn pause<R: Wait>(&self, rt: &R) {
+        self.answered.park_timeout(rt, 0, Duration::from_millis(1));
+    }
+
+    /// Whether who waits for the log is answered within so many milliseconds.
+    fn is_answered_in<R: Wait>(&self, rt: &R, looks: u64) -> bool {
+        for _ in 0..looks {
+            if self.answered.load(Ordering::SeqCst) == 1 {
+                return true;
+            }
+            self.pause(rt);
+        }
+        false
+    }
+
+    /// Gives who waits for the log some time to fall asleep.
+    pub(crate) fn give_time<R: Wait>(&self, rt: &R) {
+        let _early = self.is_answered_in(rt, 20);
+    }
+
+    /// Whether who waits for the log is answered before patience ends.
+    pub(crate) fn is_answered<R: Wait>(&self, rt: &R) -> bool {
+        self.is_answered_in(rt, PATIENCE)
     }
 }
 
