@@ -1,5 +1,6 @@
 //! A look at the fault word.
 ghost use Rattle.std.specs.Prelude.{◌≡◌};
+ghost use Rattle.log_berth.specs.Words.{looked};
 ghost use Rattle.log_service.specs.Places.{IsSeatOf, IsLaterSeat};
 
 use crate::name::Naming;
@@ -14,6 +15,7 @@ impl<D: Disk, N: Naming> LogService<D, N> {
         ensures seat { IsSeatOf self.now seat.new }
         ensures later { IsLaterSeat seat.old seat.new }
         ensures broken { result ≡ seat.new.device.knows.broken }
+        ensures looked { seat.new.device.knows.tally ≡ looked seat.old.device.knows.tally }
     {
         self.device.broken(&mut seat.device)
     }

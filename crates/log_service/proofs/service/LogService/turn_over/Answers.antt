@@ -11,18 +11,21 @@ returns-in-Committed-clause-later g c =
     let held = c.in-Ok.ensures.taken.1 in
     turn_later c.args.seat.now _ c.take.new.seat.knows c.commit_and_raise-commit.new.seat.device.knows (sym held.broken ∙ (sym c.broken.ensures ∙ c.if-broken.false))
     (λ broken. (held.stands broken).0) held.seen c.commit_and_raise-commit.ensures.later c.end_turn-2.ensures.1
+    (c.commit_and_raise-commit.ensures.seat.3 ∙ held.tally)
 
 pub returns-in-Clean-clause-later : goal.returns-in-Clean-clause-later
 returns-in-Clean-clause-later g c =
     let held = c.in-Ok.ensures.taken.1 in
     turn_later c.args.seat.now _ c.take.new.seat.knows c.commit_and_raise-commit.new.seat.device.knows (sym held.broken ∙ (sym c.broken.ensures ∙ c.if-broken.false))
     (λ broken. (held.stands broken).0) held.seen c.commit_and_raise-commit.ensures.later c.end_turn-2.ensures.1
+    (c.commit_and_raise-commit.ensures.seat.3 ∙ held.tally)
 
 pub returns-in-WriteFault-clause-later : goal.returns-in-WriteFault-clause-later
 returns-in-WriteFault-clause-later g c =
     let held = c.in-Ok.ensures.taken.1 in
     turn_later c.args.seat.now _ c.take.new.seat.knows c.commit_and_raise-commit.new.seat.device.knows (sym held.broken ∙ (sym c.broken.ensures ∙ c.if-broken.false))
     (λ broken. (held.stands broken).0) held.seen c.commit_and_raise-commit.ensures.later c.end_turn-2.ensures.1
+    (c.commit_and_raise-commit.ensures.seat.3 ∙ held.tally)
 
 pub returns-in-Committed-clause-synced : goal.returns-in-Committed-clause-synced
 returns-in-Committed-clause-synced g c n is =
