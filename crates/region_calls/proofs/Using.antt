@@ -156,12 +156,6 @@ module _ {N : Type 0} {g : Ghosts N} where
     called = subst (λ (x : HandView Line). AreCalledBelow (calls + 1) x.record.list) (sym hand) old.called;
   }
 
-  -- what a pass knows as synced of a region whose hand it used
-  pub synced_used : (h calls r k : ℕ) (ps : List (RegionPass N g)) (p p' : RegionPass N g) (seat : LogSeat) → IsUsed h calls r k ps p → p'.viewer.region ≡ p.viewer.region
-      → seen_synced seat.device.knows p.viewer.region ≡ (known_in (set ps k p') seat r).synced
-  synced_used h calls r k ps p p' seat u same =
-      ap (seen_synced seat.device.knows) (sym same) ∙ sym (ap (λ (k : Known). k.synced) (known_here ps k p' seat u.low)) ∙ ap (λ (s : ℕ). (known_in (set ps k p') seat s).synced) u.next
-
   -- the point that a pass has seen of a region whose hand it used
   pub point_used : (name : Naming) (bases : ℕ → Base) (h calls r k : ℕ) (ps : List (RegionPass N g)) (p p' : RegionPass N g) (seat : LogSeat) → IsUsed h calls r k ps p → name.bases ≡ bases → p'.viewer.region ≡ p.viewer.region
       → last_in (bases p.viewer.region) p'.viewer.lines ≡ point_seen name r (pass_of h calls (set ps k p') seat)
