@@ -9,12 +9,11 @@ use Rattle.log_device.specs.declared.error.Rolled.{Rolled}
 use Rattle.log_device.specs.declared.error.RollRefusal.{RollRefusal}
 use Rattle.log_device.specs.declared.error.RollRefusal.TheVariants as roll
 use Rattle.log_service.specs.declared.seats.LogSeat.{LogSeat}
-use Rattle.log_service.specs.Numbers.{seen_synced}
 use Rattle.log_service.specs.Places.{IsLaterSeat}
 use Rattle.region_model.specs.Calls.{Answer, is_put, is_scan, is_flush, is_roll}
 use Rattle.region_model.specs.Journal.{Base, Caller, last_of}
 use Rattle.region_model.specs.Lines.{Line, edits_in, last_in}
-use Rattle.server_model.specs.Pass.{Known, Naming}
+use Rattle.server_model.specs.Pass.{Naming}
 use Rattle.server_model.specs.Steps.{Puts, Scans, Flushes, Rolls, IsRolled}
 use Rattle.region_lock.specs.declared.answers.PutRefusal.{PutRefusal}
 use Rattle.region_lock.specs.declared.answers.PutRefusal.TheVariants as put

@@ -11,7 +11,7 @@ use Rattle.region_model.specs.Lines.{Line, last_in}
 use Rattle.log_service.specs.declared.seats.LogSeat.{LogSeat}
 use Rattle.log_service.specs.Numbers.{seen_stored}
 use Rattle.log_service.specs.Places.{IsLaterSeat}
-use Rattle.log_service.specs.Turns.{HasFlushed, HadNothing}
+use Rattle.log_service.specs.Ends.{HasFlushed, HadNothing}
 use Rattle.server_model.specs.Steps.{IsFlushedTo, IsNothingAbove}
 use Rattle.region_lock.specs.Calls.{FlushesAt}
 use Rattle.hand_register.specs.declared.known.Record.{Record}

@@ -3,7 +3,7 @@ use mathlib.Core.List.{IsPrefix}
 use Rattle.hand_register.specs.Views.{HandView}
 use Rattle.log_device.specs.declared.error.DeviceFlush.{DeviceFlush}
 use Rattle.log_service.specs.Numbers.{seen_stored}
-use Rattle.log_service.specs.Turns.{HasFlushed, HadNothing}
+use Rattle.log_service.specs.Ends.{HasFlushed, HadNothing}
 use Rattle.region_model.specs.Calls.{FlushOk}
 use Rattle.region_versions.specs.Histories.{Beginning}
 use Rattle.region_versions.proofs.Fronts.{prefix_self}
