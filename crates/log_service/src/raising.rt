@@ -32,6 +32,7 @@ pub(crate) fn tell_all<W: Ware>(berth: &Berth<W>, seat: &mut BerthSeat, turn: &T
     requires whole { seat.old.knows.broken ≡ false }
     requires below { NoMore seat.old.knows.seen (W.numbers turn.now.ware) }
     ensures seat { (seat.new.berth ≡ seat.old.berth) × (seat.new.knows.turn ≡ true) }
+    ensures tally { seat.new.knows.tally ≡ seat.old.knows.tally }
     ensures later { NoMore seat.old.knows.seen seat.new.knows.seen }
     ensures below { NoMore seat.new.knows.seen (W.numbers turn.now.ware) }
     ensures broken { W.is_broken turn.now.ware ≡ seat.new.knows.broken }

@@ -9,12 +9,11 @@ use Rattle.log_device.specs.declared.error.Rolled.{Rolled}
 use Rattle.log_device.specs.declared.error.RollRefusal.{RollRefusal}
 use Rattle.log_device.specs.declared.error.RollRefusal.TheVariants as roll
 use Rattle.log_service.specs.declared.seats.LogSeat.{LogSeat}
-use Rattle.log_service.specs.Numbers.{seen_synced}
 use Rattle.log_service.specs.Places.{IsLaterSeat}
 use Rattle.region_model.specs.Calls.{Answer, is_put, is_scan, is_flush, is_roll}
 use Rattle.region_model.specs.Journal.{Base, Caller, last_of}
 use Rattle.region_model.specs.Lines.{Line, edits_in, last_in}
-use Rattle.server_model.specs.Pass.{Known, Naming}
+use Rattle.server_model.specs.Pass.{Naming}
 use Rattle.server_model.specs.Steps.{Puts, Scans, Flushes, Rolls, IsRolled}
 use Rattle.region_lock.specs.declared.answers.PutRefusal.{PutRefusal}
 use Rattle.region_lock.specs.declared.answers.PutRefusal.TheVariants as put
@@ -155,12 +154,6 @@ module _ {N : Type 0} {g : Ghosts N} where
     mark = ap (λ (x : HandView Line). x.record.mark) hand ∙ old.mark;
     called = subst (λ (x : HandView Line). AreCalledBelow (calls + 1) x.record.list) (sym hand) old.called;
   }
-
-  -- what a pass knows as synced of a region whose hand it used
-  pub synced_used : (h calls r k : ℕ) (ps : List (RegionPass N g)) (p p' : RegionPass N g) (seat : LogSeat) → IsUsed h calls r k ps p → p'.viewer.region ≡ p.viewer.region
-      → seen_synced seat.device.knows p.viewer.region ≡ (known_in (set ps k p') seat r).synced
-  synced_used h calls r k ps p p' seat u same =
-      ap (seen_synced seat.device.knows) (sym same) ∙ sym (ap (λ (k : Known). k.synced) (known_here ps k p' seat u.low)) ∙ ap (λ (s : ℕ). (known_in (set ps k p') seat s).synced) u.next
 
   -- the point that a pass has seen of a region whose hand it used
   pub point_used : (name : Naming) (bases : ℕ → Base) (h calls r k : ℕ) (ps : List (RegionPass N g)) (p p' : RegionPass N g) (seat : LogSeat) → IsUsed h calls r k ps p → name.bases ≡ bases → p'.viewer.region ≡ p.viewer.region

@@ -64,7 +64,7 @@ impl<
         requires time { time < 2 ^ 63 }
         ensures puts { Puts N.name time region (is_sync durability) batch (record { handler = (knows pass.old).handler; call = call })
             (put_answer result) (knows pass.old) (knows pass.new) }
-        ensures exact { IsFaultExact (is_sync durability) result ((knows pass.new).known region).synced (knows pass.new).broken }
+        ensures exact { IsFaultExact (is_sync durability) region result pass.old.seat.device.knows pass.new.seat.device.knows }
         ensures of { IsPassOf self.now pass.new }
     {
         let caller = Caller {

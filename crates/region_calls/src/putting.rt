@@ -1,7 +1,6 @@
 //! A put into one region, with its memory.
 
 ghost use Rattle.std.specs.Prelude.{◌≡◌, ◌≤◌, ◌<◌, ◌^◌};
-ghost use Rattle.log_service.specs.Numbers.{seen_synced};
 ghost use Rattle.log_service.specs.Places.{IsSeatOf, IsLaterSeat};
 ghost use Rattle.region_lock.specs.Answers.{is_sync, put_answer};
 ghost use Rattle.region_lock.specs.Calls.{PutsAt};
@@ -46,7 +45,7 @@ pub(crate) fn put_at<
     ensures same { SamePass at.old at.new }
     ensures seat { IsSeatOf service.now seat.new }
     ensures later { IsLaterSeat seat.old seat.new }
-    ensures exact { IsFaultExact (is_sync durability) result (seen_synced seat.new.device.knows at.old.viewer.region) seat.new.device.knows.broken }
+    ensures exact { IsFaultExact (is_sync durability) at.old.viewer.region result seat.old.device.knows seat.new.device.knows }
 {
     let region = at.region();
     match prepare(alloc, region, caller, time, batch) {

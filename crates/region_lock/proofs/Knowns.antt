@@ -51,7 +51,7 @@ pub quiet_at : (n r r' : ℕ) (own own' shown shown' : List Line) (told told' : 
 quiet_at n r r' own own' shown shown' told told' seat seat' same mine spent = record { own = λ i. edits_in (same i) (mine i); spent = spent }
 
 pub later_refl : (seat : LogSeat) → IsLaterSeat seat seat
-later_refl seat = record { words = λ i. omega arith; fault = λ e. (e, λ i. refl) }
+later_refl seat = record { words = λ i. omega arith; fault = λ e. (e, λ i. refl); looks = omega arith }
 
 pub not_before : (a b : Bool) → (a ≡ true → b ≡ true) → b ≡ false → a ≡ false
 not_before true b f e = absurd (true≢false (sym (f refl) ∙ e))

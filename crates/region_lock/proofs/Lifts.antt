@@ -63,6 +63,8 @@ flushes_from name r caller answer old new answered p others handler calls used =
   busy = p.busy;
   fault = p.fault;
   used = used;
+  flushed = p.flushed;
+  nothing = p.nothing;
 }
 
 -- One roll of a pass, whose words of each region are those of its seat.

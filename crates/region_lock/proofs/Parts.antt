@@ -24,7 +24,7 @@ use Rattle.region_lock.specs.declared.job.Job.{Job}
 use Rattle.region_lock.specs.Jobs.{IsJob, entry_under}
 use Rattle.region_lock.specs.Parts.{IsPart, entries_in, AreOwn, AreOwned, EndsPending}
 use Rattle.region_lock.proofs.Lists.{get_set, length_set}
-use Rattle.region_lock.proofs.Ties.{appended-append, end_of-append, entries_in-append, entries_in-ended, own_begun, own_ended, owned_begun, owned_ended, last_of, number_at, ended_middle, marks_same, marks_set, marks_clear, told_more, told_one, above_last}
+use Rattle.region_lock.proofs.Ties.{appended-append, end_of-append, entries_in-append, entries_in-ended, own_begun, own_ended, owned_begun, owned_ended, last_of, number_at, ended_middle, marks_same, marks_clear, told_more, told_one, above_last}
 
 held_same : (hs hs' : List Held) (es es' : List Entry) → hs' ≡ hs → es' ≡ es → AreHeld hs es → AreHeld hs' es'
 held_same hs hs' es es' a b held = subst (λ (t : List Held). AreHeld t es') (sym a) (subst (AreHeld hs) (sym b) held)
@@ -112,20 +112,6 @@ own_same ours xs k n q own at j u e = elim (get_set ours k j (with_mark q n) u e
   | inl t ↦ sym (ap (λ (w : Record Line). w.list) t.1) ∙ own k q at ∙ ap (λ (i : ℕ). handled_lines (i + 1) xs) (sym t.0)
   | inr t ↦ own j u t.1
 ]
-
--- a flush begins
-pub part_marked : (flushes : List Caller) (r : ℕ) (base : Base) (xs : List Line) (ours : List (Record Line)) (theirs : List (Record ℕ)) (pass : RingPass Item)
-    (k : ℕ) (q : Record Line) (c : Caller) → IsPart flushes r base xs None ours theirs pass → slice_get ours k ≡ Some q → c.handler ≡ k + 1 → 1 ≤ c.call → Contains flushes c
-    → IsPart flushes r base xs (Some c) (set ours k (with_mark q c.call)) theirs pass
-part_marked flushes r base xs ours theirs pass k q c p at mine least listed = record {
-  pushed = p.pushed;
-  drawn = p.drawn;
-  own = own_same ours xs k c.call q p.own at;
-  owners = subst (λ (n : ℕ). AreOwned n xs) (sym (length_set ours k (with_mark q c.call))) p.owners;
-  told = p.told;
-  marks = marks_set ours k c (with_mark q c.call) p.marks mine refl;
-  listed = λ d is. let same : c ≡ d = cc is in subst (λ (e : Caller). (1 ≤ e.call) × Contains flushes e) same (least, listed);
-}
 
 -- it ends
 pub part_unmarked : (flushes : List Caller) (r : ℕ) (base : Base) (xs : List Line) (mark : Option Caller) (ours : List (Record Line)) (theirs : List (Record ℕ)) (pass : RingPass Item)

@@ -1,9 +1,9 @@
 -- What a put's steps come to.
-use Rattle.std.proofs.Common.{◌≡◌, ℕ, ◌-◌, ◌^◌, ◌<◌, ◌≤◌, Bool, true, false, true≢false, List, [], ◌∷◌, ◌++◌, Contains, Option, Some, None, sym, ap, ◌∙◌, subst, arith, append-nil}
+use Rattle.std.proofs.Common.{◌≡◌, ℕ, ◌-◌, ◌<◌, ◌≤◌, Bool, true, false, true≢false, List, [], ◌∷◌, ◌++◌, Contains, Option, Some, Result, Ok, Err, sym, ap, ◌∙◌, subst, arith, append-nil}
 use mathlib.Core.List.{IsPrefix}
 use Rattle.cell_model.specs.Cell.{Cell}
 use Rattle.region_model.specs.Journal.{Base, Caller, Outcome, Done, Edit, last_of}
-use Rattle.region_model.specs.Calls.{Answer, PutOk, PutFault, PutSpent}
+use Rattle.region_model.specs.Calls.{Answer, PutOk, PutFault}
 use Rattle.region_model.specs.Lawful.{number_of, outcome_of, IsPutFault}
 use Rattle.region_model.specs.Lines.{Line, edit_in, edits_in, last_in, pending}
 use Rattle.region_model.proofs.LineLaws.{edits_in-append}
@@ -12,29 +12,15 @@ use Rattle.log_service.specs.Numbers.{seen_synced}
 use Rattle.log_service.specs.Places.{IsLaterSeat}
 use Rattle.server_model.specs.Pass.{Known, IsLaterOf}
 use Rattle.server_model.specs.Steps.{edit_of, drawn, told_last}
+use Rattle.region_lock.specs.declared.job.Job.{Job}
+use Rattle.region_lock.specs.declared.answers.PutRefusal.{PutRefusal}
+use Rattle.region_lock.specs.declared.answers.PutRefusal.TheVariants as put
 use Rattle.region_lock.specs.Calls.{PutsAt}
+use Rattle.region_lock.specs.Jobs.{line_of}
 use Rattle.region_lock.specs.Parts.{WasEnded, AreBelow}
+use Rattle.region_lock.specs.Puts.{IsDrawn}
 use Rattle.region_lock.proofs.Lists.{snoc_same}
 use Rattle.region_lock.proofs.Knowns.{at_region, later_at, last_same, below_edits}
-
--- no number was drawn
-pub refused_at : (base : Base) (time r : ℕ) (sync : Bool) (cells : List Cell) (caller : Caller) (answer : Answer) (old new : Known) (was is : Bool)
-    → number_of answer ≡ None → IsLaterOf old new → new.own ≡ old.own → new.spent ≡ old.spent ++ told_last answer → (IsPutFault answer → is ≡ true) → (was ≡ true → is ≡ true) → ((n : ℕ) → answer ≡ PutSpent n → n ≡ 2 ^ 48 - 1)
-    → PutsAt base time r sync cells caller answer old new was is
-refused_at base time r sync cells caller answer old new was is none later own spent fault stays limit = record {
-  later = later;
-  own = own ∙ sym (append-nil old.own) ∙ ap (λ (o : Option ℕ). old.own ++ drawn r time cells caller answer o) (sym none);
-  spent = spent;
-  above = λ n some. absurd (cc (sym none ∙ some));
-  above_own = λ n x some. absurd (cc (sym none ∙ some));
-  fault_sync = λ n e. absurd (cc (sym none ∙ ap number_of e));
-  seen = λ n e. absurd (cc (sym none ∙ ap number_of e));
-  synced = λ n s some. absurd (cc (sym none ∙ some));
-  fault = fault;
-  stays = stays;
-  stops = λ _. none;
-  limit = limit;
-}
 
 -- a number was drawn
 pub numbered_at : (base : Base) (time r : ℕ) (sync : Bool) (cells : List Cell) (caller : Caller) (answer : Answer) (old new : Known) (was is : Bool) (n : ℕ)
@@ -83,3 +69,16 @@ put_at n_regions base time r r' n sync cells caller answer own mid own' shown sh
     (λ s d. subst (λ (k : ℕ). n ≤ seen_synced seat'.device.knows k) (sym same) (synced s d))
     fault
     whole
+
+-- ---- drawing
+
+-- what one try of a job that came back has drawn is drawn of the job that it was
+pub drawn_from : (seen seen' : ℕ) (job job' : Job) (own own' mid : List Line) (told told' later : List ℕ) (result : Result ℕ PutRefusal) (broken : Bool)
+    → seen ≡ seen' → line_of 0 job ≡ line_of 0 job' → own ≡ own' → told ≡ told' → IsDrawn seen job own told result mid later broken → IsDrawn seen' job' own' told' result mid later broken
+drawn_from seen seen' job job' own own' mid told told' later (Ok n) broken point line mine spent d =
+    let same : line_of n job ≡ line_of n job' = ap (λ (x : Line). record x { number = n }) line in
+    (d.0 ∙ (λ i. mine i ++ same i ∷ []), d.1 ∙ spent, omega (arith, point, d.2), d.3, subst (AreBelow n) mine d.4)
+drawn_from seen seen' job job' own own' mid told told' later (Err (put.Memory logged)) broken point line mine spent d = (d.0 ∙ mine, d.1 ∙ spent, d.2)
+drawn_from seen seen' job job' own own' mid told told' later (Err (put.WriteFault number)) broken point line mine spent d = (d.0 ∙ mine, d.1 ∙ spent, d.2, d.3)
+drawn_from seen seen' job job' own own' mid told told' later (Err (put.NumbersSpent last)) broken point line mine spent d =
+    (d.0 ∙ mine, d.1 ∙ ap (λ (l : List ℕ). l ++ last ∷ []) spent, d.2)

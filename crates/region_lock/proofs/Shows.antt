@@ -1,5 +1,5 @@
 -- What is shown of a region stays a beginning of its journal.
-use Rattle.std.proofs.Common.{◌≡◌, ◌≢◌, ℕ, zero, suc, ◌+◌, ◌<◌, ◌≤◌, Bool, true, false, true≢false, cond, List, [], ◌∷◌, ◌++◌, length, refl, sym, ap, ◌∙◌, subst, arith, Result, Ok, Err, OnOk, OnErr, take, get_or, ne_eqb, append_assoc}
+use Rattle.std.proofs.Common.{◌≡◌, ◌≢◌, ℕ, zero, suc, ◌+◌, ◌<◌, ◌≤◌, Bool, true, false, true≢false, cond, List, [], ◌∷◌, ◌++◌, length, refl, sym, ap, ◌∙◌, subst, arith, Result, Ok, Err, OnOk, OnErr, take, get_or, ne_eqb}
 use Rattle.std.specs.List.{AllPass}
 use mathlib.Core.List.{IsPrefix}
 use Rattle.region_model.specs.Journal.{Outcome, Follows, is_completed}
@@ -7,7 +7,6 @@ use Rattle.region_model.specs.Lines.{Line, edits_in, ended, with_outcome, IsPend
 use Rattle.region_versions.specs.Histories.{Beginning}
 use Rattle.region_versions.proofs.Fronts.{prefix_self, prefix_trans}
 use Rattle.region_lock.specs.Histories.{HasShown}
-use Rattle.region_lock.proofs.Lists.{take_front}
 use Rattle.region_lock.proofs.Ties.{above_last}
 
 -- a pending line is behind a completed beginning
@@ -38,9 +37,6 @@ shown_ended r last n o xs history seen h f p =
     let behind = pending_behind r last n history.lines rest follows h.completed pending in
     record { region = h.region; of = h.of; front = (with_outcome n o rest, sym (front_stays r last n o history.lines rest follows behind) ∙ ap (with_outcome n o) whole); completed = h.completed; shown = h.shown }
 
-pub shown_more : (r : ℕ) (xs ys : List Line) (history seen : Beginning) → HasShown r xs history seen → HasShown r (xs ++ ys) history seen
-shown_more r xs ys history seen h = record { region = h.region; of = h.of; front = (h.front.0 ++ ys, sym (append_assoc history.lines h.front.0 ys) ∙ ap (λ (l : List Line). l ++ ys) h.front.1); completed = h.completed; shown = h.shown }
-
 -- ---- the history catches up
 
 pub prefix_more : (xs ys : List Line) (d : Line) → IsPrefix xs ys → length xs < length ys → IsPrefix (xs ++ get_or ys (length xs) d ∷ []) ys
@@ -51,9 +47,6 @@ prefix_more (x ∷ xs) (y ∷ ys) d p lt =
     let heads : x ≡ y = cc (p.1) in
     let r = prefix_more xs ys d (p.0, cc (p.1)) (omega arith) in
     (r.0, cc (heads, r.1))
-
-pub take_prefix : (xs ys : List Line) → IsPrefix xs ys → take (length xs) ys ≡ xs
-take_prefix xs ys p = ap (take (length xs)) (sym p.1) ∙ take_front xs p.0
 
 pub completed_prefix : (xs ys : List Line) (n : ℕ) → IsPrefix xs ys → length xs ≤ n → AllPass is_completed_line (take n ys) → AllPass is_completed_line xs
 completed_prefix [] ys n p le all k d lt = absurd (omega arith)
@@ -82,22 +75,6 @@ shown_whole r xs history seen seen' h is = record {
   completed = h.completed;
   shown = subst (λ (b : Beginning). IsPrefix b.lines history.lines) (sym is) (prefix_self history.lines);
 }
-
-pub take_own : (n : ℕ) (xs : List Line) → take (length (take n xs)) xs ≡ take n xs
-take_own zero [] = refl
-take_own zero (x ∷ xs) = refl
-take_own (suc n) [] = refl
-take_own (suc n) (x ∷ xs) = ap (λ (l : List Line). x ∷ l) (take_own n xs)
-
-pub take_short : (n : ℕ) (xs : List Line) → length (take n xs) ≤ length xs
-take_short zero [] = omega arith
-take_short zero (x ∷ xs) = omega arith
-take_short (suc n) [] = omega arith
-take_short (suc n) (x ∷ xs) = let r = take_short n xs in omega (arith, r)
-
--- the history that caught up is the cut
-pub is_cut : (xs ys : List Line) (n : ℕ) → IsPrefix xs ys → length xs ≡ n → take n ys ≡ xs
-is_cut xs ys n p is = ap (λ (k : ℕ). take k ys) (sym is) ∙ take_prefix xs ys p
 
 pub shown_after : {A E : Type 0} (res : Result A E) (r : ℕ) (xs : List Line) (history front seen seen' : Beginning) → HasShown r xs history seen → front ≡ history → OnOk res (seen' ≡ front) → OnErr res (seen' ≡ seen) → HasShown r xs history seen'
 shown_after (Ok a) r xs history front seen seen' h same ok err = shown_whole r xs history seen seen' h (ok ∙ same)

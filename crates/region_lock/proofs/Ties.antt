@@ -173,23 +173,6 @@ marks_same records mark k r q marked at same j u e = ⊎_elim
     (λ (t : (j ≢ k) × (slice_get records j ≡ Some u)). marked j u t.1)
     (get_set records k j q u e)
 
--- no flush was under way, and one begins
-pub marks_set : (records : List (Record Line)) (k : ℕ) (c : Caller) (q : Record Line) → AreMarked records None → c.handler ≡ k + 1 → q.mark ≡ c.call → AreMarked (set records k q) (Some c)
-marks_set records k c q marked mine call j u e = ⊎_elim
-    (λ (t : (j ≡ k) × (q ≡ u)).
-    let own : c.handler ≡ j + 1 = mine ∙ ap (λ (i : ℕ). i + 1) (sym t.0) in
-    sym (ap (λ (w : Record Line). w.mark) t.1) ∙ call ∙ sym (ap (λ (b : Bool). cond b c.call 0) (eq-eqb c.handler (j + 1) own)))
-    (λ (t : (j ≢ k) × (slice_get records j ≡ Some u)).
-    let other : c.handler ≢ j + 1 = λ q. t.0 (omega (arith, q, mine)) in
-    marked j u t.1 ∙ sym (ap (λ (b : Bool). cond b c.call 0) (ne_eqb c.handler (j + 1) other)))
-    (get_set records k j q u e)
-
--- a record without a mark isn't that of the flush under way
-pub other_flush : (records : List (Record Line)) (k : ℕ) (r : Record Line) (c : Caller) → AreMarked records (Some c) → slice_get records k ≡ Some r → r.mark ≡ 0 → 1 ≤ c.call → c.handler ≢ k + 1
-other_flush records k r c marked at free least same =
-    let call : r.mark ≡ c.call = marked k r at ∙ ap (λ (b : Bool). cond b c.call 0) (eq-eqb c.handler (k + 1) same) in
-    absurd (omega (arith, call, free, least))
-
 none_elsewhere : (records : List (Record Line)) (mark : Option Caller) (k : ℕ) (r : Record Line) → AreMarked records mark → slice_get records k ≡ Some r → 1 ≤ r.mark → (j : ℕ) → j ≢ k → mark_of mark (j + 1) ≡ 0
 none_elsewhere records None k r marked at least j ne = refl
 none_elsewhere records (Some c) k r marked at least j ne = go (c.handler == k + 1) refl

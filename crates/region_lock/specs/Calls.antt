@@ -2,10 +2,10 @@
 use Rattle.std.specs.Prelude.{◌≡◌, ◌≢◌, ℕ, ◌-◌, ◌^◌, ◌<◌, ◌≤◌, Bool, true, List, ◌++◌, Some, None, Contains}
 use Rattle.cell_model.specs.Cell.{Cell}
 use Rattle.region_model.specs.Journal.{Base, Caller, Edit, last_of, visible}
-use Rattle.region_model.specs.Calls.{Answer, PutOk, PutFault, PutSpent, Scanned, FlushBusy, FlushFault, RollFault}
+use Rattle.region_model.specs.Calls.{Answer, PutOk, PutFault, PutSpent, Scanned, FlushOk, FlushNothing, FlushBusy, FlushFault, RollFault}
 use Rattle.region_model.specs.Lawful.{number_of, outcome_of, flushed_of, IsPutFault}
 use Rattle.server_model.specs.Pass.{Known, IsLaterOf, IsQuiet}
-use Rattle.server_model.specs.Steps.{drawn, told_last, IsRolled}
+use Rattle.server_model.specs.Steps.{drawn, told_last, IsFlushedTo, IsNothingAbove, IsRolled}
 use Rattle.log_service.specs.declared.seats.LogSeat.{LogSeat}
 use Rattle.log_service.specs.Places.{IsLaterSeat}
 use Rattle.log_service.specs.Numbers.{seen_synced, seen_closed}
@@ -43,6 +43,8 @@ pub record FlushesAt (base : Base) (flushes : List Caller) (caller : Caller) (an
   pub busy : (h c : ℕ) → answer ≡ FlushBusy h c → (h ≢ caller.handler) × Contains flushes (record { handler = h; call = c })
   pub fault : answer ≡ FlushFault → is ≡ true
   pub stays : was ≡ true → is ≡ true
+  pub flushed : (n : ℕ) → answer ≡ FlushOk n → IsFlushedTo n old new
+  pub nothing : (n : ℕ) → answer ≡ FlushNothing n → IsNothingAbove n new
 
 -- A roll, by what it does to the seat, where there are n regions.
 pub record RollsAt (n : ℕ) (answer : Answer) (old new : LogSeat) : Type 0 where

@@ -5,14 +5,13 @@ ghost use Rattle.std.specs.Arc.{arc_value};
 ghost use mathlib.Core.List.{IsPrefix};
 ghost use Rattle.region_model.specs.Lines.{last_in};
 ghost use Rattle.region_state.specs.Outcomes.{outcome_at_end};
-ghost use Rattle.log_service.specs.Numbers.{seen_synced};
 ghost use Rattle.log_service.specs.Places.{IsSeatOf, IsLaterSeat};
 ghost use Rattle.region_lock.specs.Answers.{is_sync, put_answer};
 ghost use Rattle.region_lock.specs.Calls.{PutsAt};
 ghost use Rattle.region_lock.specs.Jobs.{IsJob};
 ghost use Rattle.region_lock.specs.Parts.{EndsPending, WasEnded, AreCalledBelow};
 ghost use Rattle.region_lock.specs.Passes.{IsAtService, SameView, SamePass, known_of};
-ghost use Rattle.region_lock.specs.Puts.{IsDrawn, IsLogged, IsFaultExact};
+ghost use Rattle.region_lock.specs.Puts.{IsAttempted, IsDrawn, IsLogged, IsFaultExact, IsWatched};
 
 use crate::answers::PutRefusal;
 use crate::gate::Gate;
@@ -29,8 +28,51 @@ use std::alloc::Global;
 use std::sync::{Mutex, Wait};
 use write_queue::WriteEntry;
 
-/// Begins the edit under the region's lock, in as many tries as it takes. After each try that found the ring full it looks for the fault,
-/// and helps.
+/// One try to begin the edit under the region's lock. Where the ring was full the fault word is loaded after it: the job comes back, to be tried
+/// again, only where that load found the word clear.
+fn attempt<
+    N: Naming + log_service::Naming + region_versions::Naming,
+    D: Disk,
+    R: Wait + Drop,
+    S: Wait,
+>(
+    rt: &S,
+    service: &LogService<D, N>,
+    lock: &Mutex<Locked<N, R>>,
+    at: &mut RegionPass<N>,
+    seat: &mut LogSeat,
+    job: Job,
+) -> Result<Result<WriteEntry, PutRefusal>, Job>
+    requires service { IsAtService N.ring service.now at.old.viewer.region seat.old }
+    requires job { IsJob at.old.viewer.region job }
+    requires caller { (job.caller.handler ≡ at.old.hand.number) × AreCalledBelow job.caller.call at.old.hand.record.list }
+    ensures drawn { IsAttempted (last_in (N.Naming-3.base at.old.viewer.region) at.old.viewer.lines) at.old.viewer.region job
+        at.old.hand.record.list at.old.told.record.list result at.new.hand.record.list at.new.told.record.list seat.new.device.knows.broken }
+    ensures watched { IsWatched result seat.old.device.knows seat.new.device.knows }
+    ensures same { SameView at.old at.new }
+    ensures seat { IsSeatOf service.now seat.new }
+    ensures later { IsLaterSeat seat.old seat.new }
+{
+    let region = at.viewer.region();
+    let seen = at.viewer.seen();
+    let tried = lock
+        .lock(rt)
+        .draw(rt, service, region, seen, &mut at.hand, &mut at.told, job);
+    match tried {
+        Tried::Begun(entry) => Ok(Ok(entry)),
+        Tried::Spent { last } => Ok(Err(PutRefusal::NumbersSpent { last })),
+        Tried::Memory => Ok(Err(PutRefusal::Memory { logged: None })),
+        Tried::Again(back) => {
+            if service.broken(seat) {
+                Ok(Err(PutRefusal::WriteFault { number: None }))
+            } else {
+                Err(back)
+            }
+        }
+    }
+}
+
+/// Begins the edit, in as many tries as it takes, and helps after each that found the ring full.
 fn draw<
     N: Naming + log_service::Naming + region_versions::Naming,
     D: Disk,
@@ -53,21 +95,11 @@ fn draw<
     ensures seat { IsSeatOf service.now seat.new }
     ensures later { IsLaterSeat seat.old seat.new }
 {
-    let region = at.viewer.region();
-    let seen = at.viewer.seen();
     let mut job = job;
     'trying: for _ in rt.forever() {
-        let tried = lock
-            .lock(rt)
-            .draw(rt, service, region, seen, &mut at.hand, &mut at.told, job);
-        match tried {
-            Tried::Begun(entry) => return Ok(entry),
-            Tried::Spent { last } => return Err(PutRefusal::NumbersSpent { last }),
-            Tried::Memory => return Err(PutRefusal::Memory { logged: None }),
-            Tried::Again(back) => job = back,
-        }
-        if service.broken(seat) {
-            return Err(PutRefusal::WriteFault { number: None });
+        match attempt(rt, service, lock, at, seat, job) {
+            Ok(drawn) => return drawn,
+            Err(back) => job = back,
         }
         help(rt, service, seat);
     }
@@ -115,7 +147,7 @@ fn await_log<
     gate: &G,
 ) -> bool
     requires service { IsAtService N.ring service.now region seat.old }
-    ensures logged { IsLogged (is_sync durability) result number (seen_synced seat.new.device.knows region) seat.new.device.knows.broken }
+    ensures logged { IsLogged (is_sync durability) result region number seat.new.device.knows }
     ensures seat { IsSeatOf service.now seat.new }
     ensures later { IsLaterSeat seat.old seat.new }
 {
@@ -244,7 +276,7 @@ pub fn put_in<
     ensures same { SamePass at.old at.new }
     ensures seat { IsSeatOf service.now seat.new }
     ensures later { IsLaterSeat seat.old seat.new }
-    ensures exact { IsFaultExact (is_sync durability) result (seen_synced seat.new.device.knows at.old.viewer.region) seat.new.device.knows.broken }
+    ensures exact { IsFaultExact (is_sync durability) at.old.viewer.region result seat.old.device.knows seat.new.device.knows }
 {
     if service.broken(seat) {
         return Err(PutRefusal::WriteFault { number: None });

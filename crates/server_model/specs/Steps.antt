@@ -2,9 +2,9 @@
 use Rattle.std.specs.Prelude.{◌≡◌, ◌≢◌, ℕ, ◌-◌, ◌^◌, ◌<◌, ◌≤◌, Bool, true, IsTrue, List, [], ◌∷◌, ◌++◌, Contains, Option, Some, None}
 use Rattle.cell_model.specs.Cell.{Cell}
 use Rattle.region_model.specs.Journal.{Edit, Outcome, Caller, last_of, visible}
-use Rattle.region_model.specs.Calls.{Call, Put, Scan, Flush, Roll, Answer, PutOk, PutFault, PutSpent, Scanned, FlushBusy, FlushFault, RollOk, RollNothing, RollFault, Reply, is_put, is_scan, is_flush, is_roll}
+use Rattle.region_model.specs.Calls.{Call, Put, Scan, Flush, Roll, Answer, PutOk, PutFault, PutSpent, Scanned, FlushOk, FlushNothing, FlushBusy, FlushFault, RollOk, RollNothing, RollFault, Reply, is_put, is_scan, is_flush, is_roll}
 use Rattle.region_model.specs.Lawful.{number_of, outcome_of, flushed_of, IsPutFault}
-use Rattle.server_model.specs.Pass.{Pass, Naming, IsLater, IsQuiet}
+use Rattle.server_model.specs.Pass.{Known, Pass, Naming, IsLater, IsQuiet}
 
 -- the edit of a put that drew this number
 abbrev pub edit_of : (r n time : ℕ) → List Cell → Caller → Outcome → Edit
@@ -74,6 +74,17 @@ pub record Scans (name : Naming) (r : ℕ) (from to : List ℕ) (answer : Answer
       → (p ≡ last_of (name.bases r).last (new.known r).shown) × (cells ≡ visible (name.bases r).content (new.known r).shown p from to)
   pub used : new.calls ≡ old.calls
 
+-- a flush that answered its number: it is what is stored now and the last that is durable, and above all that the pass had seen stored
+pub record IsFlushedTo (n : ℕ) (old new : Known) : Type 0 where
+  pub stored : n ≡ new.stored
+  pub synced : n ≡ new.synced
+  pub more : old.stored < n
+
+-- a flush that found nothing above the number: it is what is stored, and nothing above it is durable
+pub record IsNothingAbove (n : ℕ) (new : Known) : Type 0 where
+  pub stored : n ≡ new.stored
+  pub synced : new.synced ≤ n
+
 pub record Flushes (name : Naming) (r : ℕ) (caller : Caller) (answer : Answer) (old new : Pass) : Type 0 where
   pub answered : IsFlushAnswer answer
   pub later : IsLater old new
@@ -85,6 +96,8 @@ pub record Flushes (name : Naming) (r : ℕ) (caller : Caller) (answer : Answer)
   pub busy : (h c : ℕ) → answer ≡ FlushBusy h c → (h ≢ caller.handler) × Contains (name.flushes r) (record { handler = h; call = c })
   pub fault : answer ≡ FlushFault → new.broken ≡ true
   pub used : new.calls ≡ caller.call
+  pub flushed : (n : ℕ) → answer ≡ FlushOk n → IsFlushedTo n (old.known r) (new.known r)
+  pub nothing : (n : ℕ) → answer ≡ FlushNothing n → IsNothingAbove n (new.known r)
 
 pub record Rolls (answer : Answer) (old new : Pass) : Type 0 where
   pub answered : IsRollAnswer answer

@@ -1,20 +1,34 @@
-use Rattle.std.proofs.Common.{◌≡◌, [], ◌∷◌, ◌++◌, subst, sym, ap, ◌∙◌, arith}
+use Rattle.std.proofs.Common.{◌≡◌, ℕ, ap, sym, ◌∙◌, subst}
 use Rattle.region_model.specs.Journal.{Caller}
-use Rattle.region_model.specs.Lines.{Line}
-use Rattle.region_lock.specs.Parts.{AreBelow}
-use Rattle.region_lock.specs.Jobs.{line_of}
+use Rattle.region_model.specs.Lines.{Line, last_in}
+use Rattle.region_versions.specs.Histories.{Beginning}
+use Rattle.region_lock.specs.Jobs.{IsJob}
+use Rattle.region_lock.proofs.PutLaws.{drawn_from}
 use Rattle.region_lock.proofs.put.draw.Goals as goal
 
-pub draw-tried-requires-clause-caller : goal.draw-tried-requires-clause-caller
-draw-tried-requires-clause-caller g c =
+pub attempt-requires-clause-service : goal.attempt-requires-clause-service
+attempt-requires-clause-service g c =
+    let i = c.trying.invariant in
+    let region : c.trying.at.viewer.region ≡ c.args.at.now.viewer.region = ap (λ (b : Beginning). b.region) i.0.0 in
+    record {
+      ring = c.requires.service.ring;
+      region = rw region c.requires.service.region;
+      seat = i.3;
+    }
+
+pub attempt-requires-clause-job : goal.attempt-requires-clause-job
+attempt-requires-clause-job g c =
+    let i = c.trying.invariant in
+    subst (λ (r : ℕ). IsJob r c.trying.job) (sym (ap (λ (b : Beginning). b.region) i.0.0)) i.5
+
+pub attempt-requires-clause-caller : goal.attempt-requires-clause-caller
+attempt-requires-clause-caller g c =
     let i = c.trying.invariant in
     let who : c.trying.job.caller ≡ c.args.job.caller = ap (λ (x : Line). x.caller) i.6 in
     (ap (λ (w : Caller). w.handler) who ∙ c.requires.caller.0 ∙ sym i.0.1, rw (ap (λ (w : Caller). w.call) who, i.1) c.requires.caller.1)
 
-pub returns-in-Begun-clause-drawn : goal.returns-in-Begun-clause-drawn
-returns-in-Begun-clause-drawn g c =
+pub returns-in-Ok-clause-drawn : goal.returns-in-Ok-clause-drawn
+returns-in-Ok-clause-drawn g c =
     let i = c.trying.invariant in
-    let t = c.in-Begun.ensures.tried in
-    let n = c.in-Begun.entry in
-    let same : line_of n c.trying.job ≡ line_of n c.args.job = ap (λ (x : Line). record x { number = n }) i.6 in
-    (t.0 ∙ (λ d. i.1 d ++ same d ∷ []), t.1 ∙ i.2, omega (arith, t.2, i.8, c.seen-seen.ensures), t.3, subst (AreBelow n) i.1 t.4)
+    let point = ap (λ (b : Beginning). last_in (g.N.Naming-3.base b.region) b.lines) i.0.0 in
+    drawn_from _ _ c.trying.job c.args.job _ _ _ _ _ _ c.in-Ok.drawn _ point i.6 i.1 i.2 c.in-Ok.ensures.drawn

@@ -10,4 +10,3 @@ invariant-trying g l =
     × (l.at.hand.record.list ≡ l.initial.at.hand.record.list) × (l.at.told.record.list ≡ l.initial.at.told.record.list)
     × IsSeatOf l.service l.seat × IsLaterSeat l.initial.seat l.seat
     × IsJob l.initial.at.viewer.region l.job × (line_of 0 l.job ≡ line_of 0 l.initial.job)
-    × (l.region ≡ l.initial.region) × (l.seen ≡ l.initial.seen)

@@ -33,7 +33,7 @@ returns-then-not-await_log-clause-puts g c =
     put_at c.args.service.now.regions base job.time c.args.at.now.viewer.region c.end-waits.new.at.viewer.region n (is_sync c.args.durability) (arc_value job.batch) job.caller (PutFault (Some n)) own c.draw.new.at.hand.record.list c.end-waits.new.at.hand.record.list
     c.args.at.now.viewer.lines c.end-waits.new.at.viewer.lines c.args.at.now.told.record.list c.end-waits.new.at.told.record.list c.args.seat.now c.await_log.new.seat
     (ap (λ (b : Beginning). b.region) v) drew c.end-waits.ensures.own (c.end-waits.ensures.told ∙ d.1) (subst (λ (b : Beginning). IsPrefix c.args.at.now.viewer.lines b.lines) (sym v) (prefix_self c.args.at.now.viewer.lines)) words (omega (arith, d.2, nn)) below
-    refl refl (λ m e. logged.0) (λ m e. absurd (cc e)) (λ s e. absurd (cc e)) (λ f. logged.1) whole
+    refl refl (λ m e. logged.0) (λ m e. absurd (cc e)) (λ s e. absurd (cc e)) (λ f. logged.1.broken) whole
 
 pub returns-in-Ok-clause-puts : goal.returns-in-Ok-clause-puts
 returns-in-Ok-clause-puts g c =

@@ -1,5 +1,6 @@
 use Rattle.std.proofs.Common.{◌≡◌, ◌<◌, ◌*◌, ℕ, true≢false, get_or, sym, ap, ◌∙◌, subst, arith}
 use Rattle.log_berth.specs.declared.known.Known.{Known}
+use Rattle.log_berth.specs.declared.known.Tally.{Tally}
 use Rattle.log_berth.specs.Words.{NoMore}
 use Rattle.log_device.specs.Whole.{books_of}
 use Rattle.log_service.specs.Numbers.{told_numbers, HasSeen}
@@ -14,6 +15,10 @@ pub returns-clause-later : goal.returns-clause-later
 returns-clause-later g c = record {
   words = subst (NoMore c.args.seat.now.device.knows.seen) (sym (ap (λ (k : Known). k.seen) c.give.ensures.1)) c.tell_all.ensures.later;
   fault = λ broken. absurd (true≢false (sym broken ∙ c.requires.whole));
+  looks =
+      let given = ap (λ (k : Known). k.tally.looks) c.give.ensures.1 in
+      let told = ap (λ (t : Tally). t.looks) c.tell_all.ensures.tally in
+      omega (arith, given, told);
 }
 
 pub returns-clause-saw : goal.returns-clause-saw

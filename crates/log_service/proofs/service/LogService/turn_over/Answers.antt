@@ -1,7 +1,7 @@
 use Rattle.std.proofs.Common.{◌≡◌, ◌∷◌, ◌++◌, [], true≢false, refl, sym, ap, ◌∙◌, subst}
 use Rattle.crossbeam_queue.specs.Passes.{view}
 use Rattle.log_berth.specs.declared.known.Known.{Known}
-use Rattle.log_berth.specs.Words.{NoMore}
+use Rattle.log_berth.specs.Words.{NoMore, looked}
 use Rattle.log_berth.proofs.Joined.{no_more-trans}
 use Rattle.log_device.specs.Whole.{log_of, books_of}
 use Rattle.log_trucks.specs.Held.{Held}
@@ -18,18 +18,21 @@ returns-in-Committed-clause-later g c =
     let held = c.in-Ok.ensures.taken.1 in
     turn_later c.args.seat.now _ c.take.new.seat.knows c.commit_and_raise-commit.new.seat.device.knows (sym (c.broken.ensures.exact held.turn) ∙ c.if-broken.false)
     (λ broken. (held.stands broken).0) held.seen (subst (λ l. NoMore l c.commit_and_raise-commit.new.seat.device.knows.seen) c.broken.ensures.same.3 c.commit_and_raise-commit.ensures.later) c.end_turn-2.ensures.1
+    (c.commit_and_raise-commit.ensures.seat.3 ∙ (c.broken.ensures.known.1 ∙ ap looked held.tally))
 
 pub returns-in-Clean-clause-later : goal.returns-in-Clean-clause-later
 returns-in-Clean-clause-later g c =
     let held = c.in-Ok.ensures.taken.1 in
     turn_later c.args.seat.now _ c.take.new.seat.knows c.commit_and_raise-commit.new.seat.device.knows (sym (c.broken.ensures.exact held.turn) ∙ c.if-broken.false)
     (λ broken. (held.stands broken).0) held.seen (subst (λ l. NoMore l c.commit_and_raise-commit.new.seat.device.knows.seen) c.broken.ensures.same.3 c.commit_and_raise-commit.ensures.later) c.end_turn-2.ensures.1
+    (c.commit_and_raise-commit.ensures.seat.3 ∙ (c.broken.ensures.known.1 ∙ ap looked held.tally))
 
 pub returns-in-WriteFault-clause-later : goal.returns-in-WriteFault-clause-later
 returns-in-WriteFault-clause-later g c =
     let held = c.in-Ok.ensures.taken.1 in
     turn_later c.args.seat.now _ c.take.new.seat.knows c.commit_and_raise-commit.new.seat.device.knows (sym (c.broken.ensures.exact held.turn) ∙ c.if-broken.false)
     (λ broken. (held.stands broken).0) held.seen (subst (λ l. NoMore l c.commit_and_raise-commit.new.seat.device.knows.seen) c.broken.ensures.same.3 c.commit_and_raise-commit.ensures.later) c.end_turn-2.ensures.1
+    (c.commit_and_raise-commit.ensures.seat.3 ∙ (c.broken.ensures.known.1 ∙ ap looked held.tally))
 
 pub returns-in-Committed-clause-synced : goal.returns-in-Committed-clause-synced
 returns-in-Committed-clause-synced g c n is =

@@ -5,7 +5,7 @@ use Rattle.region_lock.specs.Puts.{IsFaultExact}
 use Rattle.region_lock.proofs.Lists.{length_set}
 use Rattle.region_calls.proofs.Knowing.{below_more, hands_set}
 use Rattle.region_calls.proofs.Calling.{put_hand}
-use Rattle.region_calls.proofs.Using.{put_is, used, puts_used, synced_used}
+use Rattle.region_calls.proofs.Using.{put_is, used, puts_used}
 use Rattle.region_calls.proofs.server.Server.put.Goals as goal
 
 pub put_at-answer-requires-clause-caller : goal.put_at-answer-requires-clause-caller
@@ -34,8 +34,7 @@ returns-clause-exact g c =
     let done = c.put_at-answer in
     let k = c.place_of-place.result in
     let u = used pass.handler pass.calls c.args.self.now.regions c.args.region k pass.regions.items p c.requires.of.count c.place_of-place.ensures.place c.requires.region.0 c.place_of-place.ensures.few c.requires.of.hands c.index_mut.ensures.value in
-    subst (λ (word : ℕ). IsFaultExact (is_sync c.args.durability) done.result word done.new.seat.device.knows.broken)
-    (synced_used pass.handler pass.calls c.args.region k pass.regions.items p done.new.at done.new.seat u done.ensures.same.0) done.ensures.exact
+    subst (λ (r : ℕ). IsFaultExact (is_sync c.args.durability) r done.result pass.seat.device.knows done.new.seat.device.knows) (u.region ∙ u.next) done.ensures.exact
 
 pub returns-clause-of : goal.returns-clause-of
 returns-clause-of g c =
