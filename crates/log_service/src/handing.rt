@@ -4,11 +4,16 @@ ghost use Rattle.crossbeam_queue.specs.Passes.{view};
 ghost use Rattle.log_service.specs.Moves.{bench_of, HasHanded, WasFull};
 
 use crate::consumer::ConsumerHalf;
+use crate::item::Item;
 use crate::load::Load;
+use crate::moving::{MOST, Moves};
 use crate::name::Naming;
 use append_ring::{Full, Ring};
 use std::mem;
 use std::sync::Wait;
+
+/// In how many moves of 64 items the ring is emptied.
+const MOVES: u64 = 16;
 
 impl<N: Naming> ConsumerHalf<N> {
     /// Pushes the load into the ring of loads, unless it has no truck or that ring is full. It takes no memory.
@@ -38,5 +43,24 @@ impl<N: Naming> ConsumerHalf<N> {
         if self.asked || self.held.is_some() {
             self.push_load(rt, hand);
         }
+    }
+    /// Moves what is in the ring, as far as it fits the load, and so all that was pushed before. It ends after 1,024 items, as many as the ring holds.
+    pub(crate) fn move_pushed<R: Wait>(&mut self, rt: &R, ring: &Ring<Item>)
+        requires { ring.now.id ≡ N.ring }
+    {
+        for _move in 0..MOVES {
+            match self.move_items(rt, ring) {
+                Moves::Moved(MOST) => {}
+                _ => return,
+            }
+        }
+    }
+
+    /// How many sync requests were handed over since this was asked last.
+    pub(crate) fn take_requests(&mut self) -> u64 {
+        if self.asked {
+            return 0;
+        }
+        mem::replace(&mut self.requests, 0)
     }
 }

@@ -71,6 +71,8 @@ impl<D: Disk, N: Naming> LogService<D, N> {
         ensures raised { seat.new.device.knows.broken ≡ false → (i : ℕ) → i < 3 * self.now.regions
             → slice_index seat.new.device.knows.seen i ≡ slice_index (told_numbers turn.ware.regions (books_of turn.ware.device)) i }
     {
+        let mut mover = mover;
+        self.company.serve(mover.ware.take_requests());
         tell_all(&self.device, &mut seat.device, &turn, 3 * self.regions);
         self.device.give(&mut seat.device, turn);
         self.consumer.give(&mut seat.consumer, mover);

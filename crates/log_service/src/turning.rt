@@ -84,7 +84,10 @@ impl<D: Disk, N: Naming> LogService<D, N> {
         match moves {
             Moves::Moved(count) => ConsumerTurn::Moved(count),
             Moves::Empty => ConsumerTurn::Empty,
-            Moves::StageFull => ConsumerTurn::StageFull,
+            Moves::StageFull => {
+                self.company.hurry();
+                ConsumerTurn::StageFull
+            }
         }
     }
 
@@ -115,7 +118,7 @@ impl<D: Disk, N: Naming> LogService<D, N> {
         self.turn_over(rt, seat, false)
     }
 
-    /// The same. Before the load is handed over it may move up to 64 items, so that a commit has all that was pushed before it.
+    /// The same. Before the load is handed over it may wait for company, and move what was pushed, so that a commit has all of it.
     pub(crate) fn turn_over<R: Wait>(&self, rt: &R, seat: &mut LogSeat, moves: bool) -> SyncTurn
         requires seat { IsSeatOf self.now seat.old }
 
@@ -144,14 +147,14 @@ impl<D: Disk, N: Naming> LogService<D, N> {
             return SyncTurn::Broken;
         }
         if moves {
-            self.gather_company(rt);
+            self.company.gather(rt);
         }
         if !self.hand_load(rt, &mut seat.consumer, moves) {
             self.end_turn(&mut seat.device, turn);
             return SyncTurn::Busy;
         }
         let commit = self.commit_and_raise(rt, seat, &mut turn);
-        self.learn_company();
+        self.company.learn();
         self.end_turn(&mut seat.device, turn);
         match commit {
             Commit::Committed(count) => SyncTurn::Synced(count),
@@ -190,9 +193,10 @@ impl<D: Disk, N: Naming> LogService<D, N> {
             return false;
         };
         if moves {
-            turn.ware.move_items(rt, &self.ring);
+            turn.ware.move_pushed(rt, &self.ring);
         }
         turn.ware.hand_over(rt, &self.hand);
+        self.company.serve(turn.ware.take_requests());
         self.consumer.give(seat, turn);
         true
     }
