@@ -64,6 +64,8 @@ impl<D: Disk, N: Naming> LogService<D, N> {
             device,
             regions: _,
             turns: _,
+            commits: _,
+            company: _,
             shows: _,
         } = self;
         let LogSeats { consumers, devices } = seats;

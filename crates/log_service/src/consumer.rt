@@ -27,6 +27,8 @@ pub struct ConsumerHalf<N: Naming> {
     pub(crate) idle: RingPasses<Load>,
     // A sync request was moved since the last hand-over.
     pub(crate) asked: bool,
+    // How many were moved since the last hand-over of which the service was told.
+    pub(crate) requests: u64,
     pub(crate) of: PhantomData<N>,
     ghost ring: { (consumer.pass.table_id ≡ N.ring) × ((view consumer.pass).lasts ≡ N.lasts) },
     ghost to: { (hand.pass.table_id ≡ N.hand) × (hand.region ≡ 1) × ((view hand.pass).lasts ≡ N.lasts) },
@@ -47,6 +49,7 @@ impl<N: Naming> Drop for ConsumerHalf<N> {
             hand: _,
             idle: _,
             asked: _,
+            requests: _,
             of: _,
         } = self;
     }
@@ -81,6 +84,7 @@ impl<N: Naming> ConsumerHalf<N> {
             hand,
             idle,
             asked: _,
+            requests: _,
             of: _,
         } = self;
         (consumer, hand, idle)

@@ -5,7 +5,9 @@ ghost use Rattle.log_service.specs.Moves.{bench_of, HasHanded, WasFull};
 ghost use Rattle.log_service.specs.Places.{FoundTaken, HadTurn, LastFoundTaken, LastHadTurn};
 
 use crate::consumer::ConsumerHalf;
+use crate::item::Item;
 use crate::load::Load;
+use crate::moving::{MOST, Moves};
 use crate::name::Naming;
 use crate::service::LogService;
 use append_ring::{Full, Ring};
@@ -17,6 +19,9 @@ use std::thread;
 
 /// How often a sync turn tries for the consumer's turn.
 const TRIES: u32 = 1000;
+
+/// In how many moves of 64 items the ring is emptied.
+const MOVES: u64 = 16;
 
 impl<N: Naming> ConsumerHalf<N> {
     /// Pushes the load into the ring of loads, unless it has no truck or that ring is full. It takes no memory.
@@ -46,6 +51,25 @@ impl<N: Naming> ConsumerHalf<N> {
         if self.asked || self.held.is_some() {
             self.push_load(rt, hand);
         }
+    }
+    /// Moves what is in the ring, as far as it fits the load, and so all that was pushed before. It ends after 1,024 items, as many as the ring holds.
+    pub(crate) fn move_pushed<R: Wait>(&mut self, rt: &R, ring: &Ring<Item>)
+        requires { ring.now.id ≡ N.ring }
+    {
+        for _move in 0..MOVES {
+            match self.move_items(rt, ring) {
+                Moves::Moved(MOST) => {}
+                _ => return,
+            }
+        }
+    }
+
+    /// How many sync requests were handed over since this was asked last.
+    pub(crate) fn take_requests(&mut self) -> u64 {
+        if self.asked {
+            return 0;
+        }
+        mem::replace(&mut self.requests, 0)
     }
 }
 
@@ -80,9 +104,10 @@ impl<D: Disk, N: Naming> LogService<D, N> {
             return false;
         };
         if moves {
-            turn.ware.move_items(rt, &self.ring);
+            turn.ware.move_pushed(rt, &self.ring);
         }
         turn.ware.hand_over(rt, &self.hand);
+        self.company.serve(turn.ware.take_requests());
         self.consumer.give(seat, turn);
         true
     }

@@ -13,7 +13,7 @@ use append_ring::Ring;
 use std::sync::Wait;
 
 /// The most items that one turn moves.
-const MOST: u64 = 64;
+pub(crate) const MOST: u64 = 64;
 
 /// What a consumer's turn moved.
 #[derive(Clone, Copy, Debug, PartialEq, Eq)]
@@ -65,6 +65,7 @@ impl<N: Naming> ConsumerHalf<N> {
                 number: _,
             } => {
                 self.asked = true;
+                self.requests = self.requests.wrapping_add(1);
                 true
             }
             Item::Append(truck) => {

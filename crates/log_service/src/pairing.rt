@@ -70,6 +70,8 @@ impl<D: Disk, N: Naming> LogService<D, N> {
         ensures broken { broken_of turn.ware.device ≡ seat.new.device.knows.broken }
         ensures saw { seat.new.device.knows.broken ≡ false → HasSeen self.now.regions seat.new.device.knows (books_of turn.ware.device) }
     {
+        let mut mover = mover;
+        self.company.serve(mover.ware.take_requests());
         tell_all(&self.device, &mut seat.device, &turn, 3 * self.regions);
         self.device.give(&mut seat.device, turn);
         self.consumer.give(&mut seat.consumer, mover);

@@ -7,11 +7,12 @@ ghost use Rattle.log_service.specs.Items.{region_of, number_of, IsWholeItem};
 ghost use Rattle.log_service.specs.Moves.{IsGivenBack};
 
 use crate::committer::DeviceHalf;
+use crate::company::{Commits, Company};
 use crate::consumer::ConsumerHalf;
+use crate::counting::{EventCount, Shows};
 use crate::item::Item;
 use crate::load::Load;
 use crate::name::Naming;
-use crate::resting::EventCount;
 use append_ring::{Full, Ring, RingPass};
 use disk_images::Disk;
 use log_berth::Berth;
@@ -28,8 +29,11 @@ pub struct LogService<D: Disk, N: Naming> {
     pub(crate) regions: u32,
     // How many turns of the device have ended.
     pub(crate) turns: EventCount,
-    // How often a put has ended or shown an edit.
-    pub(crate) shows: EventCount,
+    // On what puts sleep until a commit has ended, and how many of them one waits for.
+    pub(crate) commits: Commits,
+    pub(crate) company: Company,
+    // How often puts have ended or shown an edit.
+    pub(crate) shows: Shows,
 }
 
 impl<D: Disk, N: Naming> Model for LogService<D, N> {
@@ -69,6 +73,11 @@ impl<D: Disk, N: Naming> LogService<D, N> {
         ensures pushed { MatchResult result (λ _. HasPushed (view pass.old.pass) item (view pass.new.pass))
             (λ full. IsGivenBack pass.old pass.new item full.item) }
     {
-        self.ring.push(rt, pass, item)
+        let asks = matches!(item, Item::Sync { .. });
+        let pushed = self.ring.push(rt, pass, item);
+        if asks && pushed.is_ok() {
+            self.company.push();
+        }
+        pushed
     }
 }

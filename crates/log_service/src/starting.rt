@@ -11,11 +11,12 @@ ghost use Rattle.log_service.specs.Begun.{IsFresh, BeginsAs, AreNewParts, ArePar
 ghost use Rattle.log_service.specs.Numbers.{told_numbers};
 
 use crate::committer::DeviceHalf;
+use crate::company::{Commits, Company};
 use crate::consumer::ConsumerHalf;
+use crate::counting::{EventCount, Shows};
 use crate::item::Item;
 use crate::load::Load;
 use crate::name::Naming;
-use crate::resting::EventCount;
 use crate::seats::LogSeats;
 use crate::service::LogService;
 use append_ring::{ConsumerPass, NoMemory, Ring, RingParts, RingPass, RingPasses};
@@ -82,6 +83,7 @@ fn first_half<N: Naming>(
         hand,
         idle,
         asked: false,
+        requests: 0,
         of: PhantomData,
     }
 }
@@ -173,7 +175,9 @@ impl<D: Disk, N: Naming> LogService<D, N> {
                     device: berth,
                     regions,
                     turns: EventCount::new(),
-                    shows: EventCount::new(),
+                    commits: Commits::new(),
+                    company: Company::new(),
+                    shows: Shows::new(),
                 },
                 passes: items.passes,
                 seats: LogSeats { consumers, devices },

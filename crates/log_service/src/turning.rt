@@ -86,7 +86,10 @@ impl<D: Disk, N: Naming> LogService<D, N> {
         match moves {
             Moves::Moved(count) => ConsumerTurn::Moved(count),
             Moves::Empty => ConsumerTurn::Empty,
-            Moves::StageFull => ConsumerTurn::StageFull,
+            Moves::StageFull => {
+                self.company.hurry();
+                ConsumerTurn::StageFull
+            }
         }
     }
 
@@ -118,8 +121,8 @@ impl<D: Disk, N: Naming> LogService<D, N> {
         self.turn_over(rt, seat, false)
     }
 
-    /// The same without the first look. Before the load is handed over it may move up to 64 items, so that a commit has all that was pushed
-    /// before it.
+    /// The same without the first look. Before the load is handed over it may wait for company, and move what was pushed, so that a commit has
+    /// all of it.
     pub(crate) fn turn_over<R: Wait>(&self, rt: &R, seat: &mut LogSeat, moves: bool) -> SyncTurn
         requires seat { IsSeatOf self.now seat.old }
 
@@ -146,14 +149,14 @@ impl<D: Disk, N: Naming> LogService<D, N> {
             return SyncTurn::Broken;
         }
         if moves {
-            self.gather_company(rt);
+            self.company.gather(rt);
         }
         if !self.hand_load(rt, &mut seat.consumer, moves) {
             self.end_turn(&mut seat.device, turn);
             return SyncTurn::Busy;
         }
         let commit = self.commit_and_raise(rt, seat, &mut turn);
-        self.learn_company();
+        self.company.learn();
         self.end_turn(&mut seat.device, turn);
         match commit {
             Commit::Committed(count) => SyncTurn::Synced(count),

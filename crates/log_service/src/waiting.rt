@@ -36,8 +36,19 @@ impl<D: Disk, N: Naming> LogService<D, N> {
         (broken, number)
     }
 
+    /// Calls another put to make the next commit, where this one, which needs none, was woken for it: it slept on the count of the even or the
+    /// odd commits, and the last one that was begun isn't of them.
+    fn pass_on(&self, slept: Option<bool>) {
+        if let Some(is_odd) = slept {
+            if is_odd != self.company.is_odd() {
+                self.commits.of(is_odd).wake_one();
+            }
+        }
+    }
+
     /// Waits until the region's synced word is at or above a number, or the log is broken below it. Meanwhile it takes turns. Where another
-    /// seat has one it sleeps until a turn of the device has ended, and where nothing was there to commit it gives the processor away.
+    /// seat has one it sleeps until the commit has ended that has what was pushed, or until it is called to make that one. Where nothing was
+    /// there to commit it gives the processor away.
     #[tactic(auto, using(crate::proofs::SeatLaws::later_trans))]
     pub fn wait_synced<R: Wait>(
         &self,
@@ -54,11 +65,14 @@ impl<D: Disk, N: Naming> LogService<D, N> {
         ensures broken { result ≡ Waited.Broken → (seat.new.device.knows.broken ≡ true) × (seen_synced seat.new.device.knows region < number) }
         ensures stands { result ≡ Waited.Broken → slice_index seat.new.device.knows.last (region - 1) < number }
     {
-        self.ask_company();
+        let requests = self.company.pushed();
+        let mut slept = None;
         for _turn in rt.forever() {
-            let turns = self.turns();
+            let is_odd = self.company.is_odd_with(requests);
+            let ended = self.commits.of(is_odd).now();
             let (broken, synced) = self.look(seat, region);
             if synced >= number {
+                self.pass_on(slept);
                 return Waited::Synced;
             }
             if broken {
@@ -66,12 +80,14 @@ impl<D: Disk, N: Naming> LogService<D, N> {
             }
             match self.turn_over(rt, seat, true) {
                 SyncTurn::Synced(_) => {}
-                // No wake-up is lost. A turn was found taken after the count was read, and who has the device's turn raises the count after
-                // giving it back. Who has the consumer's turn has the device's too, or tries for it next: then that thread raises the count,
-                // or the one that it finds with the device's turn.
+                // No wake-up is lost. A turn was found taken after the count was read, and who has the device's turn raises both counts
+                // after giving it back, and wakes all that sleep on the one and one that sleeps on the other. That one takes the turn, or
+                // finds it taken by who will raise the counts next, or passes the call on. Who has the consumer's turn has the device's
+                // too, or tries for it next: then that thread raises the counts, or the one that it finds with the device's turn.
                 SyncTurn::Busy => {
                     let _moves = self.consumer_turn(rt, seat);
-                    self.rest(rt, turns);
+                    self.commits.of(is_odd).rest(rt, ended);
+                    slept = Some(is_odd);
                 }
                 _ => thread::yield_now(),
             }

@@ -223,18 +223,19 @@ fn show<
     ensures seat { IsSeatOf service.now seat.new }
     ensures later { IsLaterSeat seat.old seat.new }
 {
+    let region = at.viewer.region();
     let mut waits = waits;
     'showing: for _ in rt.forever() {
-        let shows = service.shows();
+        let shows = service.shows(region);
         if number <= at.viewer.point() {
             return Ok(());
         }
         if waits {
             let _helped = service.help(rt, seat);
-            service.rest_shows(rt, shows);
+            service.rest_shows(rt, region, shows);
         } else {
             lock.lock(rt).show(alloc)?;
-            service.tell_show();
+            service.tell_show(region);
         }
         waits = !waits;
     }
@@ -289,13 +290,13 @@ pub fn put_in<
         rt, service, lock, region, caller, seat, durability, number, gate,
     ) {
         let _waits = end(rt, alloc, lock, at, entry, Ended::Failed);
-        service.tell_show();
+        service.tell_show(region);
         return Err(PutRefusal::WriteFault {
             number: Some(number),
         });
     }
     let waits = end(rt, alloc, lock, at, entry, Ended::Done);
-    service.tell_show();
+    service.tell_show(region);
     match show(rt, alloc, service, lock, at, seat, number, waits) {
         Ok(()) => Ok(number),
         Err(_) => {
