@@ -34,7 +34,7 @@ use Rattle.run_command.specs.Carried.{IfFoundDamaged}
 use Rattle.run_command.specs.Decided.{decided}
 use Rattle.run_command.specs.Reported.{line_edit, region_line}
 use Rattle.run_command.specs.Ends.{EndsRun, joined, report_in, refused_damage, status_for, IsPrinted, Printed, Cut, Refused}
-use Rattle.run_command.proofs.Fitting.{fits, IsDecided, decided_end, whole_of, spent_of}
+use Rattle.run_command.proofs.Fitting.{fits, IsDecided, decided_end, whole_of, broken_of, spent_of}
 
 -- ---- lines
 
@@ -63,7 +63,7 @@ same_report : (regions : List ClosedRegion) (replies : List Reply) (lines : List
     → report_text (report_of (map history_of (map closed_at regions)) replies status) ≡ report_text (report_in regions lines status)
 same_report regions replies lines status said = λ i. report_text (record { regions = region_lines regions i; replies = (sym said) i; status = status })
 
-module _ (script : Script) (entry left : DiskView) (name : Naming) (regions : List ClosedRegion) (parts : List (List ReplyLine)) (spent : Option Spent) (broken : Bool) (sank : Type 0)
+module _ (script : Script) (entry left : DiskView) (name : Naming) (regions : List ClosedRegion) (parts : List (List ReplyLine)) (spent : Option Spent) (broken : Bool) (rose sank : Type 0)
     (c : HasClosed script entry.files left name regions parts spent broken) (moments : FitsThroughout entry left (map closed_at regions)) where
   said : joined parts ≡ map reply_line (replies_of c.handlers)
   said = ap joined c.lines ∙ all_lines c.handlers
@@ -88,7 +88,7 @@ module _ (script : Script) (entry left : DiskView) (name : Naming) (regions : Li
   at status is = subst (λ s. ∥ IsHeadline script entry left (exit_status s) (report_text (report_in regions (joined parts) (exit_status s))) ∥₁) is report_stands
 
   -- the whole report of a status that is decided
-  of_end : (status : Status) → decided broken spent (joined parts) ≡ status → IsDecided status → EndsRun status script entry left sank (report_text (report_in regions (joined parts) (exit_status status)))
+  of_end : (status : Status) → decided broken spent (joined parts) ≡ status → IsDecided status → EndsRun status script entry left rose sank (report_text (report_in regions (joined parts) (exit_status status)))
   of_end ends.Done is e = at ends.Done is
   of_end ends.Memory is e = inl (at ends.Memory is)
   of_end ends.DiskFault is e = inl (at ends.DiskFault is)
@@ -104,35 +104,41 @@ no_cut : (status : Status) → IsDecided status → status ≡ ends.SinkFault �
 no_cut status e is = subst IsDecided is e
 
 -- what the sink took of the report of a closed server, or of the line that refuses
-pub closed_ends : (sank : Type 0) (status : Status) (old new : List ℕ) (script : Script) (entry left : DiskView) (regions : List ClosedRegion) (parts : List (List ReplyLine)) (spent : Option Spent) (broken : Bool)
-    → ((name : Naming) × HasClosed script entry.files left name regions parts spent broken × FitsThroughout entry left (map closed_at regions)) → IsPrinted sank status old new regions (joined parts) spent broken → EndsRun status script entry left sank (taken_of old new)
-closed_ends sank status old new script entry left regions parts spent broken (name, c, moments) (Printed is p) =
+pub closed_ends : (rose sank : Type 0) (status : Status) (old new : List ℕ) (script : Script) (entry left : DiskView) (regions : List ClosedRegion) (parts : List (List ReplyLine)) (spent : Option Spent) (broken : Bool)
+    → ((name : Naming) × HasClosed script entry.files left name regions parts spent broken × FitsThroughout entry left (map closed_at regions)) → (broken ≡ true → rose) → IsPrinted sank status old new regions (joined parts) spent broken → EndsRun status script entry left rose sank (taken_of old new)
+closed_ends rose sank status old new script entry left regions parts spent broken (name, c, moments) cause (Printed is p) =
     let end : IsDecided status = subst IsDecided (sym is) (decided_end broken spent (joined parts)) in
-    subst (EndsRun status script entry left sank) (sym (taken_whole old new _ _ p (no_cut status end))) (of_end script entry left name regions parts spent broken sank c moments status (sym is) end)
-closed_ends sank status old new script entry left regions parts spent broken (name, c, moments) (Cut is p) =
-    subst (λ s. EndsRun s script entry left sank (taken_of old new)) (sym is)
-    (report_text (report_in regions (joined parts) (exit_status (decided broken spent (joined parts)))), exit_status (decided broken spent (joined parts)), taken_begins old new _ _ p, report_stands script entry left name regions parts spent broken sank c moments)
-closed_ends sank status old new script entry left regions parts spent broken (name, c, moments) (Refused is p) =
-    subst (λ s. EndsRun s script entry left sank (taken_of old new)) (sym is) (inr (refused_so old new refused_memory sank p, all_keep entry left (closed_keeps entry.files left c.closed)))
+    subst (EndsRun status script entry left rose sank) (sym (taken_whole old new _ _ p (no_cut status end))) (of_end script entry left name regions parts spent broken rose sank c moments status (sym is) end)
+closed_ends rose sank status old new script entry left regions parts spent broken (name, c, moments) cause (Cut is p) =
+    subst (λ s. EndsRun s script entry left rose sank (taken_of old new)) (sym is)
+    record {
+      text = report_text (report_in regions (joined parts) (exit_status (decided broken spent (joined parts))));
+      status = exit_status (decided broken spent (joined parts));
+      begins = taken_begins old new _ _ p;
+      headline = report_stands script entry left name regions parts spent broken rose sank c moments;
+      cause = λ is_5. cause (broken_of broken spent (joined parts) is_5);
+    }
+closed_ends rose sank status old new script entry left regions parts spent broken (name, c, moments) cause (Refused is p) =
+    subst (λ s. EndsRun s script entry left rose sank (taken_of old new)) (sym is) (inr (refused_so old new refused_memory sank p, all_keep entry left (closed_keeps entry.files left c.closed)))
 
 -- ---- one that is not
 
-pub left_ends : (sank : Type 0) (status : Status) (old new : List ℕ) (script : Script) (before after : DiskView) → status ≡ ends.Memory → KeepsFound before after
-    → ((text : List ℕ) → refusal_line ends.Memory ≡ Some text → Prints old new text sank) → EndsRun status script before after sank (taken_of old new)
-left_ends sank status old new script before after is keeps p =
-    subst (λ s. EndsRun s script before after sank (taken_of old new)) (sym is) (inr (refused_so old new refused_memory sank (p refused_memory refl), keeps))
+pub left_ends : (rose sank : Type 0) (status : Status) (old new : List ℕ) (script : Script) (before after : DiskView) → status ≡ ends.Memory → KeepsFound before after
+    → ((text : List ℕ) → refusal_line ends.Memory ≡ Some text → Prints old new text sank) → EndsRun status script before after rose sank (taken_of old new)
+left_ends rose sank status old new script before after is keeps p =
+    subst (λ s. EndsRun s script before after rose sank (taken_of old new)) (sym is) (inr (refused_so old new refused_memory sank (p refused_memory refl), keeps))
 
 damage_line : (damage : Damage) → refusal_line (ends.Damaged damage) ≡ Some (refused_damage damage)
 damage_line (damages.Bytes name at) = refl
 damage_line (damages.Two first second region number) = refl
 
-pub refused_ends : (sank : Type 0) (why : StartWhy) (status : Status) (old new : List ℕ) (script : Script) (before after : DiskView) → status ≡ status_for why
+pub refused_ends : (rose sank : Type 0) (why : StartWhy) (status : Status) (old new : List ℕ) (script : Script) (before after : DiskView) → status ≡ status_for why
     → (IsHalfOpened before after × IfFoundDamaged why (λ damage. IsDamage before.files damage × (after.files ≡ before.files)))
-    → ((text : List ℕ) → refusal_line (status_for why) ≡ Some text → Prints old new text sank) → EndsRun status script before after sank (taken_of old new)
-refused_ends sank why status old new script before after is half prints = subst (λ s. EndsRun s script before after sank (taken_of old new)) (sym is) (go why half.1 prints)
+    → ((text : List ℕ) → refusal_line (status_for why) ≡ Some text → Prints old new text sank) → EndsRun status script before after rose sank (taken_of old new)
+refused_ends rose sank why status old new script before after is half prints = subst (λ s. EndsRun s script before after rose sank (taken_of old new)) (sym is) (go why half.1 prints)
   where
     go : (why : StartWhy) → IfFoundDamaged why (λ damage. IsDamage before.files damage × (after.files ≡ before.files))
-        → ((text : List ℕ) → refusal_line (status_for why) ≡ Some text → Prints old new text sank) → EndsRun (status_for why) script before after sank (taken_of old new)
+        → ((text : List ℕ) → refusal_line (status_for why) ≡ Some text → Prints old new text sank) → EndsRun (status_for why) script before after rose sank (taken_of old new)
     go whys.Memory d p = inr (refused_so old new refused_memory sank (p refused_memory refl), half_keeps before after half.0)
     go whys.DiskFault d p = inr (refused_so old new refused_disk sank (p refused_disk refl), half.0)
     go (whys.Damaged damage) d p = (refused_so old new (refused_damage damage) sank (p (refused_damage damage) (damage_line damage)), d.0, d.1, half.0)

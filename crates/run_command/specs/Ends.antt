@@ -27,31 +27,39 @@ abbrev pub refused_damage : Damage → List ℕ
 refused_damage (damages.Bytes name at) = refused_damaged name at
 refused_damage (damages.Two first second region number) = refused_disagree first second region number
 
+-- The sink failed: what it took begins a report. One that ends with 5 has its cause.
+pub record IsCutReport (script : Script) (before after : DiskView) (rose : Type 0) (taken : List ℕ) : Type 0 where
+  pub text : List ℕ
+  pub status : ℕ
+  pub begins : IsPrefix taken text
+  pub headline : ∥ IsHeadline script before after status text ∥₁
+  pub cause : status ≡ 5 → rose
+
 -- A report, or a beginning of one where the sink failed; the log broke exactly where it ends with 5. Or the one line of a
--- run that was refused. A number that a crash leaves is there, and which one it is isn't told. `sank` says that the sink's count of
--- faults rose.
-abbrev pub EndsRun : Status → Script → DiskView → DiskView → Type 0 → List ℕ → Type 0
-EndsRun ends.Done script before after sank taken = ∥ IsHeadline script before after 0 taken ∥₁
-EndsRun ends.Memory script before after sank taken = ∥ IsHeadline script before after 1 taken ∥₁ ⊎ (IsRefused refused_memory sank taken × KeepsFound before after)
-EndsRun ends.DiskFault script before after sank taken = ∥ IsHeadline script before after 5 taken ∥₁ ⊎ (IsRefused refused_disk sank taken × IsHalfOpened before after)
-EndsRun ends.SinkFault script before after sank taken = (text : List ℕ) × (status : ℕ) × IsPrefix taken text × ∥ IsHeadline script before after status text ∥₁
-EndsRun (ends.Damaged damage) script before after sank taken =
+-- run that was refused. A number that a crash leaves is there, and which one it is isn't told. `rose` says that the disk's count of
+-- faults did, `sank` that the sink's did.
+abbrev pub EndsRun : Status → Script → DiskView → DiskView → (rose sank : Type 0) → List ℕ → Type 0
+EndsRun ends.Done script before after rose sank taken = ∥ IsHeadline script before after 0 taken ∥₁
+EndsRun ends.Memory script before after rose sank taken = ∥ IsHeadline script before after 1 taken ∥₁ ⊎ (IsRefused refused_memory sank taken × KeepsFound before after)
+EndsRun ends.DiskFault script before after rose sank taken = ∥ IsHeadline script before after 5 taken ∥₁ ⊎ (IsRefused refused_disk sank taken × IsHalfOpened before after)
+EndsRun ends.SinkFault script before after rose sank taken = IsCutReport script before after rose taken
+EndsRun (ends.Damaged damage) script before after rose sank taken =
     IsRefused (refused_damage damage) sank taken × IsDamage before.files damage × (after.files ≡ before.files) × IsHalfOpened before after
-EndsRun (ends.NumbersSpent region last) script before after sank taken = ∥ IsSpentHeadline script before after (record { region = region; last = last }) taken ∥₁
-EndsRun _ script before after sank taken = ⊥
+EndsRun (ends.NumbersSpent region last) script before after rose sank taken = ∥ IsSpentHeadline script before after (record { region = region; last = last }) taken ∥₁
+EndsRun _ script before after rose sank taken = ⊥
 
 -- a run of the script that the source has
-abbrev pub RunsScript : Status → Invocation → Type 0 → Type 0
-RunsScript status o sank = (script : Script) × Says Run o.script script × EndsRun status script o.before o.after sank o.taken
+abbrev pub RunsScript : Status → Invocation → (rose sank : Type 0) → Type 0
+RunsScript status o rose sank = (script : Script) × Says Run o.script script × EndsRun status script o.before o.after rose sank o.taken
 
 -- What stands with each status. With no script nothing was run: memory for it was refused, or it is told why there is none.
-abbrev pub RunEnds : Status → Invocation → Type 0 → Type 0
-RunEnds ends.Memory o sank = RunsScript ends.Memory o sank ⊎ (IsRefused refused_memory sank o.taken × IsUnchanged o.before o.after)
-RunEnds ends.Usage o sank = Unit {0}
-RunEnds (ends.Script line why) o sank = Unit {0}
-RunEnds ends.SourceFault o sank = Unit {0}
-RunEnds (ends.NotEmpty name) o sank = Unit {0}
-RunEnds status o sank = RunsScript status o sank
+abbrev pub RunEnds : Status → Invocation → (rose sank : Type 0) → Type 0
+RunEnds ends.Memory o rose sank = RunsScript ends.Memory o rose sank ⊎ (IsRefused refused_memory sank o.taken × IsUnchanged o.before o.after)
+RunEnds ends.Usage o rose sank = Unit {0}
+RunEnds (ends.Script line why) o rose sank = Unit {0}
+RunEnds ends.SourceFault o rose sank = Unit {0}
+RunEnds (ends.NotEmpty name) o rose sank = Unit {0}
+RunEnds status o rose sank = RunsScript status o rose sank
 
 -- ---- which statuses there are
 
