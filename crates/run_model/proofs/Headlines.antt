@@ -25,8 +25,7 @@ use Rattle.run_model.proofs.Choices.{each_in}
 use Rattle.std.proofs.Math.Logic.{∥∥₁_map, ∥∥₁_map₂}
 use Rattle.region_model.specs.Calls.{Scan, Roll, PutSpent, IsAnswerTo}
 use Rattle.run_model.specs.declared.spent.Spent.{Spent}
-use Rattle.run_model.specs.Spent.{IsSpent, OnlyPuts, first_spent}
-use Rattle.run_model.specs.Headline.{IsSpentHeadline}
+use Rattle.run_model.specs.Spent.{IsSpent, IsFirstSpent, OnlyPuts, first_spent}
 use Rattle.run_model.proofs.SpentLaws.{found as found_first}
 use Rattle.std.proofs.Common.{Some}
 use Rattle.one_thread.specs.History.{IsHistory}
@@ -128,6 +127,16 @@ pub headline : {script : Script} {found : Files} {left : DiskView} {name : Namin
 headline {script} {found} {left} {name} {hs} {xs} {broken} c before status same moments fits whole =
     ∥∥₁_map₂ (each_in (λ (x : ClosedAt). Survives left broken x.region x.it) xs c.survives) c.leaves (λ kept left_so. headline_kept c kept left_so before status same moments fits whole)
 
+-- What holds of the histories and the replies goes with it.
+pub headline_with : {script : Script} {found : Files} {left : DiskView} {name : Naming} {hs : List Handled} {xs : List ClosedAt} {broken : Bool} → Closed script found left name hs xs broken
+    → (before : DiskView) (status : ℕ) → before.files ≡ found → FitsThroughout before left xs → FitsStatus status (replies_of hs) → (status ≢ 5 → broken ≡ false)
+    → (P : List History → List Reply → Type 0) → P (map history_of xs) (replies_of hs)
+    → ∥ ((h : IsHeadline script before left status (report_text (report_of (map history_of xs) (replies_of hs) status))) × P h.histories h.replies) ∥₁
+unfolding headline_kept
+headline_with {script} {found} {left} {name} {hs} {xs} {broken} c before status same moments fits whole P holds =
+    ∥∥₁_map₂ (each_in (λ (x : ClosedAt). Survives left broken x.region x.it) xs c.survives) c.leaves
+    (λ kept left_so. (headline_kept c kept left_so before status same moments fits whole, holds))
+
 only_puts : {script : Script} {found : Files} {left : DiskView} {name : Naming} {hs : List Handled} {xs : List ClosedAt} {broken : Bool} → Closed script found left name hs xs broken → OnlyPuts (replies_of hs)
 only_puts {script} {found} {left} {name} {hs} {xs} {broken} c x is spent = of_put x.call x.answer (kept_of name script.time hs c.runs x is).2.answers spent
   where
@@ -140,11 +149,7 @@ only_puts {script} {found} {left} {name} {hs} {xs} {broken} c x is spent = of_pu
     of_put (Flush region) answer fits told = absurd told
     of_put Roll answer fits told = absurd told
 
--- Where a put was answered spent and the log isn't broken, the first one is named.
-pub spent_headline : {script : Script} {found : Files} {left : DiskView} {name : Naming} {hs : List Handled} {xs : List ClosedAt} {broken : Bool} → Closed script found left name hs xs broken
-    → (before : DiskView) → before.files ≡ found → FitsThroughout before left xs → FitsStatus 8 (replies_of hs) → broken ≡ false → (s : Spent) → first_spent (replies_of hs) ≡ Some s
-    → ∥ IsSpentHeadline script before left s (report_text (report_of (map history_of xs) (replies_of hs) 8)) ∥₁
-unfolding headline_kept
-spent_headline {script} {found} {left} {name} {hs} {xs} {broken} c before same moments fits whole s first =
-    ∥∥₁_map₂ (each_in (λ (x : ClosedAt). Survives left broken x.region x.it) xs c.survives) c.leaves
-    (λ kept left_so. (headline_kept c kept left_so before 8 same moments fits (λ no_5. whole), found_first (replies_of hs) (only_puts c) s first))
+-- Where a put was answered spent the first one is named.
+pub first_of_closed : {script : Script} {found : Files} {left : DiskView} {name : Naming} {hs : List Handled} {xs : List ClosedAt} {broken : Bool} → Closed script found left name hs xs broken
+    → (s : Spent) → first_spent (replies_of hs) ≡ Some s → IsFirstSpent s (replies_of hs)
+first_of_closed {script} {found} {left} {name} {hs} c s first = found_first (replies_of hs) (only_puts c) s first
