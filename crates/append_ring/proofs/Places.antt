@@ -24,11 +24,6 @@ each_there-front is_so [] last p = (tt, p)
 each_there-front is_so (None ∷ xs) last p = absurd p
 each_there-front is_so (Some a ∷ xs) last p = let r = each_there-front is_so xs last p.1 in ((p.0, r.0), r.1)
 
-pub each_there-snoc : {A : Type 0} (is_so : A → Type 0) (left done : List (Option A)) → EachThere is_so left → EachThere is_so done → EachThere is_so (left ++ done)
-each_there-snoc is_so [] done p q = q
-each_there-snoc is_so (None ∷ xs) done p q = absurd p
-each_there-snoc is_so (Some a ∷ xs) done p q = (p.0, each_there-snoc is_so xs done p.1 q)
-
 module _ {A : Type 0} where
   -- what was read at an index of the list is there
   pub at_read : (xs : List A) (i : ℕ) (x : A) → i < length xs → x ≡ get_or xs i x → slice_get xs i ≡ Some x

@@ -40,9 +40,6 @@ rose_from a b c before rose = omega (arith, before, rose)
 pub goes_on : (u v w : DiskView) → GoesOn u v → GoesOn v w → GoesOn u w
 goes_on u v w first second = ∥∥₁_elim first ∥∥₁_prop (λ a. ∥∥₁_map second (λ b. (a.0 + b.0, elapses_on a.0 b.0 u v w a.1 b.1)))
 
-pub goes_nowhere : (v : DiskView) → GoesOn v v
-goes_nowhere v = ∣ (0, record { later = omega arith; by_most = omega arith; past = λ t J early was. was; kept = λ t J early was. was }) ∣₁
-
 -- ---- each moment
 
 pub time_of : (P : Files → Type 0) (v w : DiskView) → AtEachMoment P v w → GoesOn v w

@@ -1,12 +1,9 @@
 -- Calls that change nothing, one after the other.
-use Rattle.std.proofs.Common.{ℕ, ◌+◌, ◌≤◌, refl, ◌∙◌, arith}
+use Rattle.std.proofs.Common.{ℕ, ◌+◌, ◌≤◌, ◌∙◌, arith}
 use Rattle.disk_images.specs.Crash.{DiskView, IsImageNow}
 use Rattle.disk_images.specs.Calls.{Looks}
-use Rattle.disk_images.proofs.Moments.{at_once, goes_on, more_time, at_end, joined, weaker}
+use Rattle.disk_images.proofs.Moments.{goes_on, more_time, at_end, joined, weaker}
 use Rattle.file_base.specs.Looking.{OnlyLooks}
-
-pub looks_none : (v : DiskView) → OnlyLooks 0 v v
-looks_none v = record { files = refl; gone = λ m h. h; formerly = λ n m h. h; moments = at_once (IsImageNow v) v (λ J now. now) }
 
 pub looks_on : (m : ℕ) (u v w : DiskView) → OnlyLooks m u v → Looks v w → OnlyLooks (m + 1) u w
 looks_on m u v w so_far looks = record {
@@ -18,9 +15,6 @@ looks_on m u v w so_far looks = record {
 
 pub looks_more : (m n : ℕ) (v w : DiskView) → m ≤ n → OnlyLooks m v w → OnlyLooks n v w
 looks_more m n v w le looks = record { files = looks.files; gone = looks.gone; formerly = looks.formerly; moments = more_time (IsImageNow v) m n v w le looks.moments }
-
-pub looks_once : (v w : DiskView) → Looks v w → OnlyLooks 1 v w
-looks_once v w looks = looks_more (0 + 1) 1 v w (omega arith) (looks_on 0 v v w (looks_none v) looks)
 
 pub looks_joined : (m n : ℕ) (u v w : DiskView) → OnlyLooks m u v → OnlyLooks n v w → OnlyLooks (m + n) u w
 looks_joined m n u v w first second = record {

@@ -1,10 +1,10 @@
 -- Seats that are joined from the last on.
-use Rattle.std.proofs.Common.{◌≡◌, ℕ, zero, suc, replicate, ◌≤◌, ◌||◌, Bool, true, false, cond, refl, le_refl, true≢false, List, [], ◌∷◌, ◌++◌, get_or, arith, sym, subst, ◌∙◌, append_assoc}
+use Rattle.std.proofs.Common.{◌≡◌, ℕ, ◌≤◌, ◌||◌, Bool, true, false, cond, refl, le_refl, true≢false, List, [], ◌∷◌, ◌++◌, get_or, arith, sym, subst, ◌∙◌, append_assoc}
 use Rattle.std.proofs.lemmas.List.{append-nil}
 use Rattle.atomic_table.specs.Seated.{TableId}
 use Rattle.log_berth.specs.declared.known.Known.{Known}
 use Rattle.log_berth.specs.Words.{NoMore, Same, greater, lesser, reached, ended, informed, Informs}
-use Rattle.log_berth.specs.Standing.{Standing, fresh, AreBack, Saw, AllSaw, InformAll}
+use Rattle.log_berth.specs.Standing.{Standing, AreBack, Saw, AllSaw, InformAll}
 use Rattle.log_berth.proofs.Numbers.{greater_at, lesser_at}
 
 -- all are the seats that are left and then seats of which this knows all
@@ -101,9 +101,6 @@ inform_later-start all v = ([], sym (append-nil all), tt)
 pub inform_later-one : (all left : List Standing) (s : Standing) (v w : Known) → InformLater all (left ++ s ∷ []) v → Informs v w → Informs s.knows w → InformLater all left w
 inform_later-one all left s v w p more here = (s ∷ p.0, p.1 ∙ append_assoc left (s ∷ []) p.0, (here, inform_all-more p.0 v w p.2 more))
 
-pub inform_later-end : (all : List Standing) (v : Known) → InformLater all [] v → InformAll all v
-inform_later-end all v p = subst (λ (l : List Standing). InformAll l v) (sym p.1) p.2
-
 -- the words are at or above what was seen, and where the fault was seen they are those that were seen last
 pub words_saw : (s : Standing) (v : Known) (numbers : List ℕ) (broken : Bool) → Informs s.knows v → NoMore v.seen numbers → (v.broken ≡ true → (broken ≡ true) × Same v.last numbers) → Saw s numbers broken
 words_saw s v numbers broken p low told =
@@ -127,8 +124,3 @@ are_back-front id (x ∷ xs) s p = let r = are_back-front id xs s p.1 in ((p.0, 
 pub all_saw-snoc : (left : List Standing) (s : Standing) (numbers : List ℕ) (broken : Bool) → AllSaw left numbers broken → Saw s numbers broken → AllSaw (left ++ s ∷ []) numbers broken
 all_saw-snoc [] s numbers broken p q = (q, tt)
 all_saw-snoc (x ∷ xs) s numbers broken p q = (p.0, all_saw-snoc xs s numbers broken p.1 q)
-
--- new seats are back
-pub fresh_back : (id : TableId) (numbers : List ℕ) (n : ℕ) → AreBack id (replicate n (fresh id numbers))
-fresh_back id numbers zero = tt
-fresh_back id numbers (suc n) = ((refl, refl), fresh_back id numbers n)

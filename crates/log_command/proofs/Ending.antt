@@ -141,10 +141,6 @@ pub may_leave : (text : List ℕ) (script : Script) (v : DiskView) → Says Log 
 may_leave text script v says J (inl was) = inl was
 may_leave text script v says J (inr first) = inr (script, says, first)
 
-pub writing_end : (status s : Status) → status ≡ s ⊎ status ≡ ends.SinkFault → IsWritingEnd s → IsWritingEnd status
-writing_end status s (inl is) ended = subst (λ (t : Status). IsWritingEnd t) (sym is) ended
-writing_end status s (inr is) ended = subst (λ (t : Status). IsWritingEnd t) (sym is) tt
-
 -- ---- the writing behind a look
 
 others_from : (u v w : DiskView) → Looks u v → SameBut (log_name 1) v.files w.files → SameBut (log_name 1) u.files w.files

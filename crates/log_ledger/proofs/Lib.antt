@@ -11,5 +11,4 @@ mod Cells
 mod Orders
 mod Bases
 mod Begun
-pub mod Tells
 pub mod DrawnSums

@@ -3,7 +3,7 @@ use Rattle.std.proofs.Common.{◌≡◌, ℕ, suc, ◌+◌, ◌-◌, ◌/◌, �
 use Rattle.std.proofs.lemmas.List.{map-append, append-nil, length-replicate}
 use Rattle.std.proofs.lemmas.Bool.{le-ltb}
 use Rattle.byteorder.specs.Numbers.{length-bytes_high_first}
-use Rattle.cell_model.specs.Cell.{Cell, IsCell}
+use Rattle.cell_model.specs.Cell.{Cell}
 use Rattle.cell_model.specs.Batch.{body_length, first_batch_limit}
 use Rattle.region_model.specs.Calls.{Call}
 use Rattle.script_calls.specs.Calls.{call_of}
@@ -40,17 +40,6 @@ one_handler_more lists after next all o count before low pushed is so_far =
 pub all_handlers : (lists all : List (List Call)) (o : LoadOptions) (n h : ℕ) → n ≡ 0 → lists ++ made_handlers o n h ≡ all → lists ≡ all
 all_handlers lists all o n h none is = sym (append-nil lists) ∙ subst (λ k. lists ++ made_handlers o k h ≡ all) none is
 
--- the cell of a put is within the limits
-pub made_is_cell : (call x : ℕ) → call < 2 ^ 32 → x < 2 ^ 64 → IsCell (made_cell call x)
-made_is_cell call x low small = record {
-  row_given = omega (arith, length-bytes_high_first 8 x);
-  row = omega (arith, length-bytes_high_first 8 x);
-  family_given = omega arith;
-  family = omega arith;
-  qualifier = omega arith;
-  ts = omega (arith, low);
-  kind = refl;
-  value = omega (arith, length-replicate (1 + x / 2 ^ 60) (x % 256), small);
 }
 
 -- a batch of it alone breaks no limit

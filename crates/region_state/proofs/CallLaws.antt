@@ -1,9 +1,8 @@
 -- One more call, for the tests.
-use Rattle.std.proofs.Common.{◌≡◌, ℕ, zero, suc, ◌+◌, ◌<◌, ◌≤◌, ◌==◌, Bool, true, false, cond, List, [], ◌∷◌, ◌++◌, length, get_or, refl, sym, ◌∙◌, subst, arith}
+use Rattle.std.proofs.Common.{◌≡◌, ℕ, zero, suc, ◌+◌, ◌<◌, ◌≤◌, ◌==◌, Bool, true, false, cond, List, [], ◌∷◌, ◌++◌, length, get_or, refl, sym, subst, arith}
 use Rattle.std.proofs.lemmas.List.Elements.{Contains-push}
 use Rattle.region_model.specs.Journal.{Caller, Outcome, Pending}
 use Rattle.region_model.specs.Lines.{Line, IsNextCall, IsPending, with_outcome}
-use Rattle.region_model.proofs.LineLaws.{length-with_outcome}
 use Rattle.region_state.specs.Calls.{AreBelow}
 
 at_below : (call : ℕ) (xs : List Line) (k : ℕ) (d : Line) → AreBelow call xs → k < length xs → (get_or xs k d).caller.call < call
@@ -13,10 +12,6 @@ at_below call (x ∷ xs) (suc k) d all lt = at_below call xs k d all.1 (omega ar
 
 pub next_call : (caller : Caller) (xs : List Line) → AreBelow caller.call xs → IsNextCall caller xs
 next_call caller xs all x c same = subst (λ (y : Line). y.caller.call < caller.call) c.2 (at_below caller.call xs c.0 x all c.1)
-
-weaken : (call next : ℕ) (xs : List Line) → call ≤ next → AreBelow call xs → AreBelow next xs
-weaken call next [] le all = tt
-weaken call next (x ∷ xs) le all = let lt : x.caller.call < call = all.0 in (omega arith, weaken call next xs le all.1)
 
 below_push : (call next : ℕ) (xs : List Line) (x : Line) → call ≤ next → x.caller.call < next → AreBelow call xs → AreBelow next (xs ++ x ∷ [])
 below_push call next [] x le lt all = (lt, tt)
@@ -34,13 +29,6 @@ below_ended call n o (x ∷ xs) all =
 -- a line is begun and ends
 pub below_put : (call next n : ℕ) (o : Outcome) (xs : List Line) (x : Line) → call ≤ next → x.caller.call < next → AreBelow call xs → AreBelow next (with_outcome n o (xs ++ x ∷ []))
 below_put call next n o xs x le lt all = below_ended next n o (xs ++ x ∷ []) (below_push call next xs x le lt all)
-
-pub length_put : (n : ℕ) (o : Outcome) (xs : List Line) (x : Line) → length (with_outcome n o (xs ++ x ∷ [])) ≡ length xs + 1
-length_put n o xs x = length-with_outcome n o (xs ++ x ∷ []) ∙ push xs
-  where
-    push : (ys : List Line) → length (ys ++ x ∷ []) ≡ length ys + 1
-    push [] = refl
-    push (y ∷ ys) = let r = push ys in omega arith
 
 pub pending_put : (xs : List Line) (x : Line) (n : ℕ) → x.number ≡ n → x.outcome ≡ Pending → IsPending (xs ++ x ∷ []) n
 pending_put xs x n number outcome = (x, Contains-push xs x, number, outcome)

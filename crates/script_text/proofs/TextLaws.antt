@@ -7,7 +7,7 @@ use Rattle.std.proofs.lemmas.Bool.{ltb-true, ltb-false, ne_eqb, eq-eqb, le-ltb}
 use Rattle.std.proofs.lemmas.Bool.Decides.{nat_tests}
 use Rattle.std.proofs.lemmas.List.{take-append-drop, take_more, length-take-le, take_all, drop_all}
 use Rattle.std.proofs.lemmas.List.Folds.{list_all_at, list_all_more}
-use Rattle.script_model.specs.Text.{lines_of, pieces_of, words_of, value_from, is_digit, is_number, is_plain, hex_of, unescaped}
+use Rattle.script_model.specs.Text.{lines_of, pieces_of, words_of, value_from, is_digit, is_number, is_plain, unescaped}
 
 -- a first piece ends in front of the first separator
 pub lines_cut : (bs : List ℕ) (n : ℕ) → n ≤ length bs → ((k : ℕ) → k < n → get_or bs k 0 ≢ 10) → (n < length bs → get_or bs n 0 ≡ 10) → 0 < length bs
@@ -51,22 +51,12 @@ words_cut bs n le before found some = by (nat_lt n (length bs)) refl
         ap (filter IsWord) (pieces_last bs (λ k h. before k (omega arith))) ∙ kept bs [] (omega arith)
         ∙ (λ i. sym (take_all n bs all) i ∷ words_of (sym (drop_all (suc n) bs (omega arith)) i))
 
-pub words_skip : (bs : List ℕ) → 0 < length bs → get_or bs 0 0 ≡ 32 → words_of bs ≡ words_of (drop 1 bs)
-words_skip [] lt e = refl
-words_skip (b ∷ bs) lt e = rw (eq-eqb b 32 e) refl
-
 pub words_at : (bs word behind : List ℕ) → (length word ≤ length bs) × ((word ≡ take (length word) bs) × (behind ≡ drop (length word + 1) bs))
     → ((k : ℕ) → k < length word → get_or bs k 0 ≢ 32) → (length word < length bs → get_or bs (length word) 0 ≡ 32) → 0 < length word
     → words_of bs ≡ word ∷ words_of behind
 words_at bs word behind at before found some =
     words_cut bs (length word) at.0 before found some
     ∙ (λ i. sym at.1.0 i ∷ words_of ((ap (λ (m : ℕ). drop m bs) (sym (add-one (length word))) ∙ sym at.1.1) i))
-
-pub words_past : (bs word behind : List ℕ) → (length word ≤ length bs) × ((word ≡ take (length word) bs) × (behind ≡ drop (length word + 1) bs))
-    → (length word < length bs → get_or bs (length word) 0 ≡ 32) → length word ≡ 0 → 0 < length bs → words_of bs ≡ words_of behind
-words_past bs word behind at found none some =
-    words_skip bs some (ap (λ (n : ℕ). get_or bs n 0) (sym none) ∙ found (omega arith))
-    ∙ ap words_of (ap (λ (n : ℕ). drop (n + 1) bs) (sym none) ∙ sym at.1.1)
 
 pub pushed : {X : Type 0} (f : X → List ℕ) (said new : List X) (x : X) (all left rest : List (List ℕ)) → new ≡ said ++ x ∷ []
     → all ≡ map f said ++ left → left ≡ f x ∷ rest → all ≡ map f new ++ rest
@@ -117,9 +107,6 @@ unescaped_plain b (c ∷ []) e = rw e refl
 unescaped_plain b (c ∷ d ∷ bs) e =
     let ne : nat_eq b 37 ≡ false = grind (arith, nat_tests, e) in
     rw (e, ne) refl
-
-pub unescaped_hex : (h l : ℕ) (c d : ℕ) (bs : List ℕ) → hex_of c ≡ Some h → hex_of d ≡ Some l → unescaped (37 ∷ c ∷ d ∷ bs) ≡ option_map (λ (t : List ℕ). (16 * h + l) ∷ t) (unescaped bs)
-unescaped_hex h l c d bs eh el = rw (eh, el) refl
 
 pub first_plain : (bs : List ℕ) → 0 < length bs → is_plain (get_or bs 0 0) ≡ true → unescaped bs ≡ option_map (λ (t : List ℕ). get_or bs 0 0 ∷ t) (unescaped (drop 1 bs))
 first_plain [] lt e = absurd omega arith

@@ -94,17 +94,10 @@ settled_after last read n t ms ms' le lt is =
     ∙ replicate_two (read - last) t ms'
     ∙ ap (λ (k : ℕ). replicate k true ++ ms') more))
 
-length_settled : (t : ℕ) (ms : List Bool) → length (replicate t true ++ ms) ≡ t + length ms
-length_settled zero ms = omega arith
-length_settled (suc t) ms = let r = length_settled t ms in omega arith
-
 length_set : (ms : List Bool) (k : ℕ) (d : Bool) → length (set ms k d) ≡ length ms
 length_set [] k d = refl
 length_set (m ∷ ms) zero d = refl
 length_set (m ∷ ms) (suc k) d = ap suc (length_set ms k d)
-
-pub length_after : (k t : ℕ) (ms ms' : List Bool) → replicate t true ++ ms' ≡ set ms k true → t + length ms' ≡ length ms
-length_after k t ms ms' is = sym (length_settled t ms') ∙ ap length is ∙ length_set ms k true
 
 -- where no number is out, no mark is left
 pub none_left : (k : ℕ) (ms : List Bool) → IsOpen ms → (Contains (replicate k true ++ ms) false → ⊥) → ms ≡ []
