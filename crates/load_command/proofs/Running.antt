@@ -21,7 +21,7 @@ use Rattle.made_script.specs.Made.{AreOptions, made_script}
 use Rattle.made_script.specs.declared.options.LoadOptions.{LoadOptions}
 use Rattle.run_model.specs.declared.spent.Spent.{Spent}
 use Rattle.region_model.specs.Crash.{Fits}
-use Rattle.run_model.specs.Closed.{FitsThroughout}
+use Rattle.run_model.specs.Closed.{FitsThroughout, MayOpen}
 use Rattle.run_model.specs.Headline.{reply_line, FitsStatus, History, IsHeadline, IsOneReport, KeepsFound, KeepsIn, MayKeep, IsHalfOpened}
 use Rattle.run_model.proofs.FromClose.{fault_is_told}
 use Rattle.run_model.proofs.Headlines.{headline}
@@ -136,6 +136,10 @@ opening_complete (whys.Damaged damage) files Q none unbroken found =
 
 -- ---- a disk that was looked at first
 
+open_before : (u v : DiskView) → Looks u v → (J : Files) → MayOpen v J → MayOpen u J
+open_before u v looks J (inl was) = inl (looks.crash J was)
+open_before u v looks J (inr alike) = inr (subst (λ (f : Files). AllAlike f J) looks.files alike)
+
 headline_before : {script : Script} {status : ℕ} {text : List ℕ} (u v w : DiskView) → Looks u v → GoesOn v w → IsHeadline script v w status text → IsHeadline script u w status text
 headline_before {script} {status} {text} u v w looks goes h = record {
   histories = h.histories;
@@ -157,10 +161,7 @@ headline_before {script} {status} {text} u v w looks goes h = record {
       begun = (omega (arith, looks.time.later, from.1.begun.0), from.1.begun.1);
       before = λ t J low high image. elim (cases_lt t v.clock) [
         | inl early ↦ inl (looked_at t J low (omega (arith, early)) (past.1.past t J (omega (arith, early)) image))
-        | inr later ↦ elim (from.1.before t J (omega (arith, later)) high image) as (λ _. IsImageNow u J ⊎ AllAlike u.files J) [
-          | inl was ↦ inl (looks.crash J was)
-          | inr alike ↦ inr (subst (λ (f : Files). AllAlike f J) looks.files alike)
-        ]
+        | inr later ↦ open_before u v looks J (from.1.before t J (omega (arith, later)) high image)
       ];
       since = from.1.since;
     },
@@ -197,10 +198,7 @@ broken_before options u v w text looks goes stands = ∥∥₁_map stands (λ ei
 ])
 
 half_before : (u v w : DiskView) → Looks u v → IsHalfOpened v w → IsHalfOpened u w
-half_before u v w looks half J image = ∥∥₁_map (half J image) (λ either. elim either as (λ _. IsImageNow u J ⊎ AllAlike u.files J) [
-  | inl was ↦ inl (looks.crash J was)
-  | inr alike ↦ inr (subst (λ (f : Files). AllAlike f J) looks.files alike)
-])
+half_before u v w looks half = each_on (MayOpen u) u v w (looked (MayOpen u) u v looks (λ J now. inl now)) (each_then (MayOpen v) (MayOpen u) v w (open_before u v looks) half)
 
 pub ends_before : (status : Status) (options : LoadOptions) (script had has : List ℕ) (u v w : DiskView) (rose wider cut : Type 0) → IsClosedEnd status → Looks u v → GoesOn v w → (rose → wider)
     → EndsLoad status options (invocation script v w had has) rose cut → EndsLoad status options (invocation script u w had has) wider cut
@@ -245,12 +243,12 @@ pub refused_first : (status result : Status) (options : LoadOptions) (script had
 refused_first status result options script had has u v rose cut is may looks printed =
     subst (λ (s : Status). EndsLoad s options (invocation script u v had has) rose cut) (sym is) (go status may printed)
   where
-    looked : KeepsFound u v
-    looked J image = ∣ inl (looks.crash J image) ∣₁
+    keeps : KeepsFound u v
+    keeps J image = ∣ inl (looks.crash J image) ∣₁
 
     go : (s : Status) → IsStoreRefusal s → ((text : List ℕ) → refusal_line s ≡ Some text → Prints had has text cut) → EndsLoad s options (invocation script u v had has) rose cut
-    go ends.Memory m p = (refused_so had has refused_memory cut (p refused_memory refl), looked)
-    go ends.DiskFault m p = inr (refused_so had has refused_disk cut (p refused_disk refl), λ J image. ∣ inl (looks.crash J image) ∣₁)
+    go ends.Memory m p = (refused_so had has refused_memory cut (p refused_memory refl), keeps)
+    go ends.DiskFault m p = inr (refused_so had has refused_disk cut (p refused_disk refl), looked (MayOpen u) u v looks (λ J now. inl now))
     go (ends.NotEmpty name) m p = tt
     go ends.Done m p = absurd m
     go ends.SinkFault m p = absurd m

@@ -32,7 +32,8 @@ use std::thread::Threads;
 
 /// Carries out `load` on an empty store: runs the script that the options make, each handler in a thread of its own, closes the
 /// store, opens it again, and prints how many calls there were and how many cells are there. Where a fault of the disk ended the
-/// log the store isn't opened again, and no cells are told; where a call wanted memory, that alone is told.
+/// log the store isn't opened again, and no cells are told, nor where one ended that opening; where a call wanted memory, that
+/// alone is told.
 pub fn load<R: Threads + Wait + Sync, D: Disk + Send, K: Sink, G: Gate + Sync>(
     rt: &R,
     alloc: Global,

@@ -7,13 +7,13 @@ use Rattle.log_model.specs.declared.damage.Damage.TheVariants as damages
 use Rattle.log_model.specs.Files.{Files, IsSound}
 use Rattle.log_model.specs.Damage.{IsDamage}
 use Rattle.log_model.proofs.DamageLaws.{sound_undamaged}
-use Rattle.load_run.specs.Words.{Word, To_show, To_dump, To_recover, To_run, meaning_of}
+use Rattle.load_run.specs.Words.{Word, To_log, To_show, To_dump, To_recover, To_run, meaning_of}
 use Rattle.load_run.specs.declared.words.Word.{Word as CodeWord}
 use Rattle.disk_images.specs.Crash.{DiskView}
 use Rattle.command_ends.specs.Invocation.{AtEachMoment}
 use Rattle.command_ends.specs.LogFiles.{log_name, IsDamagedLog, IsLogDamage}
 use Rattle.dump_command.specs.Dumped.{IsDumped, IsDumpDamage}
-use Rattle.load_run.specs.Top.{MustTell, HasRightScript, IsReady, MayLeave, earlier_than_damage, IsCompleteFor}
+use Rattle.load_run.specs.Top.{MustTell, HasRightScript, IsReady, MayLeave, IsScriptTold, IsStatusFor, earlier_than_damage, IsCompleteFor}
 use Rattle.command_ends.specs.Status.{IsDamageOf, IsOrEarlier, IsComplete, IsReadingEnd}
 use Rattle.command_ends.specs.declared.status.Status.{Status}
 use Rattle.command_ends.specs.declared.status.Status.TheVariants as ends
@@ -36,6 +36,16 @@ word_named read x words word is first names = ap (some_or word) (sym names ∙ w
 -- what may stand at each moment, for the command that was read
 pub moments_of : (words command : Option Word) (script : List ℕ) (v w : DiskView) → words ≡ command → AtEachMoment (MayLeave command script v) v w → AtEachMoment (MayLeave words script v) v w
 moments_of words command script v w is over = subst (λ (o : Option Word). AtEachMoment (MayLeave o script v) v w) (sym is) over
+
+pub script_told : (words : Option Word) (told : Type 0) → words ≡ Some To_log → IsScriptTold words told → told
+script_told words told is tells = subst (λ (o : Option Word). IsScriptTold o told) is tells
+
+-- the status is one of the command that was read
+pub status_of : (words command : Option Word) (status : Status) → words ≡ command → IsStatusFor command status → IsStatusFor words status
+status_of words command status is may = subst (λ (o : Option Word). IsStatusFor o status) (sym is) may
+
+pub none_status : (read : Option CodeWord) (words : Option Word) (status : Status) → read ≡ None → option_map meaning_of read ≡ words → status ≡ ends.Usage → IsStatusFor words status
+none_status read words status is names used = status_of words None status (sym names ∙ ap (option_map meaning_of) is) (subst (λ (s : Status). IsStatusFor None s) (sym used) tt)
 
 -- damage that was told, for the command that was read
 reported_for : (word x : Word) (status : Status) (damage : Damage) → word ≡ x → IsOrEarlier status (ends.Damaged damage) (earlier_than_damage x)

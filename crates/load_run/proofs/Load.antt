@@ -12,7 +12,7 @@ use Rattle.command_ends.specs.declared.status.Status.{Status}
 use Rattle.command_ends.specs.declared.status.Status.TheVariants as ends
 use Rattle.command_ends.proofs.Endings.{refused_so, same_disk}
 use Rattle.load_run.specs.Words.{Word, To_log, To_show, To_dump, To_recover, To_run, To_load}
-use Rattle.load_run.specs.Top.{Ends, MayLeave}
+use Rattle.load_run.specs.Top.{Ends, IsStatusFor, MayLeave}
 
 -- the same, where a fault of the source is allowed for too
 pub load_full : (status : Status) (name : Name) → IsOrEarlier status (ends.NotEmpty name) (ends.DiskFault ∷ []) → IsOrEarlier status (ends.NotEmpty name) (ends.SourceFault ∷ ends.DiskFault ∷ [])
@@ -40,6 +40,18 @@ unread_ends word status script had has v rose sank is printed = subst (λ (s : S
     go To_recover = (refused_so had has refused_memory sank printed, λ J image. inl image)
     go To_run = inr (refused_so had has refused_memory sank printed, same_disk v)
     go (To_load options) = (refused_so had has refused_memory sank printed, untouched v)
+
+memory_for : (words : Option Word) → IsStatusFor words ends.Memory
+memory_for None = tt
+memory_for (Some To_log) = tt
+memory_for (Some To_show) = tt
+memory_for (Some (To_dump n)) = tt
+memory_for (Some To_recover) = tt
+memory_for (Some To_run) = tt
+memory_for (Some (To_load options)) = tt
+
+pub unread_status : (words : Option Word) (status : Status) → status ≡ ends.Memory → IsStatusFor words status
+unread_status words status is = subst (λ (s : Status). IsStatusFor words s) (sym is) (memory_for words)
 
 pub unread_leaves : (words : Option Word) (script : List ℕ) (v : DiskView) (J : Files) → IsImageNow v J → MayLeave words script v J
 unread_leaves None script v J image = image

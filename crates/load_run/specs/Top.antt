@@ -13,17 +13,18 @@ use Rattle.script_model.specs.declared.command.Command.TheVariants.{Log, Run}
 use Rattle.wal_split.specs.Moments.{WasOrAlike}
 use Rattle.command_ends.specs.Invocation.{Invocation}
 use Rattle.command_ends.specs.LogFiles.{log_name, IsDamagedLog, IsLogDamage}
-use Rattle.command_ends.specs.Status.{IsRefusal, IsComplete}
+use Rattle.command_ends.specs.Status.{IsRefusal, IsComplete, IsReadingEnd}
 use Rattle.command_ends.specs.declared.status.Status.{Status}
 use Rattle.command_ends.specs.declared.status.Status.TheVariants as ends
 use Rattle.log_command.specs.Logged.{EndsLog, LogMayLeave}
+use Rattle.log_command.specs.Parts.{IsLogEnd}
 use Rattle.show_command.specs.Shown.{EndsShow}
 use Rattle.dump_command.specs.Dumped.{EndsDump, IsDumped, IsDumpDamage}
 use Rattle.recover_command.specs.Recovered.{EndsRecover, AreSized}
 use Rattle.run_model.specs.Headline.{MayKeep}
-use Rattle.run_command.specs.Ends.{RunEnds, IsRunRefusal, LeavesStore, IsRunComplete}
+use Rattle.run_command.specs.Ends.{RunEnds, IsRunEnd, IsRunRefusal, LeavesStore, IsRunComplete}
 use Rattle.load_command.specs.Ends.{EndsLoad}
-use Rattle.load_command.specs.Statuses.{LeavesStore as LeavesFullStore}
+use Rattle.load_command.specs.Statuses.{IsLoadEnd, LeavesStore as LeavesFullStore}
 use Rattle.load_run.specs.Words.{Word, To_log, To_show, To_dump, To_recover, To_run, To_load}
 
 -- ---- what a command does
@@ -34,7 +35,7 @@ Ends To_log status o rose sank = EndsLog status o rose sank
 Ends To_show status o rose sank = EndsShow status o rose sank
 Ends (To_dump n) status o rose sank = EndsDump n status o rose sank
 Ends To_recover status o rose sank = EndsRecover status o rose sank
-Ends To_run status o rose sank = RunEnds status o sank
+Ends To_run status o rose sank = RunEnds status o rose sank
 Ends (To_load options) status o rose sank = EndsLoad status options o rose sank
 
 -- ---- the moments of a call
@@ -48,6 +49,34 @@ MayLeave (Some (To_dump n)) script before J = IsImageNow before J
 MayLeave (Some To_recover) script before J = WasOrAlike before J
 MayLeave (Some To_run) script before J = MayKeep before J
 MayLeave (Some (To_load options)) script before J = MayKeep before J
+
+-- What a stop may leave is told by the script for `log` alone, so there the source must tell its bytes.
+abbrev pub IsScriptTold : Option Word → (told : Type 0) → Type 0
+IsScriptTold None told = Unit {0}
+IsScriptTold (Some To_log) told = told
+IsScriptTold (Some To_show) told = Unit {0}
+IsScriptTold (Some (To_dump n)) told = Unit {0}
+IsScriptTold (Some To_recover) told = Unit {0}
+IsScriptTold (Some To_run) told = Unit {0}
+IsScriptTold (Some (To_load options)) told = Unit {0}
+
+-- ---- which statuses there are
+
+-- with words that name no command
+abbrev pub IsNoCommandEnd : Status → Type 0
+IsNoCommandEnd ends.Memory = Unit {0}
+IsNoCommandEnd ends.Usage = Unit {0}
+IsNoCommandEnd _ = ⊥
+
+-- with which a call ends, whatever the disk, the source and the sink tell
+abbrev pub IsStatusFor : Option Word → Status → Type 0
+IsStatusFor None status = IsNoCommandEnd status
+IsStatusFor (Some To_log) status = IsLogEnd status
+IsStatusFor (Some To_show) status = IsReadingEnd status
+IsStatusFor (Some (To_dump n)) status = IsReadingEnd status
+IsStatusFor (Some To_recover) status = IsReadingEnd status
+IsStatusFor (Some To_run) status = IsRunEnd status
+IsStatusFor (Some (To_load options)) status = IsLoadEnd status
 
 -- ---- refusals
 

@@ -11,7 +11,7 @@ ghost use Rattle.load_run.specs.Words.{Word as TheWord, word_of};
 ghost use Rattle.command_ends.specs.Invocation.{invocation, IsUnchanged, GoesOn, AtEachMoment};
 ghost use Rattle.command_ends.specs.Prints.{Prints};
 ghost use Rattle.command_ends.specs.Status.{refusal_line, IfDamaged, IfNotEmpty, IsScriptFault, IsScriptAt, IsDamageOf, IsNotEmpty, IsOrEarlier};
-ghost use Rattle.load_run.specs.Top.{Ends, MayLeave, ComesWithLine, LeavesDisk, LeavesDamaged, TakesNoScript, IsWrongAt, IsDamageFor, MustTell, earlier_than_damage, IfSpent, MaySpend, WantsEmpty, NeedsEmpty, HasRightScript, IsReady, IsCompleteFor};
+ghost use Rattle.load_run.specs.Top.{Ends, MayLeave, IsScriptTold, IsStatusFor, ComesWithLine, LeavesDisk, LeavesDamaged, TakesNoScript, IsWrongAt, IsDamageFor, MustTell, earlier_than_damage, IfSpent, MaySpend, WantsEmpty, NeedsEmpty, HasRightScript, IsReady, IsCompleteFor};
 
 use crate::words::{Word, read_words};
 use command_ends::{Outcome, Status, refuse};
@@ -53,12 +53,13 @@ pub fn run<R: Threads + Wait + Sync, D: Disk + Send, S: Source, K: Sink, G: Gate
         → IfDamaged result.status (Same (D.view disk).files (D.view result.disk).files) }
     // The images of former moments stay. A stop at any moment leaves only what the command says.
     ensures moments { IsTrue D.told → GoesOn (D.view disk) (D.view result.disk) }
-    ensures any_moment { IsTrue S.told → IsTrue D.told → AtEachMoment (MayLeave (word_of (map (λ w. w.now) words.now)) (S.left script.old) (D.view disk))
-        (D.view disk) (D.view result.disk) }
+    ensures any_moment { IsScriptTold (word_of (map (λ w. w.now) words.now)) (IsTrue S.told) → IsTrue D.told
+        → AtEachMoment (MayLeave (word_of (map (λ w. w.now) words.now)) (S.left script.old) (D.view disk)) (D.view disk) (D.view result.disk) }
     // Only a command that takes a script reads the source.
     ensures leaves_source { TakesNoScript (word_of (map (λ w. w.now) words.now)) → script.new ≡ script.old }
 
-    // Which status comes only where. Want of memory is free.
+    // Which statuses there are, and which comes only where. Want of memory is free.
+    ensures range { IsStatusFor (word_of (map (λ w. w.now) words.now)) result.status }
     ensures usage_only { result.status ≡ Status.Usage → word_of (map (λ w. w.now) words.now) ≡ None }
     ensures script_only { IsTrue S.told → (word : TheWord) → word_of (map (λ w. w.now) words.now) ≡ Some word
         → IsScriptFault result.status (IsWrongAt word (S.left script.old)) }

@@ -1,12 +1,14 @@
 //! Cell lines, and the line of a region in front of its cells.
 
 ghost use Rattle.std.specs.Prelude.{◌≡◌, ◌∷◌, ◌++◌, OnOk, take, vec_len};
-ghost use Rattle.std.specs.List.{flat_map};
+ghost use Rattle.std.specs.List.{flat_map, AllByRecursion};
 ghost use Rattle.kv_cell.specs.Kind.{code_of};
+ghost use Rattle.kv_cell.specs.Laws.{AreBytes};
 ghost use Rattle.script_model.specs.Outputs.{region_line};
 ghost use Rattle.script_model.specs.Report.{cell_line};
 ghost use Rattle.script_model.specs.Report.{kind_name as name_of_code};
 ghost use Rattle.script_model.specs.Text.{printed};
+ghost use Rattle.report_text.specs.Reading.{IsNumberedCell};
 ghost use Rattle.report_text.specs.Texts.{columns_text, stamp_text};
 
 use crate::tokens::append_token;
@@ -29,6 +31,7 @@ fn kind_name(kind: Kind) -> &'static [u8]
 /// Appends a space and a token.
 fn append_word(out: &mut Vec<u8>, bytes: &[u8]) -> Result<(), NoMemory>
     ensures ok { OnOk result (out.new.items ≡ out.old.items ++ (32 ∷ printed bytes.now)) }
+    ensures reads { OnOk result (AreBytes bytes.now) }
     ensures kept { take (vec_len out.old) out.new.items ≡ out.old.items }
 {
     append(out, b" ")?;
@@ -43,6 +46,7 @@ fn append_columns(
     qualifier: &[u8],
 ) -> Result<(), NoMemory>
     ensures ok { OnOk result (out.new.items ≡ out.old.items ++ columns_text row.now family.now qualifier.now) }
+    ensures reads { OnOk result (AreBytes row.now × AreBytes family.now × AreBytes qualifier.now) }
     ensures kept { take (vec_len out.old) out.new.items ≡ out.old.items }
 {
     append_word(out, row)?;
@@ -53,6 +57,7 @@ fn append_columns(
 #[tactic(auto, unfolding(crate::specs::Texts::stamp_text))]
 fn append_stamp(out: &mut Vec<u8>, ts: u64, kind: Kind, value: &[u8]) -> Result<(), NoMemory>
     ensures ok { OnOk result (out.new.items ≡ out.old.items ++ stamp_text ts (code_of kind) value.now) }
+    ensures reads { OnOk result (AreBytes value.now) }
     ensures kept { take (vec_len out.old) out.new.items ≡ out.old.items }
 {
     append_number(out, b" ", ts)?;
@@ -64,6 +69,7 @@ fn append_stamp(out: &mut Vec<u8>, ts: u64, kind: Kind, value: &[u8]) -> Result<
 /// Appends the line of a cell with the number of its edit. After a refusal the vector begins with what it had.
 pub fn append_cell(out: &mut Vec<u8>, number: u64, cell: &Cell) -> Result<(), NoMemory>
     ensures ok { OnOk result (out.new.items ≡ out.old.items ++ cell_line (number, cell.now)) }
+    ensures reads { OnOk result (IsNumberedCell (number, cell.now)) }
     ensures kept { take (vec_len out.old) out.new.items ≡ out.old.items }
 {
     let row = cell.row.as_slice();
@@ -80,6 +86,7 @@ pub fn append_cell(out: &mut Vec<u8>, number: u64, cell: &Cell) -> Result<(), No
 /// Appends the lines of numbered cells in their order. After a refusal the vector begins with what it had.
 pub fn append_cells(out: &mut Vec<u8>, rows: &[Row]) -> Result<(), NoMemory>
     ensures ok { OnOk result (out.new.items ≡ out.old.items ++ flat_map cell_line rows.now) }
+    ensures reads { OnOk result (AllByRecursion IsNumberedCell rows.now) }
     ensures kept { take (vec_len out.old) out.new.items ≡ out.old.items }
 {
     for row in rows {

@@ -1,9 +1,10 @@
 //! Reply lines, each with the cells that its answer tells, and the last line.
 
 ghost use Rattle.std.specs.Prelude.{◌≡◌, ◌≤◌, ◌+◌, [], ◌++◌, IfOk, OnOk, length, take, vec_len};
-ghost use Rattle.std.specs.List.{flat_map};
+ghost use Rattle.std.specs.List.{flat_map, AllByRecursion};
 ghost use Rattle.script_model.specs.Report.{cell_line, cells_told, end_line, replies_text, reply_text};
 ghost use Rattle.script_calls.specs.Answers.{answer_of};
+ghost use Rattle.report_text.specs.Reading.{AreNumbers, numbers_of, IsNumberedCell, IsReplyLine};
 ghost use Rattle.report_text.specs.Texts.{answer_text, reply_head};
 
 use crate::cells::append_cells;
@@ -19,6 +20,7 @@ fn push_answer(line: &mut Line, answer: &Answer)
     requires { length line.old + 55 ≤ 160 }
     ensures text { line.new ≡ line.old ++ answer_text (answer_of answer.now) }
     ensures len { length line.new ≤ length line.old + 55 }
+    ensures reads { AreNumbers (numbers_of (answer_of answer.now)) }
 {
     match answer {
         Answer::PutOk { number } => line.push_numbered("put ok ", *number),
@@ -48,6 +50,7 @@ fn push_answer(line: &mut Line, answer: &Answer)
 fn head_line(handler: u32, call: u32, answer: &Answer) -> Line
     ensures text { result ≡ reply_head handler call (answer_of answer.now) }
     ensures len { length result ≤ 160 }
+    ensures reads { AreNumbers (numbers_of (answer_of answer.now)) }
 {
     let mut line = Line::new();
     line.push_two("reply ", handler as u64, call as u64);
@@ -82,6 +85,7 @@ pub fn end_line(status: u32) -> Line
 /// Appends the lines of the cells that an answer tells.
 fn append_told(out: &mut Vec<u8>, answer: &Answer) -> Result<(), NoMemory>
     ensures ok { OnOk result (out.new.items ≡ out.old.items ++ flat_map cell_line (cells_told (answer_of answer.now))) }
+    ensures reads { OnOk result (AllByRecursion IsNumberedCell (cells_told (answer_of answer.now))) }
     ensures kept { take (vec_len out.old) out.new.items ≡ out.old.items }
 {
     match answer {
@@ -93,6 +97,7 @@ fn append_told(out: &mut Vec<u8>, answer: &Answer) -> Result<(), NoMemory>
 /// Appends the line of a reply, and those of the cells that it tells. After a refusal the vector begins with what it had.
 pub fn append_reply(out: &mut Vec<u8>, reply: &ReplyLine) -> Result<(), NoMemory>
     ensures ok { OnOk result (out.new.items ≡ out.old.items ++ reply_text reply.now) }
+    ensures reads { OnOk result (IsReplyLine reply.now) }
     ensures kept { take (vec_len out.old) out.new.items ≡ out.old.items }
 {
     let line = head_line(reply.handler, reply.call, &reply.answer);
@@ -116,6 +121,7 @@ pub(crate) fn append_replies(
     status: u32,
 ) -> Result<(), NoMemory>
     ensures ok { OnOk result (out.new.items ≡ out.old.items ++ replies_text replies.now status) }
+    ensures reads { OnOk result (AllByRecursion IsReplyLine replies.now) }
 {
     for reply in replies {
         append_reply(out, reply)?;

@@ -2,6 +2,7 @@
 
 ghost use Rattle.std.specs.Prelude.{◌≡◌, ◌<◌, ◌++◌, OnOk, take, vec_len};
 ghost use Rattle.std.specs.List.{flat_map};
+ghost use Rattle.kv_cell.specs.Laws.{AreBytes};
 ghost use Rattle.script_model.specs.Text.{escaped, is_plain, printed, upper_hex};
 
 use crate::words::append;
@@ -35,6 +36,7 @@ fn append_byte(out: &mut Vec<u8>, b: u8) -> Result<(), NoMemory>
 
 fn append_bytes(out: &mut Vec<u8>, bytes: &[u8]) -> Result<(), NoMemory>
     ensures ok { OnOk result (out.new.items ≡ out.old.items ++ flat_map escaped bytes.now) }
+    ensures reads { OnOk result (AreBytes bytes.now) }
     ensures kept { take (vec_len out.old) out.new.items ≡ out.old.items }
 {
     for b in bytes {
@@ -46,6 +48,7 @@ fn append_bytes(out: &mut Vec<u8>, bytes: &[u8]) -> Result<(), NoMemory>
 /// Appends the bytes as a token. After a refusal the vector begins with what it had.
 pub fn append_token(out: &mut Vec<u8>, bytes: &[u8]) -> Result<(), NoMemory>
     ensures ok { OnOk result (out.new.items ≡ out.old.items ++ printed bytes.now) }
+    ensures reads { OnOk result (AreBytes bytes.now) }
     ensures kept { take (vec_len out.old) out.new.items ≡ out.old.items }
 {
     if bytes.is_empty() {

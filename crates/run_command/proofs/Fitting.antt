@@ -10,7 +10,6 @@ use Rattle.run_model.proofs.SpentLaws.{none_found}
 use Rattle.run_model.specs.Headline.{reply_line, IsWant, IsClean, FitsStatus}
 use Rattle.command_ends.specs.Status.{exit_status}
 use Rattle.run_command.specs.Decided.{is_want, wants_memory, spent_or, decided}
-use Rattle.run_command.specs.Ends.{IsReportEnd}
 use Rattle.command_ends.specs.declared.status.Status.{Status}
 use Rattle.command_ends.specs.declared.status.Status.TheVariants as ends
 
@@ -144,23 +143,19 @@ pub decided_end : (broken : Bool) (spent : Option Spent) (lines : List ReplyLine
 decided_end true spent lines = tt
 decided_end false spent lines = end_spent spent _ (end_want (wants_memory lines))
 
--- a report ends so, unless its output fails
-pub report_end : (status : Status) → IsDecided status → IsReportEnd status
-report_end ends.Done e = tt
-report_end ends.Memory e = tt
-report_end ends.DiskFault e = tt
-report_end (ends.NumbersSpent region last) e = tt
-report_end ends.Usage e = absurd e
-report_end (ends.Script line why) e = absurd e
-report_end ends.SourceFault e = absurd e
-report_end ends.SinkFault e = absurd e
-report_end (ends.Damaged damage) e = absurd e
-report_end (ends.NotEmpty name) e = absurd e
-
 -- it is 5 exactly where the log is broken
 pub whole_of : (broken : Bool) (spent : Option Spent) (lines : List ReplyLine) → exit_status (decided broken spent lines) ≢ 5 → broken ≡ false
 whole_of true spent lines other = absurd (other refl)
 whole_of false spent lines other = refl
+
+not_5 : (spent : Option Spent) (wants : Bool) → exit_status (spent_or spent (if wants then ends.Memory else ends.Done)) ≡ 5 → ⊥
+not_5 (Some s) wants e = omega (arith, e)
+not_5 None true e = omega (arith, e)
+not_5 None false e = omega (arith, e)
+
+pub broken_of : (broken : Bool) (spent : Option Spent) (lines : List ReplyLine) → exit_status (decided broken spent lines) ≡ 5 → broken ≡ true
+broken_of true spent lines is = refl
+broken_of false spent lines is = absurd (not_5 spent (wants_memory lines) is)
 
 -- where it names numbers that are spent, the log isn't broken, and these are they
 spent_want : (b : Bool) (region last : ℕ) → (if b then ends.Memory else ends.Done) ≡ ends.NumbersSpent region last → ⊥

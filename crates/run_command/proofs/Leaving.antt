@@ -51,10 +51,6 @@ closed_ran view script made found first left name regions parts spent broken sam
   subst (λ d. FitsThroughout (view d) left (map closed_at regions)) same c.1,
 )
 
--- what an opening went through leaves each image as it was, or recovering alike
-half_from : (before after : DiskView) → During (WasOrAlike before) before after → IsHalfOpened before after
-half_from before after during J image = ∣ during.1.each after.clock J during.1.time.later (omega arith) image ∣₁
-
 damage_at : (why : StartWhy) (P : Damage → Type 0) → ((damage : Damage) → why ≡ whys.Damaged damage → P damage) → IfFoundDamaged why P
 damage_at whys.Memory P told = tt
 damage_at whys.DiskFault P told = tt
@@ -62,4 +58,4 @@ damage_at (whys.Damaged damage) P told = told damage refl
 
 pub not_opened : (why : StartWhy) (before after : DiskView) → During (WasOrAlike before) before after → ((damage : Damage) → why ≡ whys.Damaged damage → IsDamage before.files damage × (after.files ≡ before.files))
     → IsHalfOpened before after × IfFoundDamaged why (λ damage. IsDamage before.files damage × (after.files ≡ before.files))
-not_opened why before after during damaged = (half_from before after during, damage_at why _ damaged)
+not_opened why before after during damaged = (∣ during ∣₁, damage_at why _ damaged)

@@ -110,10 +110,10 @@ parsed_each : (P : Status → Type 0) → P ends.Done → P ends.Memory → P en
     → (status : Status) → IsParsedEnd status → P status
 parsed_each P done memory disk sink spent damaged = parsed_cases P (report_cases P done memory disk sink spent) damaged
 
-pub run_ends : (script : Script) (text had has : List ℕ) (before after : DiskView) (sank : Type 0) → Says Run text script → (status : Status) → IsParsedEnd status
-    → EndsRun status script before after sank (taken_of had has) → RunEnds status (invocation text before after had has) sank
-run_ends script text had has before after sank says =
-    parsed_each (λ s. EndsRun s script before after sank (taken_of had has) → RunEnds s (invocation text before after had has) sank)
+pub run_ends : (script : Script) (text had has : List ℕ) (before after : DiskView) (rose sank : Type 0) → Says Run text script → (status : Status) → IsParsedEnd status
+    → EndsRun status script before after rose sank (taken_of had has) → RunEnds status (invocation text before after had has) rose sank
+run_ends script text had has before after rose sank says =
+    parsed_each (λ s. EndsRun s script before after rose sank (taken_of had has) → RunEnds s (invocation text before after had has) rose sank)
     (λ e. (script, says, e)) (λ e. inl (script, says, e)) (λ e. (script, says, e)) (λ e. (script, says, e)) (λ region last e. (script, says, e)) (λ damage e. (script, says, e))
 
 pub run_leaves : (Q : Type 0) (status : Status) → IsParsedEnd status → LeavesStore status → Q
@@ -136,18 +136,18 @@ wider status it (inr (suc k, low, is)) = inr (suc (suc k), omega (arith, low), i
 
 -- ---- without a script
 
-pub input_ends : (text had has : List ℕ) (disk : DiskView) (sank : Type 0) (status : Status) → IsInputRefusal status
-    → ((line : List ℕ) → refusal_line status ≡ Some line → Prints had has line sank) → RunEnds status (invocation text disk disk had has) sank
-input_ends text had has disk sank ends.Memory may prints = inr (refused_so had has refused_memory sank (prints refused_memory refl), same_disk disk)
-input_ends text had has disk sank (ends.Script line why) may prints = tt
-input_ends text had has disk sank ends.SourceFault may prints = tt
-input_ends text had has disk sank ends.Done may prints = absurd may
-input_ends text had has disk sank ends.Usage may prints = absurd may
-input_ends text had has disk sank ends.DiskFault may prints = absurd may
-input_ends text had has disk sank ends.SinkFault may prints = absurd may
-input_ends text had has disk sank (ends.Damaged damage) may prints = absurd may
-input_ends text had has disk sank (ends.NumbersSpent region last) may prints = absurd may
-input_ends text had has disk sank (ends.NotEmpty name) may prints = absurd may
+pub input_ends : (text had has : List ℕ) (disk : DiskView) (rose sank : Type 0) (status : Status) → IsInputRefusal status
+    → ((line : List ℕ) → refusal_line status ≡ Some line → Prints had has line sank) → RunEnds status (invocation text disk disk had has) rose sank
+input_ends text had has disk rose sank ends.Memory may prints = inr (refused_so had has refused_memory sank (prints refused_memory refl), same_disk disk)
+input_ends text had has disk rose sank (ends.Script line why) may prints = tt
+input_ends text had has disk rose sank ends.SourceFault may prints = tt
+input_ends text had has disk rose sank ends.Done may prints = absurd may
+input_ends text had has disk rose sank ends.Usage may prints = absurd may
+input_ends text had has disk rose sank ends.DiskFault may prints = absurd may
+input_ends text had has disk rose sank ends.SinkFault may prints = absurd may
+input_ends text had has disk rose sank (ends.Damaged damage) may prints = absurd may
+input_ends text had has disk rose sank (ends.NumbersSpent region last) may prints = absurd may
+input_ends text had has disk rose sank (ends.NotEmpty name) may prints = absurd may
 
 some_none : {A : Type 0} (a : A) → Some a ≡ None → ⊥
 some_none a e = absurd cc

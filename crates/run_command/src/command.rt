@@ -38,7 +38,7 @@ pub fn run_script<R: Threads + Wait + Sync, D: Disk + Send, S: Source, K: Sink, 
 ) -> Outcome<D>
     ensures ends { IsTrue S.told → IsTrue D.told → IsTrue K.told
         → RunEnds result.status (invocation (S.left source.old) (D.view disk) (D.view result.disk) (K.taken out.old) (K.taken out.new))
-        (Rose (K.faults out.old) (K.faults out.new)) }
+        (Rose (D.faults disk) (D.faults result.disk)) (Rose (K.faults out.old) (K.faults out.new)) }
     ensures refusal { IsTrue K.told → IsRunRefusal result.status → (text : List ℕ) → refusal_line result.status ≡ Some text
         → Prints (K.taken out.old) (K.taken out.new) text (Rose (K.faults out.old) (K.faults out.new)) }
     ensures leaves_disk { IsTrue D.told → LeavesStore result.status → IsUnchanged (D.view disk) (D.view result.disk) }
@@ -83,7 +83,8 @@ pub fn run_parsed<R: Threads + Wait + Sync, D: Disk + Send, K: Sink, G: Gate + S
 ) -> Outcome<D>
     requires { IsScript script }
     ensures ends { IsTrue D.told → IsTrue K.told → EndsRun result.status script (D.view disk) (D.view result.disk)
-        (Rose (K.faults out.old) (K.faults out.new)) (taken_of (K.taken out.old) (K.taken out.new)) }
+        (Rose (D.faults disk) (D.faults result.disk)) (Rose (K.faults out.old) (K.faults out.new))
+        (taken_of (K.taken out.old) (K.taken out.new)) }
     ensures refusal { IsTrue K.told → IsRunRefusal result.status → (text : List ℕ) → refusal_line result.status ≡ Some text
         → Prints (K.taken out.old) (K.taken out.new) text (Rose (K.faults out.old) (K.faults out.new)) }
     ensures damage_leaves { IsTrue D.told → IfDamaged result.status ((D.view result.disk).files ≡ (D.view disk).files) }

@@ -1,6 +1,7 @@
 //! How a run ends.
 ghost use Rattle.std.specs.Prelude.{◌≡◌, ◌≤◌, IsTrue, IfOk};
 ghost use Rattle.script_model.specs.Report.{report_text};
+ghost use Rattle.report_text.specs.Reading.{IsReport};
 ghost use Rattle.disk_images.specs.Calls.{Rose};
 ghost use Rattle.command_ends.specs.Status.{exit_status};
 ghost use Rattle.run_command.specs.Ends.{joined, report_in, IsPrinted, IsReportEnd};
@@ -50,7 +51,8 @@ fn make_report(
     lines: Vec<ReplyLine>,
     status: Status,
 ) -> Result<Octets, NoMemory>
-    ensures { IfOk result (λ text. text ≡ report_text (report_in regions.items lines.items (exit_status status))) }
+    ensures text { IfOk result (λ text. text ≡ report_text (report_in regions.items lines.items (exit_status status))) }
+    ensures reads { IfOk result (λ text. IsReport (report_in regions.items lines.items (exit_status status))) }
 {
     let regions = region_lines(alloc, regions)?;
     write_report(

@@ -69,6 +69,7 @@ module _ {script : Script} {found : Files} {left : DiskView} {name : Naming} {hs
     completed = λ e is. let y = (lawful_at x here).told e is in subst (λ o. IsTrue (is_completed o)) (sym y.2.outcome) (completed_of y.0.answer);
     asked = λ e is. let y = (lawful_at x here).told e is in (y.2.sync, asked_here x.region e y.0 y.1 y.2 ((c.regions x here).journal.regions e is));
     time = told_time x here;
+    limit = (c.regions x here).limit;
   }
     where
       asked_here : (r : ℕ) (e : Edit) (y : Reply) → Contains (replies_of hs) y → (o : IsEditOf y e) → e.entry.region ≡ r

@@ -1,17 +1,20 @@
 -- Close's facts give the headline, though not which beginning of a journal a crash leaves.
-use Rattle.std.proofs.Common.{◌≡◌, ◌≢◌, ℕ, ◌^◌, ◌<◌, ◌≤◌, ◌⊎◌, Bool, true, false, List, [], ◌∷◌, map, Contains, refl, sym, ◌∙◌, subst, arith, inl, inr}
+use Rattle.std.specs.List.{AllByRecursion}
+use Rattle.std.proofs.lemmas.List.Elements.{Contains-append_cases}
+use Rattle.std.proofs.Common.{◌≡◌, ◌≢◌, ℕ, zero, suc, ◌^◌, ◌<◌, ◌≤◌, ◌⊎◌, Bool, true, false, List, [], ◌∷◌, map, Contains, refl, sym, ◌∙◌, subst, arith, inl, inr}
 use Rattle.cell_model.specs.Cell.{Cell}
 use Rattle.log_model.specs.declared.name.Name.{Name}
 use Rattle.log_model.specs.Entry.{Entry}
 use Rattle.log_model.specs.Files.{Files, IsLogFile, IsSound, IsLastLog, IsPresent}
 use Rattle.log_model.specs.Recovered.{IsRecovered, IsContent, IsLast, RecoversAlike}
-use Rattle.region_model.specs.Calls.{Call, Put, Flush, Answer, Reply}
+use Rattle.region_model.specs.Calls.{Call, Put, Flush, Answer, PutFault, Reply}
 use Rattle.region_model.specs.Lawful.{IsLawful}
 use Rattle.script_model.specs.Report.{report_text}
 use Rattle.script_model.specs.Calls.{Script}
 use Rattle.disk_images.specs.Crash.{DiskView, IsImageNow}
-use Rattle.server_model.specs.Pass.{Naming}
-use Rattle.server_model.specs.Closing.{IsClosedRegion, Survives, Leaves, Handled, Pairs, passes_of, replies_of}
+use Rattle.server_model.specs.Pass.{Pass, Naming}
+use Rattle.server_model.specs.Steps.{Does, Step, Runs}
+use Rattle.server_model.specs.Closing.{IsClosedRegion, Survives, Leaves, Handled, HasRun, Pairs, passes_of, replies_of}
 use Rattle.server_model.proofs.JournalLaws.{pairs_all, contains_cons}
 use Rattle.server_model.proofs.RepliesLaw.{survives, flush_was_done, RollCovers, rolls_cover, has_pass, kept_of}
 use Rattle.region_model.specs.Crash.{Fits}
@@ -22,12 +25,37 @@ use Rattle.run_model.proofs.Choices.{each_in}
 use Rattle.std.proofs.Math.Logic.{∥∥₁_map, ∥∥₁_map₂}
 use Rattle.region_model.specs.Calls.{Scan, Roll, PutSpent, IsAnswerTo}
 use Rattle.run_model.specs.declared.spent.Spent.{Spent}
-use Rattle.run_model.specs.Spent.{IsSpent, OnlyPuts, first_spent}
-use Rattle.run_model.specs.Headline.{IsSpentHeadline}
+use Rattle.run_model.specs.Spent.{IsSpent, IsFirstSpent, OnlyPuts, first_spent}
 use Rattle.run_model.proofs.SpentLaws.{found as found_first}
 use Rattle.std.proofs.Common.{Some}
 use Rattle.one_thread.specs.History.{IsHistory}
 use Rattle.one_thread.proofs.History.{history_of as in_one_thread}
+
+-- ---- which puts are answered a fault with a sequence id
+
+step_in : (name : Naming) (time : ℕ) (old new : Pass) (replies : List Reply) → Runs name time old replies new → (x : Reply) → Contains replies x
+    → (before : Pass) × (after : Pass) × Step name time before x after
+step_in name time old new [] run x is = absurd (omega (arith, is.1))
+step_in name time old new (reply ∷ replies) (mid, step, more) x (zero, lt, same) = (old, mid, subst (λ (y : Reply). Step name time old y mid) same step)
+step_in name time old new (reply ∷ replies) (mid, step, more) x (suc k, lt, same) = step_in name time mid new replies more x (k, omega (arith, lt), same)
+
+step_of : (name : Naming) (time : ℕ) (hs : List Handled) → AllByRecursion (HasRun name time) hs → (x : Reply) → Contains (replies_of hs) x
+    → (before : Pass) × (after : Pass) × Step name time before x after
+step_of name time [] all x is = absurd (omega (arith, is.1))
+step_of name time (h ∷ hs) all x is = elim (Contains-append_cases h.replies (replies_of hs) x is) [
+  | inl here ↦ step_in name time all.0.0 h.pass h.replies all.0.2 x here
+  | inr later ↦ step_of name time hs all.1 x later
+]
+
+fault_asked : {script : Script} {found : Files} {left : DiskView} {name : Naming} {hs : List Handled} {xs : List ClosedAt} {broken : Bool} → Closed script found left name hs xs broken
+    → (reply : Reply) (r n : ℕ) (sync : Bool) (cells : List Cell) → Contains (replies_of hs) reply → reply.call ≡ Put r sync cells → reply.answer ≡ PutFault (Some n) → sync ≡ true
+fault_asked {script} {found} {left} {name} {hs} c reply r n sync cells is put fault =
+    let step = step_of name script.time hs c.runs.each reply is in
+    let does : Does name script.time (record { handler = reply.handler; call = reply.number }) (Put r sync cells) reply.answer step.0 step.1 =
+    subst (λ (call : Call). Does name script.time (record { handler = reply.handler; call = reply.number }) call reply.answer step.0 step.1) put step.2.does in
+    does.fault_sync n fault
+
+-- ---- the headline
 
 module _ {script : Script} {found : Files} {left : DiskView} {name : Naming} {hs : List Handled} {xs : List ClosedAt} {broken : Bool} (c : Closed script found left name hs xs broken)
     (kept : (x : ClosedAt) → Contains xs x → Survives left broken x.region x.it) (left_so : Leaves found left broken script.regions) where
@@ -72,6 +100,7 @@ module _ {script : Script} {found : Files} {left : DiskView} {name : Naming} {hs
       calls = c.calls;
       last = at_each c (λ h. IsLast before.files h.region h.base.last) (λ x is. subst (λ f. IsLast f x.region x.it.base.last) (sym same) (base_at c x is).last);
       content = at_each c (λ h. IsContent (IsRecovered before.files h.region) h.base.content) (λ x is. subst (λ f. IsContent (IsRecovered f x.region) x.it.base.content) (sym same) (base_at c x is).content);
+      fault_sync = fault_asked c;
     };
     journals = at_each c (IsOneJournal script) (one_journal c);
     lawful = at_each c (λ h. IsLawful h.region h.base h.edits (replies_of hs)) (lawful_at c);
@@ -98,6 +127,16 @@ pub headline : {script : Script} {found : Files} {left : DiskView} {name : Namin
 headline {script} {found} {left} {name} {hs} {xs} {broken} c before status same moments fits whole =
     ∥∥₁_map₂ (each_in (λ (x : ClosedAt). Survives left broken x.region x.it) xs c.survives) c.leaves (λ kept left_so. headline_kept c kept left_so before status same moments fits whole)
 
+-- What holds of the histories and the replies goes with it.
+pub headline_with : {script : Script} {found : Files} {left : DiskView} {name : Naming} {hs : List Handled} {xs : List ClosedAt} {broken : Bool} → Closed script found left name hs xs broken
+    → (before : DiskView) (status : ℕ) → before.files ≡ found → FitsThroughout before left xs → FitsStatus status (replies_of hs) → (status ≢ 5 → broken ≡ false)
+    → (P : List History → List Reply → Type 0) → P (map history_of xs) (replies_of hs)
+    → ∥ ((h : IsHeadline script before left status (report_text (report_of (map history_of xs) (replies_of hs) status))) × P h.histories h.replies) ∥₁
+unfolding headline_kept
+headline_with {script} {found} {left} {name} {hs} {xs} {broken} c before status same moments fits whole P holds =
+    ∥∥₁_map₂ (each_in (λ (x : ClosedAt). Survives left broken x.region x.it) xs c.survives) c.leaves
+    (λ kept left_so. (headline_kept c kept left_so before status same moments fits whole, holds))
+
 only_puts : {script : Script} {found : Files} {left : DiskView} {name : Naming} {hs : List Handled} {xs : List ClosedAt} {broken : Bool} → Closed script found left name hs xs broken → OnlyPuts (replies_of hs)
 only_puts {script} {found} {left} {name} {hs} {xs} {broken} c x is spent = of_put x.call x.answer (kept_of name script.time hs c.runs x is).2.answers spent
   where
@@ -110,11 +149,7 @@ only_puts {script} {found} {left} {name} {hs} {xs} {broken} c x is spent = of_pu
     of_put (Flush region) answer fits told = absurd told
     of_put Roll answer fits told = absurd told
 
--- Where a put was answered spent and the log isn't broken, the first one is named.
-pub spent_headline : {script : Script} {found : Files} {left : DiskView} {name : Naming} {hs : List Handled} {xs : List ClosedAt} {broken : Bool} → Closed script found left name hs xs broken
-    → (before : DiskView) → before.files ≡ found → FitsThroughout before left xs → FitsStatus 8 (replies_of hs) → broken ≡ false → (s : Spent) → first_spent (replies_of hs) ≡ Some s
-    → ∥ IsSpentHeadline script before left s (report_text (report_of (map history_of xs) (replies_of hs) 8)) ∥₁
-unfolding headline_kept
-spent_headline {script} {found} {left} {name} {hs} {xs} {broken} c before same moments fits whole s first =
-    ∥∥₁_map₂ (each_in (λ (x : ClosedAt). Survives left broken x.region x.it) xs c.survives) c.leaves
-    (λ kept left_so. (headline_kept c kept left_so before 8 same moments fits (λ no_5. whole), found_first (replies_of hs) (only_puts c) s first))
+-- Where a put was answered spent the first one is named.
+pub first_of_closed : {script : Script} {found : Files} {left : DiskView} {name : Naming} {hs : List Handled} {xs : List ClosedAt} {broken : Bool} → Closed script found left name hs xs broken
+    → (s : Spent) → first_spent (replies_of hs) ≡ Some s → IsFirstSpent s (replies_of hs)
+first_of_closed {script} {found} {left} {name} {hs} c s first = found_first (replies_of hs) (only_puts c) s first

@@ -17,7 +17,8 @@ use Rattle.script_model.specs.Calls.{Script}
 use Rattle.server_model.specs.Pass.{Naming, Pass}
 use Rattle.server_model.specs.Closing.{Region, Handled, passes_of, IsClosedRegion, Survives, Leaves}
 use Rattle.run_model.specs.Headline.{AllKeep, KeepsFound, KeepsIn, IsHalfOpened}
-use Rattle.run_model.specs.Closed.{IsFound, ClosedAt, Closed}
+use Rattle.run_model.specs.Closed.{IsFound, MayOpen, ClosedAt, Closed}
+use Rattle.disk_images.proofs.Moments.{at_end}
 use Rattle.std.proofs.Math.Logic.{∥∥₁_map, ∥∥₁_map₂}
 use Rattle.run_model.proofs.FromClose.{region_there}
 use Rattle.run_model.proofs.Choices.{each_up_to}
@@ -121,7 +122,10 @@ alike_keeps found J alike = record {
 
 -- where an opening was left
 pub half_keeps : (found left : DiskView) → IsHalfOpened found left → KeepsFound found left
-half_keeps found left half J image = ∥∥₁_map (half J image) (λ either. elim either as (λ _. IsImageNow found J ⊎ KeepsIn found.files J) [ inl was ↦ inl was | inr alike ↦ inr (alike_keeps found.files J alike) ])
+half_keeps found left half J image = ∥∥₁_map half (λ over. elim (at_end (MayOpen found) over.0 found left over.1 J image) as (λ _. IsImageNow found J ⊎ KeepsIn found.files J) [
+  | inl was ↦ inl was
+  | inr alike ↦ inr (alike_keeps found.files J alike)
+])
 
 -- what is kept in each image is kept
 pub all_keep : (found left : DiskView) → AllKeep found.files left → KeepsFound found left

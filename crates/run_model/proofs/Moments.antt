@@ -14,23 +14,6 @@ use Rattle.run_model.specs.Headline.{KeepsIn, MayKeep}
 use Rattle.run_model.proofs.Choices.{each_in, each_up_to}
 use Rattle.run_model.proofs.KeepsFound.{Stands, stands_keeps, alike_keeps}
 
-take_none : (es : List Edit) → take 0 es ≡ []
-take_none [] = refl
-take_none (e ∷ es) = refl
-
--- files that recover as they were found to fit the base with none of the edits
-pub alike_fits : (found J : Files) (r : ℕ) (base : Base) (edits : List Edit) → Follows base.last edits → IsFound found r base → RecoversAlike found J r → Fits J r base edits base.last
-alike_fits found J r base edits follows is alike =
-    let none : cut_at base.last edits ≡ [] = cut_by_count base.last 0 base.last edits follows (omega arith) ∙ take_none edits in
-    record {
-      fit = alike.fit;
-      least = omega arith;
-      most = omega arith;
-      content = subst (λ es. IsContent (IsRecovered J r) (put_edits base.content es)) (sym none)
-          (λ v p. ((λ e. (alike.content v p).0 ((is.content v p).0 e)), (λ j. (is.content v p).1 ((alike.content v p).1 j))));
-      last = (alike.last base.last).0 is.last;
-    }
-
 -- Up to the moment at which the server was begun a crash leaves what an opening leaves, and from then on what fits each region's edits.
 pub fits_throughout : (found now left : DiskView) (xs : List ClosedAt) → found.clock ≤ now.clock → now.clock ≤ left.clock
     → ((t : ℕ) (J : Files) → found.clock ≤ t → t ≤ now.clock → now.image t J → IsImageNow found J ⊎ AllAlike found.files J)

@@ -60,13 +60,17 @@ pub record Closed (script : Script) (found : Files) (left : DiskView) (name : Na
   pub sound : IsSound found
   pub bases : (r : ℕ) → 1 ≤ r → r ≤ script.regions → IsFound found r (name.bases r)
 
--- Up to a moment at which the server was begun a crash leaves an image of the disk as found, or files that recover alike for every region; at each
--- moment from then on what it leaves is fit so.
+-- what a crash may leave of an opening: an image of the disk as found, or files that recover alike for every region
+abbrev pub MayOpen : DiskView → Files → Type 0
+MayOpen found J = IsImageNow found J ⊎ AllAlike found.files J
+
+-- The server is begun at the moment `start`. Up to it a crash leaves what an opening may leave, and from it on files that are fit so.
 pub record FitsFrom (found left : DiskView) (start : ℕ) (Fit : Files → Type 0) : Type 0 where
   pub begun : (found.clock ≤ start) × (start ≤ left.clock)
-  pub before : (t : ℕ) (J : Files) → found.clock ≤ t → t ≤ start → left.image t J → IsImageNow found J ⊎ AllAlike found.files J
+  pub before : (t : ℕ) (J : Files) → found.clock ≤ t → t ≤ start → left.image t J → MayOpen found J
   pub since : (t : ℕ) (J : Files) → start ≤ t → t ≤ left.clock → left.image t J → ∥ Fit J ∥₁
 
--- from some moment on it leaves of each of these regions the base with a beginning of its edits
+-- From the moment at which the server is begun a crash leaves of each of these regions the base with a beginning of its edits. Which moment that
+-- is isn't told.
 abbrev pub FitsThroughout : DiskView → DiskView → List ClosedAt → Type 0
 FitsThroughout found left xs = ∥ ((start : ℕ) × FitsFrom found left start (λ J. (x : ClosedAt) → Contains xs x → (m : ℕ) × Fits J x.region x.it.base x.it.edits m)) ∥₁

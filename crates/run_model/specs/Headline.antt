@@ -10,7 +10,7 @@ use Rattle.log_model.specs.Files.{Files, IsFit, IsLogFile, IsSound, IsPresent, I
 use Rattle.log_model.specs.Recovered.{IsRecovered, IsContent, IsLast, IsStored, IsFlushed, RecoversAlike}
 use Rattle.recovery.specs.Alike.{AllAlike}
 use Rattle.region_model.specs.Journal.{Base, Edit, IsJournal, last_of, is_completed, is_done}
-use Rattle.region_model.specs.Calls.{Put, Flush, Roll, Answer, PutOk, Scanned, FlushOk, FlushNothing, FlushBusy, RollOk, RollNothing, PutMemory, ScanMemory, FlushMemory, RollMemory, Reply}
+use Rattle.region_model.specs.Calls.{Put, Flush, Roll, Answer, PutOk, PutFault, Scanned, FlushOk, FlushNothing, FlushBusy, RollOk, RollNothing, PutMemory, ScanMemory, FlushMemory, RollMemory, Reply}
 use Rattle.region_model.specs.Lawful.{IsLawful, flushed_of}
 use Rattle.region_model.specs.Crash.{Fits, Receipted}
 use Rattle.script_model.specs.Report.{EditLine, RegionLine, ReplyLine, Report, report_text}
@@ -19,7 +19,7 @@ use Rattle.server_model.specs.Steps.{IsRolled, IsFault}
 use Rattle.script_model.specs.Calls.{Script, asked, asked_by}
 use Rattle.run_model.specs.declared.spent.Spent.{Spent}
 use Rattle.run_model.specs.Spent.{IsSpent, IsFirstSpent}
-use Rattle.run_model.specs.Closed.{FitsFrom}
+use Rattle.run_model.specs.Closed.{FitsFrom, MayOpen}
 use Rattle.one_thread.specs.History.{IsHistory}
 
 -- one region's base and its one list of edits
@@ -48,14 +48,18 @@ pub record IsOneReport (script : Script) (found : Files) (histories : List Histo
   pub calls : map asked_by replies ≡ asked script
   pub last : (h : History) → Contains histories h → IsLast found h.region h.base.last
   pub content : (h : History) → Contains histories h → IsContent (IsRecovered found h.region) h.base.content
+  -- an edit that failed was asked for with `sync`
+  pub fault_sync : (reply : Reply) (r n : ℕ) (sync : Bool) (cells : List Cell) → Contains replies reply → reply.call ≡ Put r sync cells
+      → reply.answer ≡ PutFault (Some n) → sync ≡ true
 
--- The edits are one journal of the script's puts, and each is completed.
+-- The edits are one journal of the script's puts, each is completed, and their sequence ids are at most 2^48-1.
 pub record IsOneJournal (script : Script) (h : History) : Type 0 where
   pub journal : IsJournal h.region h.base h.edits
   pub completed : (e : Edit) → Contains h.edits e → IsTrue (is_completed e.outcome)
   pub asked : (e : Edit) → Contains h.edits e
       → (sync : Bool) × Contains (asked script) (record { handler = e.caller.handler; number = e.caller.call; call = Put h.region sync e.entry.cells })
   pub time : (e : Edit) → Contains h.edits e → e.entry.time ≡ script.time
+  pub limit : last_of h.base.last h.edits < 2 ^ 48
 
 -- ---- what a crash leaves
 
@@ -128,7 +132,7 @@ pub record IsHeadline (script : Script) (found left : DiskView) (status : ℕ) (
   pub others : (J : Files) (r : ℕ) → IsImageNow left J → script.regions < r → RecoversAlike found.files J r
   pub images_sound : ((name : Name) → IsPresent found.files name → name.number ≤ 2 ^ 61) → (J : Files) → IsImageNow left J → IsSound J
   pub done : AreDone left status replies
-  -- from the moment at which the server was begun a crash leaves of each region the base with a beginning of the edits; before, what an opening leaves
+  -- from the moment at which the server was begun a crash leaves of each region the base with a beginning of the edits; up to it, what an opening may
   pub throughout : ∥ ((start : ℕ) × FitsFrom found left start (λ J. (h : History) → Contains histories h → (m : ℕ) × Fits J h.region h.base h.edits m)) ∥₁
 
 -- a headline whose status names the first put that was answered spent
@@ -161,6 +165,6 @@ KeepsThroughout found left = ∥ ((moments : ℕ) × Throughout (MayKeep found) 
 
 -- ---- a run whose store could not be opened
 
--- Each image was one before, or recovers for every region to what was found.
+-- At each moment each image was one before, or recovers for every region to what was found; the images of former moments stay.
 abbrev pub IsHalfOpened : DiskView → DiskView → Type 0
-IsHalfOpened found left = (J : Files) → IsImageNow left J → ∥ IsImageNow found J ⊎ AllAlike found.files J ∥₁
+IsHalfOpened found left = ∥ ((moments : ℕ) × Throughout (MayOpen found) moments found left) ∥₁

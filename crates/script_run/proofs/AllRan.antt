@@ -32,7 +32,6 @@ use Rattle.run_model.proofs.KeepsFound.{half_keeps, left_keeps, all_keep}
 use Rattle.run_model.proofs.SpentLaws.{first_append, first_assoc}
 use Rattle.run_model.specs.declared.spent.Spent.{Spent}
 use Rattle.run_model.specs.Spent.{first_spent, first_of}
-use Rattle.run_model.specs.Headline.{IsHalfOpened}
 use Rattle.wal_split.specs.Moments.{During, WasOrAlike}
 use Rattle.region_calls.specs.Bases.{AreBasesOf}
 use Rattle.region_calls.specs.Closes.{IsLeft}
@@ -228,12 +227,8 @@ closed_from name place time regions rooms os xs files left cs broken passes line
 
 -- ---- not closed
 
--- what an opening went through leaves each image as it was, or recovering alike
-half_from : (found left : DiskView) → During (WasOrAlike found) found left → IsHalfOpened found left
-half_from found left during J image = ∣ during.1.each left.clock J during.1.time.later (omega arith) image ∣₁
-
 pub opened_keeps : (found left : DiskView) → During (WasOrAlike found) found left → KeepsFound found left
-opened_keeps found left during = half_keeps found left (half_from found left during)
+opened_keeps found left during = half_keeps found left ∣ during ∣₁
 
 pub left_of : (name : Naming) (found left : DiskView) (passes : List Pass) (regions : ℕ) → 1 ≤ regions → name.regions ≡ regions
     → ((r : ℕ) → 1 ≤ r → r ≤ regions → IsFound found.files r (name.bases r))

@@ -1,14 +1,14 @@
 use Rattle.disk_images.specs.Calls.{Rose}
-use Rattle.std.proofs.Common.{◌≡◌, rules, Some, inl, refl, IsTrue}
+use Rattle.std.proofs.Common.{◌≡◌, map, rules, Some, None, inl, refl, IsTrue}
 use Rattle.disk_images.specs.Crash.{IsImageNow}
 use Rattle.wal_split.specs.Moments.{WasOrAlike}
 use Rattle.run_model.specs.Headline.{MayKeep}
 use Rattle.script_model.specs.Outputs.{refused_memory}
 use Rattle.command_ends.proofs.Endings.{no_moment, time_of}
-use Rattle.load_run.specs.Words.{To_log, To_show, To_dump, To_recover, To_run, To_load}
-use Rattle.load_run.proofs.Finish.{word_named, words_named, moments_of, show_reported, dump_reported, recover_reported, run_reported, show_complete, dump_complete, recover_complete, run_complete}
+use Rattle.load_run.specs.Words.{word_of, To_log, To_show, To_dump, To_recover, To_run, To_load}
+use Rattle.load_run.proofs.Finish.{word_named, words_named, moments_of, script_told, status_of, none_status, show_reported, dump_reported, recover_reported, run_reported, show_complete, dump_complete, recover_complete, run_complete}
 use Rattle.load_run.specs.Top.{MayLeave}
-use Rattle.load_run.proofs.Load.{load_full, unread_ends, unread_leaves}
+use Rattle.load_run.proofs.Load.{load_full, unread_ends, unread_status, unread_leaves}
 use Rattle.load_run.specs.declared.words.Word.TheVariants.{Log, Show, Dump, Recover, Run, Load}
 use Rattle.load_run.proofs.command.run.Goals as goal
 
@@ -45,7 +45,8 @@ pub returns-in-Some-Log-clause-any_moment : goal.returns-in-Some-Log-clause-any_
 returns-in-Some-Log-clause-any_moment g c told told_disk =
     let read : c.in-Ok.word ≡ Some Log = search rules in
     moments_of _ (Some To_log) (g.S.Source.left c.args.script.now) (g.D.Disk.view c.args.disk) (g.D.Disk.view c.log.new.disk)
-    (words_named c.in-Ok.word Log _ read c.in-Ok.ensures.named) (c.log.ensures.any_moment told told_disk)
+    (words_named c.in-Ok.word Log _ read c.in-Ok.ensures.named)
+    (c.log.ensures.any_moment (script_told _ (IsTrue g.S.Source.told) (words_named c.in-Ok.word Log _ read c.in-Ok.ensures.named) told) told_disk)
 
 pub returns-in-Some-Show-clause-moments : goal.returns-in-Some-Show-clause-moments
 returns-in-Some-Show-clause-moments g c told = time_of (IsImageNow (g.D.Disk.view c.args.disk)) (g.D.Disk.view c.args.disk) (g.D.Disk.view c.show.new.disk) (c.show.ensures.moments told)
@@ -130,6 +131,46 @@ returns-in-Some-Load-clause-any_moment g c told told_disk =
 
 pub returns-in-Some-Load-clause-not_empty : goal.returns-in-Some-Load-clause-not_empty
 returns-in-Some-Load-clause-not_empty g c told word name rest names wants right is = load_full c.load.result.status name (c.load.ensures.full told name rest is)
+
+-- ---- which statuses there are
+
+pub returns-in-Some-Log-clause-range : goal.returns-in-Some-Log-clause-range
+returns-in-Some-Log-clause-range g c =
+    let read : c.in-Ok.word ≡ Some Log = search rules in
+    status_of _ (Some To_log) _ (words_named c.in-Ok.word Log _ read c.in-Ok.ensures.named) c.log.ensures.status
+
+pub returns-in-Some-Show-clause-range : goal.returns-in-Some-Show-clause-range
+returns-in-Some-Show-clause-range g c =
+    let read : c.in-Ok.word ≡ Some Show = search rules in
+    status_of _ (Some To_show) _ (words_named c.in-Ok.word Show _ read c.in-Ok.ensures.named) c.show.ensures.status
+
+pub returns-in-Some-Dump-clause-range : goal.returns-in-Some-Dump-clause-range
+returns-in-Some-Dump-clause-range g c =
+    let read : c.in-Ok.word ≡ Some (Dump c.in-Some-Dump.number) = search rules in
+    status_of _ (Some (To_dump c.in-Some-Dump.number)) _ (words_named c.in-Ok.word (Dump c.in-Some-Dump.number) _ read c.in-Ok.ensures.named) c.dump.ensures.status
+
+pub returns-in-Some-Recover-clause-range : goal.returns-in-Some-Recover-clause-range
+returns-in-Some-Recover-clause-range g c =
+    let read : c.in-Ok.word ≡ Some Recover = search rules in
+    status_of _ (Some To_recover) _ (words_named c.in-Ok.word Recover _ read c.in-Ok.ensures.named) c.recover.ensures.status
+
+pub returns-in-Some-Run-clause-range : goal.returns-in-Some-Run-clause-range
+returns-in-Some-Run-clause-range g c =
+    let read : c.in-Ok.word ≡ Some Run = search rules in
+    status_of _ (Some To_run) _ (words_named c.in-Ok.word Run _ read c.in-Ok.ensures.named) c.run_script.ensures.status
+
+pub returns-in-Some-Load-clause-range : goal.returns-in-Some-Load-clause-range
+returns-in-Some-Load-clause-range g c =
+    let read : c.in-Ok.word ≡ Some (Load c.in-Some-Load.options) = search rules in
+    status_of _ (Some (To_load c.in-Some-Load.options)) _ (words_named c.in-Ok.word (Load c.in-Some-Load.options) _ read c.in-Ok.ensures.named) c.load.ensures.status
+
+pub returns-in_default-clause-range : goal.returns-in_default-clause-range
+returns-in_default-clause-range g c = unread_status (word_of (map (λ w. w.now) c.args.words.now)) c.refuse.result c.refuse.ensures.status
+
+pub returns-in-None-clause-range : goal.returns-in-None-clause-range
+returns-in-None-clause-range g c =
+    let read : c.in-Ok.word ≡ None = search rules in
+    none_status c.in-Ok.word (word_of (map (λ w. w.now) c.args.words.now)) c.refuse-in-None.result read c.in-Ok.ensures.named c.refuse-in-None.ensures.status
 
 -- ---- words that weren't read
 

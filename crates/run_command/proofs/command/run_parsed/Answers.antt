@@ -14,8 +14,8 @@ use Rattle.run_command.proofs.command.run_parsed.Goals as goal
 
 pub returns-in-Closed-clause-ends : goal.returns-in-Closed-clause-ends
 returns-in-Closed-clause-ends g c told sink =
-    closed_ends (Rose (g.K.Sink.faults c.args.out.now) (g.K.Sink.faults c.print_report.new.out)) c.print_report.result (g.K.Sink.taken c.args.out.now) (g.K.Sink.taken c.print_report.new.out) c.args.script
-    (g.D.Disk.view c.args.disk) (g.D.Disk.view c.in-Closed.disk) c.in-Closed.regions.items c.in-Closed.replies.items c.in-Closed.spent c.in-Closed.broken (c.in-Closed.ensures.ran told) (c.print_report.ensures.printed sink)
+    closed_ends (Rose (g.D.Disk.faults c.args.disk) (g.D.Disk.faults c.in-Closed.disk)) (Rose (g.K.Sink.faults c.args.out.now) (g.K.Sink.faults c.print_report.new.out)) c.print_report.result (g.K.Sink.taken c.args.out.now) (g.K.Sink.taken c.print_report.new.out) c.args.script
+    (g.D.Disk.view c.args.disk) (g.D.Disk.view c.in-Closed.disk) c.in-Closed.regions.items c.in-Closed.replies.items c.in-Closed.spent c.in-Closed.broken (c.in-Closed.ensures.ran told) c.in-Closed.ensures.cause (c.print_report.ensures.printed sink)
 
 pub returns-in-Closed-clause-refusal : goal.returns-in-Closed-clause-refusal
 returns-in-Closed-clause-refusal g c sink refuses = absurd (report_refuses c.print_report.result c.print_report.ensures.status refuses)
@@ -43,7 +43,7 @@ returns-in-Closed-clause-complete g c told sound sized no_disk no_sink =
 
 pub returns-in-Left-clause-ends : goal.returns-in-Left-clause-ends
 returns-in-Left-clause-ends g c told sink =
-    left_ends _ c.refuse.result (g.K.Sink.taken c.args.out.now) (g.K.Sink.taken c.refuse.new.sink) c.args.script (g.D.Disk.view c.args.disk) (g.D.Disk.view c.in-Left.disk)
+    left_ends _ _ c.refuse.result (g.K.Sink.taken c.args.out.now) (g.K.Sink.taken c.refuse.new.sink) c.args.script (g.D.Disk.view c.args.disk) (g.D.Disk.view c.in-Left.disk)
     c.refuse.ensures.status (c.in-Left.ensures.ran told) (c.refuse.ensures.prints sink)
 
 pub returns-in-Left-clause-damaged : goal.returns-in-Left-clause-damaged
@@ -53,7 +53,7 @@ returns-in-Left-clause-damaged g c told damage not is = memory_first c.refuse.re
 
 pub returns-in-NotOpened-clause-ends : goal.returns-in-NotOpened-clause-ends
 returns-in-NotOpened-clause-ends g c told sink =
-    refused_ends _ c.in-NotOpened.why c.refuse-in-NotOpened.result (g.K.Sink.taken c.args.out.now) (g.K.Sink.taken c.refuse-in-NotOpened.new.sink) c.args.script (g.D.Disk.view c.args.disk) (g.D.Disk.view c.in-NotOpened.disk)
+    refused_ends _ _ c.in-NotOpened.why c.refuse-in-NotOpened.result (g.K.Sink.taken c.args.out.now) (g.K.Sink.taken c.refuse-in-NotOpened.new.sink) c.args.script (g.D.Disk.view c.args.disk) (g.D.Disk.view c.in-NotOpened.disk)
     (c.refuse-in-NotOpened.ensures.status ∙ c.status_of.ensures) (c.in-NotOpened.ensures.ran told)
     (λ text is. c.refuse-in-NotOpened.ensures.prints sink text (ap refusal_line c.status_of.ensures ∙ is))
 

@@ -14,7 +14,7 @@ use Rattle.run_command.proofs.command.run_script.Goals as goal
 
 pub returns-in-Ok-clause-ends : goal.returns-in-Ok-clause-ends
 returns-in-Ok-clause-ends g c told told_disk told_sink =
-    run_ends c.in-Ok.script (g.S.Source.left c.args.source.now) (g.K.Sink.taken c.args.out.now) (g.K.Sink.taken c.run_parsed.new.out) (g.D.Disk.view c.args.disk) (g.D.Disk.view c.run_parsed.result.disk) _
+    run_ends c.in-Ok.script (g.S.Source.left c.args.source.now) (g.K.Sink.taken c.args.out.now) (g.K.Sink.taken c.run_parsed.new.out) (g.D.Disk.view c.args.disk) (g.D.Disk.view c.run_parsed.result.disk) _ _
     (c.in-Ok.ensures.says told) c.run_parsed.result.status c.run_parsed.ensures.status (c.run_parsed.ensures.ends told_disk told_sink)
 
 pub returns-in-Ok-clause-leaves_disk : goal.returns-in-Ok-clause-leaves_disk
@@ -41,8 +41,9 @@ returns-in-Err-clause-ends g c told told_disk told_sink =
     let had = g.K.Sink.taken c.args.out.now in
     let has = g.K.Sink.taken c.refuse.new.sink in
     let disk = g.D.Disk.view c.args.disk in
+    let rose = Rose (g.D.Disk.faults c.args.disk) (g.D.Disk.faults c.args.disk) in
     let sank = Rose (g.K.Sink.faults c.args.out.now) (g.K.Sink.faults c.refuse.new.sink) in
-    subst (λ (s : Status). RunEnds s (invocation text disk disk had has) sank) (sym c.refuse.ensures.status) (input_ends text had has disk sank c.in-Err.status c.in-Err.ensures.refused (c.refuse.ensures.prints told_sink))
+    subst (λ (s : Status). RunEnds s (invocation text disk disk had has) rose sank) (sym c.refuse.ensures.status) (input_ends text had has disk rose sank c.in-Err.status c.in-Err.ensures.refused (c.refuse.ensures.prints told_sink))
 
 pub returns-in-Err-clause-leaves_disk : goal.returns-in-Err-clause-leaves_disk
 returns-in-Err-clause-leaves_disk g c told leaves = same_disk (g.D.Disk.view c.args.disk)
