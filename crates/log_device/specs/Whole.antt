@@ -1,9 +1,9 @@
 -- A device and what it has made of its files.
-use Rattle.std.specs.Prelude.{◌≡◌, ◌+◌, ◌≤◌, ℕ, List, [], length, get_or, Option, Some, None}
+use Rattle.std.specs.Prelude.{◌≡◌, ◌+◌, ◌≤◌, ℕ, List, [], length, get_or, Option, Some, None, IsTrue}
 use Rattle.log_model.specs.Entry.{Entry}
 use Rattle.log_model.specs.Files.{Files}
 use Rattle.disk_images.specs.declared.disk.Disk.{Ghosts}
-use Rattle.disk_images.specs.Crash.{DiskView, Throughout}
+use Rattle.disk_images.specs.Crash.{DiskView, Elapses, Throughout}
 use Rattle.disk_images.specs.Calls.{HasCause}
 use Rattle.log_file.specs.Open.{OpenLog}
 use Rattle.log_ledger.specs.History.{History}
@@ -48,6 +48,11 @@ EachImage g P calls old new = Throughout P calls (view_of g old) (view_of g new)
 -- what a crash may leave in a call before which the device was this one, and so many entries were staged
 abbrev pub LeavesAt : {D : Type 0} → Ghosts D → Device D → List Entry → Files → Type 0
 LeavesAt g old staged J = Leaves (books_of old).stored (books_of old).closed (view_of g old).files staged J
+
+-- no disk call was made but those of a commit: four at most, and none where nothing was staged
+pub record OnlyCommits {D : Type 0} (g : Ghosts D) (old new : Device D) : Type 0 where
+  pub calls : IsTrue g.told → (h : History) → HasHistory g old h → Elapses 4 (view_of g old) (view_of g new)
+  pub idle : (file : OpenLog) → log_of old ≡ Some file → file.staged ≡ 0 → disk_of new ≡ disk_of old
 
 -- its disk's count of faults has risen where the call failed so, and never falls
 abbrev pub CausesFault : {D : Type 0} → Ghosts D → Device D → Device D → Type 0 → Type 0

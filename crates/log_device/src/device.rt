@@ -2,7 +2,6 @@
 
 ghost use Rattle.std.specs.Prelude.{◌≡◌, ◌<◌, ◌≤◌, ◌^◌, Some, None, Option, get_or, IsTrue, ◌↔◌};
 ghost use Rattle.log_file.specs.Open.{OpenLog};
-ghost use Rattle.log_ledger.specs.Books.{IsServed};
 ghost use Rattle.log_device.specs.Numbered.{IsNumbered};
 
 use log_file::LogFile;

@@ -10,7 +10,7 @@ ghost use Rattle.log_ledger.specs.Counted.{PutsCut};
 ghost use Rattle.log_device.specs.Bears.{Bears, AreStoresFew};
 ghost use Rattle.log_device.specs.Keeps.{Between};
 ghost use Rattle.log_device.specs.Flushed.{HasStore};
-ghost use Rattle.log_device.specs.Whole.{IsBroken, log_of, books_of, HasHistory, EachImage, CausesFault, view_of};
+ghost use Rattle.log_device.specs.Whole.{IsBroken, log_of, books_of, HasHistory, EachImage, CausesFault, OnlyCommits, disk_of, view_of};
 ghost use Rattle.log_device.specs.Calls.{Flushes, FlushesBooks};
 
 use crate::device::Device;
@@ -37,6 +37,7 @@ impl<D: Disk> Device<D> {
 
         // What stays, and when it fails.
         ensures stays { IsBroken self.old → self.new ≡ self.old }
+        ensures memory { IsErrOf result DeviceFlush.Memory → OnlyCommits D.Disk self.old self.new }
         ensures broken { IsErrOf result DeviceFlush.WriteFault ↔ IsBroken self.new }
         ensures cause { CausesFault D.Disk self.old self.new ((IsBroken self.old → ⊥)
             × IsErrOf result DeviceFlush.WriteFault) }
@@ -70,6 +71,7 @@ impl<D: Disk> Device<D> {
             × (get_or (books_of self.old).drawn region 0 ≤ n) }
         ensures refused { IsTrue D.told → (h : History) → HasHistory D.Disk self.old h
             → OnErr result ((IsBroken self.new → ⊥) → HasHistory D.Disk self.new h) }
+        ensures memory { IsErrOf result DeviceFlush.Memory → disk_of self.new ≡ disk_of self.old }
         ensures stored { IfOk result (λ n. get_or (books_of self.new).stored region 0 ≡ n) }
         ensures stored_nothing { (n : ℕ) → result ≡ Err (DeviceFlush.Nothing n)
             → get_or (books_of self.new).stored region 0 ≡ n }

@@ -1,7 +1,7 @@
 //! A device is started on a store that was opened.
 
 ghost use Rattle.std.specs.Prelude.{◌≡◌, ◌≤◌, ◌<◌, ◌+◌, ◌^◌, ◌↔◌, ℕ, List, [], Contains, IsTrue, IfOk, IfErr, IsErrOf, IsErrAnd, Some};
-ghost use Rattle.log_model.specs.Files.{Files, IsPresent};
+ghost use Rattle.log_model.specs.Files.{IsPresent};
 ghost use Rattle.log_model.specs.Recovered.{IsGreatest};
 ghost use Rattle.recovery.specs.Change.{RecoversSome};
 ghost use Rattle.disk_images.specs.Crash.{Throughout};

@@ -5,7 +5,7 @@ ghost use Rattle.log_file.specs.Open.{OpenLog};
 ghost use Rattle.log_ledger.specs.History.{History, closed_in};
 ghost use Rattle.log_device.specs.Bears.{Bears};
 ghost use Rattle.log_device.specs.Keeps.{Between, IsInOrder, log_name};
-ghost use Rattle.log_device.specs.Whole.{IsBroken, IsIdle, IsBegunAfter, log_of, books_of, HasHistory, EachImage, CausesFault};
+ghost use Rattle.log_device.specs.Whole.{IsBroken, IsIdle, IsBegunAfter, log_of, books_of, HasHistory, EachImage, CausesFault, OnlyCommits, disk_of};
 ghost use Rattle.log_device.specs.Calls.{Rolls, RollsBooks};
 
 use crate::device::Device;
@@ -30,6 +30,7 @@ impl<D: Disk> Device<D> {
 
         // What stays, and when it fails.
         ensures stays { IsBroken self.old → self.new ≡ self.old }
+        ensures memory { IsErrOf result RollRefusal.Memory → OnlyCommits D.Disk self.old self.new }
         ensures broken { IsErrOf result RollRefusal.WriteFault ↔ IsBroken self.new }
         ensures cause { CausesFault D.Disk self.old self.new ((IsBroken self.old → ⊥)
             × IsErrOf result RollRefusal.WriteFault) }
@@ -77,6 +78,7 @@ impl<D: Disk> Device<D> {
         ensures stored { (books_of self.new).stored ≡ (books_of self.old).stored }
         ensures drawn { (books_of self.new).drawn ≡ (books_of self.old).drawn }
         ensures served { (books_of self.new).next_store ≡ (books_of self.old).next_store }
+        ensures memory { IsErrOf result RollRefusal.Memory → disk_of self.new ≡ disk_of self.old }
         ensures broken { IsErrOf result RollRefusal.WriteFault ↔ IsBroken self.new }
         ensures cause { CausesFault D.Disk self.old self.new (IsErrOf result RollRefusal.WriteFault) }
     {

@@ -2,7 +2,7 @@ use Rattle.std.proofs.Common.{◌≡◌, ◌<◌, ◌≤◌, ◌+◌, ℕ, List,
 use Rattle.std.specs.Prelude.{IsErrAnd}
 use Rattle.std.proofs.Math.Logic.{∥∥₁_map}
 use Rattle.log_model.specs.declared.name.Name.{Name}
-use Rattle.disk_images.specs.Crash.{Throughout}
+use Rattle.disk_images.specs.Crash.{Throughout, Elapses}
 use Rattle.disk_images.proofs.Moments.{joined, more_time, weaker}
 use Rattle.recovery.specs.Kept.{committed}
 use Rattle.log_ledger.specs.Books.{Books}
@@ -171,4 +171,12 @@ returns-clause-books g c =
       stored = said.stored ∙ ap (λ (b : Books). b.stored) same;
       drawn = said.drawn ∙ ap (λ (b : Books). b.drawn) same;
       next_store = said.served ∙ ap (λ (b : Books). b.next_store) same;
+    }
+
+pub returns-clause-memory : goal.returns-clause-memory
+returns-clause-memory g c memory =
+    let same = c.roll_committed.ensures.memory memory in record {
+      calls = λ told h whole.
+          subst (λ d. Elapses 4 (g.D.Disk.view c.args.self.now.disk) (g.D.Disk.view d)) (sym same) (c.commit_staged.ensures.any_moment told h whole.file whole whole.is).time;
+      idle = λ file is none. same ∙ (c.commit_staged.ensures.idle file is none).0;
     }
