@@ -1,6 +1,6 @@
 //! The end of an opening.
 
-ghost use Rattle.std.specs.Prelude.{◌≡◌, ◌≤◌, ◌+◌, ℕ, IsTrue, OnOk, IsErr};
+ghost use Rattle.std.specs.Prelude.{◌≡◌, IsTrue, OnOk, IsErr};
 ghost use Rattle.log_model.specs.Files.{Files};
 ghost use Rattle.recovery.specs.Kept.{HasNoLogs};
 ghost use Rattle.disk_images.specs.Crash.{Throughout};

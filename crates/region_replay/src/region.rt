@@ -1,6 +1,6 @@
 //! The replay of one region whose files were read.
 
-ghost use Rattle.std.specs.Prelude.{◌≡◌, ◌≢◌, ◌⊎◌, ◌≤◌, ◌<◌, ◌+◌, ◌^◌, ℕ, List, [], Contains, IsTrue, IfOk, OnOk, IsErrOf};
+ghost use Rattle.std.specs.Prelude.{◌≡◌, ◌≢◌, ◌<◌, ◌+◌, ℕ, List, [], Contains, IsTrue, IfOk, OnOk, IsErrOf};
 ghost use Rattle.log_model.specs.declared.name.Name.{Name as TheName};
 ghost use Rattle.log_model.specs.declared.name.NameKind.TheVariants as kinds;
 ghost use Rattle.log_model.specs.Files.{Files, Reads, IsAbsent, content};

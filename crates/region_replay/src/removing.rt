@@ -1,6 +1,6 @@
 //! Edits files go.
 
-ghost use Rattle.std.specs.Prelude.{◌≡◌, ◌≢◌, ◌≤◌, ◌+◌, ℕ, List, Contains, length, IsTrue, OnOk, IsErr};
+ghost use Rattle.std.specs.Prelude.{◌≡◌, ◌≢◌, ℕ, List, Contains, length, IsTrue, OnOk, IsErr};
 ghost use Rattle.log_model.specs.declared.name.Name.{Name as TheName};
 ghost use Rattle.log_model.specs.Files.{Files, Reads, IsAbsent, content};
 ghost use Rattle.disk_images.specs.Crash.{Throughout};

@@ -1,6 +1,6 @@
 //! What is unflushed of a region goes into a store file.
 
-ghost use Rattle.std.specs.Prelude.{◌≡◌, ◌≤◌, ◌<◌, ◌+◌, ◌^◌, ℕ, length, IsTrue, IfOk, OnOk, IsErrOf};
+ghost use Rattle.std.specs.Prelude.{◌≡◌, ◌≤◌, ◌<◌, ◌^◌, ℕ, IsTrue, IfOk, OnOk, IsErrOf};
 ghost use Rattle.std.specs.FinMap.{empty};
 ghost use Rattle.cell_model.specs.Merge.{put_numbered};
 ghost use Rattle.log_model.specs.declared.name.NameKind.TheVariants as kinds;
