@@ -20,7 +20,7 @@ use log_file::FileRefusal;
 use std::alloc::Global;
 
 /// Replays these regions in turn: what is unflushed of each goes into its next store, and its edits files go.
-pub fn replay_regions<D: Disk>(
+pub(crate) fn replay_regions<D: Disk>(
     alloc: Global,
     disk: &mut D,
     regions: Vec<RegionFiles>,

@@ -23,7 +23,7 @@ use mem_segments::Segment;
 use std::alloc::Global;
 
 /// Writes the region's unflushed cells as a store, removes its edits files, and hands the cells back in order.
-pub fn replay_found<D: Disk>(
+pub(crate) fn replay_found<D: Disk>(
     alloc: Global,
     disk: &mut D,
     name: Name,

@@ -22,7 +22,7 @@ use mem_segments::Segment;
 use std::alloc::Global;
 
 /// Writes the region's unflushed cells as its next store file, and hands them back in order. Each image recovers as before.
-pub fn store_unflushed<D: Disk>(
+pub(crate) fn store_unflushed<D: Disk>(
     alloc: Global,
     disk: &mut D,
     name: Name,

@@ -23,7 +23,7 @@ use std::alloc::Global;
 /// Replays all regions of a store that was split, and makes durable that its edits files are gone: then a device may start.
 /// At each moment a crash leaves files that recover as before for every region. `Memory` may come behind some regions: what
 /// was done for them stands, and the opening may be begun again.
-pub fn replay_all<D: Disk>(
+pub(crate) fn replay_all<D: Disk>(
     alloc: Global,
     disk: &mut D,
     regions: Vec<RegionFiles>,
