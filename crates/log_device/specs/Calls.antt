@@ -115,6 +115,8 @@ pub record Flushes {D : Type 0} (g : Ghosts D) (h : History) (r : ℕ) (result :
 pub record FlushesBooks {D : Type 0} (r : ℕ) (result : Result ℕ DeviceFlush) (old new : Device D) : Type 0 where
   -- it gives the region's last number
   pub number : IfOk result (λ n. n ≡ get_or (books_of old).drawn r 0)
+  -- which is above what was told of it
+  pub above : IfOk result (λ n. get_or (books_of old).stored r 0 < n)
   pub nothing_number : (n : ℕ) → result ≡ Err (flush_refusals.Nothing n) → get_or (books_of old).drawn r 0 ≤ n
   -- what is told of the region is the number that was given, and of each other region it is as it was
   pub stored : IfOk result (λ n. get_or (books_of new).stored r 0 ≡ n)

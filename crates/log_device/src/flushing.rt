@@ -65,6 +65,7 @@ impl<D: Disk> Device<D> {
             (get_or (books_of self.old).next_store region 0) (get_or (books_of self.old).accounts.flushed region 0 + 1) n) }
         ensures number { IfOk result (λ n. (n ≡ get_or (books_of self.old).drawn region 0)
             × (get_or (books_of self.old).accounts.flushed region 0 < n)) }
+        ensures above { IfOk result (λ n. get_or (books_of self.old).stored region 0 < n) }
         ensures nothing { (n : ℕ) → result ≡ Err (DeviceFlush.Nothing n)
             → (n ≡ get_or (books_of self.old).accounts.flushed region 0)
             × (get_or (books_of self.old).drawn region 0 ≤ n) }

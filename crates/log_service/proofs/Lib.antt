@@ -1,4 +1,5 @@
 pub mod Numbers
+pub mod Sees
 pub mod Chains
 pub mod ItemLaws
 pub mod Raised

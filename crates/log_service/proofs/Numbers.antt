@@ -63,26 +63,16 @@ closed_low n b words r low above within =
     let place : (n + n + r - 1 - n - n) + 1 ≡ r = omega (arith, above) in
     omega (arith, low (n + n + r - 1), at, ap (λ (k : ℕ). get_or b.closed k 0) place)
 
--- where all words were raised to what is told, the closed words are at or above the synced ones that were told, if all was closed
-pub closed_over : (n : ℕ) (b : Books) (old new : List ℕ) → NoMore old (told_numbers n b) → ((i : ℕ) → i < 3 * n → get_or new i 0 ≡ get_or (told_numbers n b) i 0) → b.closed ≡ b.synced → (r : ℕ) → 0 < r → r ≤ n
-    → get_or old (r - 1) 0 ≤ get_or new (n + n + r - 1) 0
-closed_over n b old new low raised closed r above within =
-    let first = told_synced n b (r - 1) (omega (arith, above, within)) in
-    let last = told_closed n b (n + n + r - 1) (omega (arith, above)) (omega (arith, above, within)) in
-    let here : (r - 1) + 1 ≡ r = omega (arith, above) in
-    let there : (n + n + r - 1 - n - n) + 1 ≡ r = omega (arith, above) in
-    omega (arith, low (r - 1), first, last, raised (n + n + r - 1) (omega (arith, above, within)), ap (λ (k : ℕ). get_or b.synced k 0) here, ap (λ (k : ℕ). get_or b.closed k 0) there, ap (λ (l : List ℕ). get_or l r 0) closed)
-
--- so is the stored word at the region's number
-pub stored_over : (n : ℕ) (b : Books) (new : List ℕ) → ((i : ℕ) → i < 3 * n → get_or new i 0 ≡ get_or (told_numbers n b) i 0) → (r : ℕ) → 0 < r → r ≤ n → get_or b.stored r 0 ≡ get_or new (n + r - 1) 0
-stored_over n b new raised r above within =
-    let at = told_stored n b (n + r - 1) (omega (arith, above)) (omega (arith, above, within)) in
-    let there : (n + r - 1 - n) + 1 ≡ r = omega (arith, above) in
-    omega (arith, at, raised (n + r - 1) (omega (arith, above, within)), ap (λ (k : ℕ). get_or b.stored k 0) there)
-
 pub synced_rose : (n : ℕ) (a b : Books) → NoMore (told_numbers n a) (told_numbers n b) → (r : ℕ) → 0 < r → r ≤ n → get_or a.synced r 0 ≤ get_or b.synced r 0
 synced_rose n a b later r above within =
     let was = told_synced n a (r - 1) (omega (arith, above, within)) in
     let is = told_synced n b (r - 1) (omega (arith, above, within)) in
     let here : (r - 1) + 1 ≡ r = omega (arith, above) in
     omega (arith, later (r - 1), was, is, ap (λ (k : ℕ). get_or a.synced k 0) here, ap (λ (k : ℕ). get_or b.synced k 0) here)
+
+pub stored_rose : (n : ℕ) (a b : Books) → NoMore (told_numbers n a) (told_numbers n b) → (r : ℕ) → 0 < r → r ≤ n → get_or a.stored r 0 ≤ get_or b.stored r 0
+stored_rose n a b later r above within =
+    let was = told_stored n a (n + r - 1) (omega (arith, above)) (omega (arith, above, within)) in
+    let is = told_stored n b (n + r - 1) (omega (arith, above)) (omega (arith, above, within)) in
+    let there : (n + r - 1 - n) + 1 ≡ r = omega (arith, above) in
+    omega (arith, later (n + r - 1), was, is, ap (λ (k : ℕ). get_or a.stored k 0) there, ap (λ (k : ℕ). get_or b.stored k 0) there)

@@ -9,6 +9,8 @@ pub mod Moments
 pub mod Halves
 pub mod Moves
 pub mod Places
+pub mod Turns
+pub mod Ends
 pub mod Bundles
 pub mod Commits
 pub mod Ties

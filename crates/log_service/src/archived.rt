@@ -1,9 +1,11 @@
 //! A device's roll and flush, with the closed logs that may go behind them.
-ghost use Rattle.std.specs.Prelude.{◌≡◌, ◌≤◌, ◌↔◌, ℕ, get_or, Err, IsTrue, IfOk, OnOk, IsErrOf};
+ghost use Rattle.std.specs.Prelude.{◌≡◌, ◌+◌, ◌↔◌, ℕ, Some, Err, IsTrue, IfOk, OnOk, IsErrOf};
+ghost use Rattle.log_file.specs.Open.{OpenLog};
 ghost use Rattle.log_ledger.specs.History.{History};
 ghost use Rattle.log_ledger.specs.Books.{IsServed};
-ghost use Rattle.log_device.specs.Whole.{IsBroken, disk_of, books_of, HasHistory, CausesFault};
+ghost use Rattle.log_device.specs.Whole.{IsBroken, disk_of, log_of, books_of, HasHistory, CausesFault};
 ghost use Rattle.log_service.specs.Ties.{KeepsTies, KeepsNumbers};
+ghost use Rattle.log_service.specs.Ends.{HasRolled, HasNoEntry, IsFlushedTo, HasNoneAbove};
 
 use disk_images::Disk;
 use log_device::{Device, DeviceFlush, RollRefusal, Rolled};
@@ -19,6 +21,11 @@ pub(crate) fn roll_archived<D: Disk>(
 
     ensures ties { IsTrue D.told → KeepsTies device.old device.new (D.view (disk_of device.old)) (D.view (disk_of device.new)) }
     ensures numbers { KeepsNumbers device.old device.new }
+    // Rolled is the file that was closed, and NothingToRoll comes exactly where it has no entry.
+    ensures rolled { (file : OpenLog) → log_of device.old ≡ Some file → IfOk result (λ rolled. HasRolled file rolled (log_of device.new)) }
+    ensures none { (file : OpenLog) (n : ℕ) → log_of device.old ≡ Some file → result ≡ Err (RollRefusal.NothingToRoll n) → HasNoEntry file n }
+    ensures empty { (file : OpenLog) → log_of device.old ≡ Some file → file.entries + file.staged ≡ 0
+        → (IsBroken device.new → ⊥) → result ≡ Err (RollRefusal.NothingToRoll file.name.number) }
     ensures closed { OnOk result ((books_of device.new).closed ≡ (books_of device.new).synced) }
     ensures nothing { (n : ℕ) → result ≡ Err (RollRefusal.NothingToRoll n) → (books_of device.new).closed ≡ (books_of device.new).synced }
     ensures broken { IsErrOf result RollRefusal.WriteFault ↔ IsBroken device.new }
@@ -46,9 +53,8 @@ pub(crate) fn flush_archived<D: Disk>(
 
     ensures ties { IsTrue D.told → KeepsTies device.old device.new (D.view (disk_of device.old)) (D.view (disk_of device.new)) }
     ensures numbers { KeepsNumbers device.old device.new }
-    ensures flushed { IfOk result (λ n. (n ≡ get_or (books_of device.old).drawn region 0) × (get_or (books_of device.new).stored region 0 ≡ n)) }
-    ensures nothing { (n : ℕ) → result ≡ Err (DeviceFlush.Nothing n) → (get_or (books_of device.old).drawn region 0 ≤ n)
-        × (get_or (books_of device.new).stored region 0 ≡ n) }
+    ensures flushed { IfOk result (λ n. IsFlushedTo region n (books_of device.old) (books_of device.new)) }
+    ensures nothing { (n : ℕ) → result ≡ Err (DeviceFlush.Nothing n) → HasNoneAbove region n (books_of device.new) }
     ensures broken { IsErrOf result DeviceFlush.WriteFault ↔ IsBroken device.new }
     ensures cause { CausesFault D.Disk device.old device.new (IsErrOf result DeviceFlush.WriteFault) }
 {

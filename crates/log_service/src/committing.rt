@@ -4,6 +4,7 @@ ghost use Rattle.crossbeam_queue.specs.Passes.{view};
 ghost use Rattle.disk_images.specs.Calls.{Rose};
 ghost use Rattle.log_trucks.specs.Held.{Held};
 ghost use Rattle.log_device.specs.Whole.{IsBroken, disk_of};
+ghost use Rattle.log_service.specs.Loads.{AreInOrder};
 ghost use Rattle.log_service.specs.Numbers.{TellsLater};
 ghost use Rattle.log_service.specs.Moves.{WasFull};
 
@@ -42,6 +43,9 @@ impl<D: Disk, N: Naming> DeviceHalf<D, N> {
         ensures same { self.new.regions ≡ self.old.regions }
         ensures clock { IsTrue D.told → (D.view (disk_of self.new.device)).clock ≤ (D.view (disk_of self.old.device)).clock + 4 }
         ensures some { (n : ℕ) → result ≡ Commit.Committed n → 1 ≤ n }
+        ensures ordered { (n : ℕ) → result ≡ Commit.Committed n → AreInOrder N.lasts (view self.new.consumer.pass).popped }
+        ensures popped { (result ≡ Commit.Clean → ⊥) → (load : List Held)
+            × ((view self.new.consumer.pass).popped ≡ (view self.old.consumer.pass).popped ++ load ∷ []) × (1 ≤ length load) }
     {
         let Some(load) = hand.pop(rt, &mut self.consumer) else {
             return Commit::Clean;

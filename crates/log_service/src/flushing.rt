@@ -1,11 +1,13 @@
 //! A region's entries go into a store file.
-ghost use Rattle.std.specs.Prelude.{◌≡◌, ◌≤◌, ◌<◌, ◌+◌, ◌⊎◌, ◌↔◌, ℕ, true, [], length, get_or, Err, IfOk, OnOk, IsErrOf};
+ghost use Rattle.std.specs.Prelude.{◌≡◌, ◌≤◌, ◌<◌, ◌+◌, ◌⊎◌, ◌↔◌, ℕ, true, false, [], length, Err, IfOk, IsErrOf};
 ghost use Rattle.crossbeam_queue.specs.Passes.{view};
 ghost use Rattle.disk_images.specs.Calls.{Rose};
 ghost use Rattle.log_device.specs.Whole.{IsBroken, disk_of, books_of};
-ghost use Rattle.log_service.specs.Numbers.{TellsLater, seen_stored};
+ghost use Rattle.log_service.specs.Numbers.{TellsLater};
 ghost use Rattle.log_service.specs.Moves.{WasEmpty, WasFull};
 ghost use Rattle.log_service.specs.Places.{IsSeatOf, IsLaterSeat};
+ghost use Rattle.log_service.specs.Turns.{HasMovedAll, SawAllLoads};
+ghost use Rattle.log_service.specs.Ends.{IsFlushedTo, HasNoneAbove, HasFlushed, HadNothing};
 
 use crate::archived::flush_archived;
 use crate::committer::DeviceHalf;
@@ -27,9 +29,9 @@ impl<D: Disk, N: Naming> DeviceHalf<D, N> {
     fn flush(&mut self, alloc: Global, region: u32) -> Result<u64, DeviceFlush>
         requires unbroken { IsBroken self.old.device → ⊥ }
         requires region { (0 < region) × (region ≤ self.old.regions) }
-        ensures flushed { IfOk result (λ n. (get_or (books_of self.old.device).synced region 0 ≤ n) × (get_or (books_of self.new.device).stored region 0 ≡ n)) }
-        ensures nothing { (n : ℕ) → result ≡ Err (DeviceFlush.Nothing n) → (get_or (books_of self.old.device).synced region 0 ≤ n)
-            × (get_or (books_of self.new.device).stored region 0 ≡ n) }
+        ensures flushed { IfOk result (λ n. IsFlushedTo region n (books_of self.old.device) (books_of self.new.device)) }
+        // Nothing comes exactly where, after the commit, the region has no entry above the number up to which it is flushed.
+        ensures nothing { (n : ℕ) → result ≡ Err (DeviceFlush.Nothing n) → HasNoneAbove region n (books_of self.new.device) }
         ensures broken { IsErrOf result DeviceFlush.WriteFault ↔ IsBroken self.new.device }
         ensures fault { IsErrOf result DeviceFlush.WriteFault → Rose (D.faults (disk_of self.old.device)) (D.faults (disk_of self.new.device)) }
         ensures later { TellsLater self.old.regions self.old.device self.new.regions self.new.device }
@@ -54,14 +56,14 @@ impl<N: Naming> ConsumerHalf<N> {
         requires rings { (rings.0.now.id ≡ N.ring) × (rings.1.now.id ≡ N.hand) }
         requires unbroken { IsBroken committer.old.device → ⊥ }
         requires region { (0 < region) × (region ≤ committer.old.regions) }
-        ensures flushed { IfOk result (λ n. (upto ≤ n) × (get_or (books_of committer.new.device).stored region 0 ≡ n)) }
-        ensures nothing { (n : ℕ) → result ≡ Err (DeviceFlush.Nothing n) → (upto ≤ n) × (get_or (books_of committer.new.device).stored region 0 ≡ n) }
+        ensures flushed { IfOk result (λ n. (upto ≤ n) × IsFlushedTo region n (books_of committer.old.device) (books_of committer.new.device)) }
+        ensures nothing { (n : ℕ) → result ≡ Err (DeviceFlush.Nothing n) → (upto ≤ n) × HasNoneAbove region n (books_of committer.new.device) }
         ensures broken { IsErrOf result DeviceFlush.WriteFault ↔ IsBroken committer.new.device }
         ensures later { TellsLater committer.old.regions committer.old.device committer.new.regions committer.new.device }
         // The loads in the ring were committed until it was empty at one moment, and the own load with them.
-        ensures drained { OnOk result ((self.new.load ≡ []) × WasFull 0 (view committer.new.consumer.pass)) }
-        ensures moved { OnOk result (WasEmpty (view self.new.consumer.pass)
-            ⊎ (length (view self.old.consumer.pass).popped + 1023 ≤ length (view self.new.consumer.pass).popped)) }
+        ensures drained { (IsBroken committer.new.device → ⊥) → (self.new.load ≡ []) × WasFull 0 (view committer.new.consumer.pass) }
+        ensures moved { (IsBroken committer.new.device → ⊥) → WasEmpty (view self.new.consumer.pass)
+            ⊎ (length (view self.old.consumer.pass).popped + 1023 ≤ length (view self.new.consumer.pass).popped) }
         ensures same { committer.new.regions ≡ committer.old.regions }
     {
         let (ring, hand) = rings;
@@ -74,10 +76,7 @@ impl<N: Naming> ConsumerHalf<N> {
         if self.drain(rt, hand, committer) {
             return Err(DeviceFlush::WriteFault);
         }
-        match committer.flush(alloc, region) {
-            Ok(number) => Ok(number),
-            Err(refusal) => Err(refusal),
-        }
+        committer.flush(alloc, region)
     }
 }
 
@@ -98,9 +97,11 @@ impl<D: Disk, N: Naming> LogService<D, N> {
         requires region { (0 < region) × (region ≤ self.now.regions) }
         ensures seat { IsSeatOf self.now seat.new }
         ensures later { IsLaterSeat seat.old seat.new }
-        ensures flushed { IfOk result (λ n. (upto ≤ n) × (n ≤ seen_stored self.now.regions seat.new.device.knows region)) }
-        ensures nothing { (n : ℕ) → result ≡ Err (DeviceFlush.Nothing n) → (upto ≤ n) × (n ≤ seen_stored self.now.regions seat.new.device.knows region) }
-        ensures exact { IfOk result (λ n. n ≡ seen_stored self.now.regions seat.new.device.knows region) }
+        ensures flushed { IfOk result (λ n. HasFlushed self.now.regions region upto n seat.old.device.knows seat.new.device.knows) }
+        ensures nothing { (n : ℕ) → result ≡ Err (DeviceFlush.Nothing n) → HadNothing self.now.regions region upto n seat.new.device.knows }
+        // Unless the log is broken, all that was moved is committed, and the seat has seen so.
+        ensures moved { seat.new.device.knows.broken ≡ false → HasMovedAll N.lasts }
+        ensures saw { seat.new.device.knows.broken ≡ false → SawAllLoads N.lasts seat.new.device.knows }
         ensures fault { IsErrOf result DeviceFlush.WriteFault ↔ (seat.new.device.knows.broken ≡ true) }
     {
         let (mut mover, mut turn) = self.take_both(rt, seat);
@@ -115,9 +116,6 @@ impl<D: Disk, N: Naming> LogService<D, N> {
             .ware
             .flush(rt, alloc, rings, &mut turn.ware, region, upto);
         self.give_both(seat, mover, turn);
-        match flushed {
-            Ok(number) => Ok(number),
-            Err(refusal) => Err(refusal),
-        }
+        flushed
     }
 }

@@ -1,14 +1,22 @@
 //! The consumer's part of a device's turn.
-ghost use Rattle.std.specs.Prelude.{◌≡◌, ◌⊎◌, [], false, None};
+ghost use Rattle.std.specs.Prelude.{◌≡◌, ◌⊎◌, [], false, None, IsTrue, IsFalse};
 ghost use Rattle.crossbeam_queue.specs.Passes.{view};
 ghost use Rattle.log_service.specs.Moves.{bench_of, HasHanded, WasFull};
+ghost use Rattle.log_service.specs.Places.{FoundTaken, HadTurn, LastFoundTaken, LastHadTurn};
 
 use crate::consumer::ConsumerHalf;
 use crate::load::Load;
 use crate::name::Naming;
+use crate::service::LogService;
 use append_ring::{Full, Ring};
+use disk_images::Disk;
+use log_berth::LogSeat as BerthSeat;
 use std::mem;
 use std::sync::Wait;
+use std::thread;
+
+/// How often a sync turn tries for the consumer's turn.
+const TRIES: u32 = 1000;
 
 impl<N: Naming> ConsumerHalf<N> {
     /// Pushes the load into the ring of loads, unless it has no truck or that ring is full. It takes no memory.
@@ -38,5 +46,44 @@ impl<N: Naming> ConsumerHalf<N> {
         if self.asked || self.held.is_some() {
             self.push_load(rt, hand);
         }
+    }
+}
+
+impl<D: Disk, N: Naming> LogService<D, N> {
+    /// Hands the load over where a sync request was moved since the last time or an item is held. False where another seat has the consumer's
+    /// turn at each of many tries: it has it for a moment only, unless it has lost its processor.
+    pub(crate) fn hand_load<R: Wait>(&self, rt: &R, seat: &mut BerthSeat, moves: bool) -> bool
+        requires seat { seat.old.berth ≡ self.now.consumer }
+        requires no_turn { seat.old.knows.turn ≡ false }
+        ensures seat { (seat.new.berth ≡ seat.old.berth) × (seat.new.knows.turn ≡ false) }
+        ensures had { IsTrue result → LastHadTurn seat.old.knows seat.new.knows }
+        ensures busy { IsFalse result → LastFoundTaken seat.old.knows seat.new.knows }
+    {
+        for _try in 0..TRIES {
+            if self.try_hand(rt, seat, moves) {
+                return true;
+            }
+            thread::yield_now();
+        }
+        self.try_hand(rt, seat, moves)
+    }
+
+    /// The same in one try.
+    fn try_hand<R: Wait>(&self, rt: &R, seat: &mut BerthSeat, moves: bool) -> bool
+        requires seat { seat.old.berth ≡ self.now.consumer }
+        requires no_turn { seat.old.knows.turn ≡ false }
+        ensures seat { (seat.new.berth ≡ seat.old.berth) × (seat.new.knows.turn ≡ false) }
+        ensures had { IsTrue result → HadTurn seat.old.knows seat.new.knows }
+        ensures busy { IsFalse result → FoundTaken seat.old.knows seat.new.knows }
+    {
+        let Ok(mut turn) = self.consumer.take(seat) else {
+            return false;
+        };
+        if moves {
+            turn.ware.move_items(rt, &self.ring);
+        }
+        turn.ware.hand_over(rt, &self.hand);
+        self.consumer.give(seat, turn);
+        true
     }
 }

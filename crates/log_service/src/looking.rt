@@ -16,6 +16,7 @@ impl<D: Disk, N: Naming> LogService<D, N> {
         ensures later { IsLaterSeat seat.old seat.new }
         ensures broken { result ≡ seat.new.device.knows.broken }
         ensures looked { seat.new.device.knows.tally ≡ looked seat.old.device.knows.tally }
+        ensures same { (seat.new.consumer ≡ seat.old.consumer) × (seat.new.device.knows.seen ≡ seat.old.device.knows.seen) }
     {
         self.device.broken(&mut seat.device)
     }

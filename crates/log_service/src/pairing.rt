@@ -1,10 +1,10 @@
 //! Both turns at once.
-ghost use Rattle.std.specs.Prelude.{◌≡◌, ◌≤◌, ◌<◌, ◌*◌, ℕ, true, false, [], slice_index};
+ghost use Rattle.std.specs.Prelude.{◌≡◌, true, false, []};
 ghost use Rattle.log_berth.specs.Words.{NoMore};
 ghost use Rattle.log_berth.specs.Turns.{turn_id};
 ghost use Rattle.log_device.specs.Whole.{books_of};
 ghost use Rattle.log_service.specs.Halves.{broken_of};
-ghost use Rattle.log_service.specs.Numbers.{told_numbers};
+ghost use Rattle.log_service.specs.Numbers.{told_numbers, HasSeen};
 ghost use Rattle.log_service.specs.Places.{IsSeatOf, IsLaterSeat};
 
 use crate::committer::DeviceHalf;
@@ -68,8 +68,7 @@ impl<D: Disk, N: Naming> LogService<D, N> {
         ensures seat { IsSeatOf self.now seat.new }
         ensures later { IsLaterSeat seat.old seat.new }
         ensures broken { broken_of turn.ware.device ≡ seat.new.device.knows.broken }
-        ensures raised { seat.new.device.knows.broken ≡ false → (i : ℕ) → i < 3 * self.now.regions
-            → slice_index seat.new.device.knows.seen i ≡ slice_index (told_numbers turn.ware.regions (books_of turn.ware.device)) i }
+        ensures saw { seat.new.device.knows.broken ≡ false → HasSeen self.now.regions seat.new.device.knows (books_of turn.ware.device) }
     {
         tell_all(&self.device, &mut seat.device, &turn, 3 * self.regions);
         self.device.give(&mut seat.device, turn);

@@ -1,11 +1,14 @@
 //! From one log file to the next.
-ghost use Rattle.std.specs.Prelude.{◌≡◌, ◌≤◌, ◌<◌, ◌+◌, ◌⊎◌, ◌↔◌, ℕ, true, [], length, Err, IfOk, OnOk, IsErrOf};
+ghost use Rattle.std.specs.Prelude.{◌≡◌, ◌≤◌, ◌<◌, ◌+◌, ◌⊎◌, ◌↔◌, ℕ, true, false, [], length, Option, Some, Err, IfOk, OnOk, IsErrOf};
 ghost use Rattle.crossbeam_queue.specs.Passes.{view};
 ghost use Rattle.disk_images.specs.Calls.{Rose};
-ghost use Rattle.log_device.specs.Whole.{IsBroken, disk_of, books_of};
+ghost use Rattle.log_file.specs.Open.{OpenLog};
+ghost use Rattle.log_device.specs.Whole.{IsBroken, disk_of, log_of, books_of};
 ghost use Rattle.log_service.specs.Numbers.{TellsLater, seen_synced, seen_closed};
 ghost use Rattle.log_service.specs.Moves.{WasEmpty, WasFull};
 ghost use Rattle.log_service.specs.Places.{IsSeatOf, IsLaterSeat};
+ghost use Rattle.log_service.specs.Turns.{HasMovedAll, SawAllLoads};
+ghost use Rattle.log_service.specs.Ends.{HasRolled, HasNoEntry};
 
 use crate::archived::roll_archived;
 use crate::committer::DeviceHalf;
@@ -26,6 +29,11 @@ impl<D: Disk, N: Naming> DeviceHalf<D, N> {
     /// Rolls, and after Ok renames the closed logs that are wholly flushed.
     fn roll(&mut self, alloc: Global) -> Result<Rolled, RollRefusal>
         requires unbroken { IsBroken self.old.device → ⊥ }
+        // Rolled is the file that was closed, and NothingToRoll comes exactly where it has no entry.
+        ensures rolled { (file : OpenLog) → log_of self.old.device ≡ Some file → IfOk result (λ rolled. HasRolled file rolled (log_of self.new.device)) }
+        ensures none { (file : OpenLog) (n : ℕ) → log_of self.old.device ≡ Some file → result ≡ Err (RollRefusal.NothingToRoll n) → HasNoEntry file n }
+        ensures empty { (file : OpenLog) → log_of self.old.device ≡ Some file → file.entries + file.staged ≡ 0
+            → (IsBroken self.new.device → ⊥) → result ≡ Err (RollRefusal.NothingToRoll file.name.number) }
         ensures closed { OnOk result ((books_of self.new.device).closed ≡ (books_of self.new.device).synced) }
         ensures nothing { (n : ℕ) → result ≡ Err (RollRefusal.NothingToRoll n) → (books_of self.new.device).closed ≡ (books_of self.new.device).synced }
         ensures broken { IsErrOf result RollRefusal.WriteFault ↔ IsBroken self.new.device }
@@ -48,15 +56,17 @@ impl<N: Naming> ConsumerHalf<N> {
     ) -> Result<Rolled, RollRefusal>
         requires rings { (rings.0.now.id ≡ N.ring) × (rings.1.now.id ≡ N.hand) }
         requires unbroken { IsBroken committer.old.device → ⊥ }
+        ensures rolled { IfOk result (λ rolled. (file : OpenLog) × HasRolled file rolled (log_of committer.new.device)) }
+        ensures none { (n : ℕ) → result ≡ Err (RollRefusal.NothingToRoll n) → (file : OpenLog) × HasNoEntry file n }
         ensures closed { OnOk result ((books_of committer.new.device).closed ≡ (books_of committer.new.device).synced) }
         ensures nothing { (n : ℕ) → result ≡ Err (RollRefusal.NothingToRoll n)
             → (books_of committer.new.device).closed ≡ (books_of committer.new.device).synced }
         ensures broken { IsErrOf result RollRefusal.WriteFault ↔ IsBroken committer.new.device }
         ensures later { TellsLater committer.old.regions committer.old.device committer.new.regions committer.new.device }
         // The loads in the ring were committed until it was empty at one moment, and the own load with them.
-        ensures drained { OnOk result ((self.new.load ≡ []) × WasFull 0 (view committer.new.consumer.pass)) }
-        ensures moved { OnOk result (WasEmpty (view self.new.consumer.pass)
-            ⊎ (length (view self.old.consumer.pass).popped + 1023 ≤ length (view self.new.consumer.pass).popped)) }
+        ensures drained { (IsBroken committer.new.device → ⊥) → (self.new.load ≡ []) × WasFull 0 (view committer.new.consumer.pass) }
+        ensures moved { (IsBroken committer.new.device → ⊥) → WasEmpty (view self.new.consumer.pass)
+            ⊎ (length (view self.old.consumer.pass).popped + 1023 ≤ length (view self.new.consumer.pass).popped) }
         ensures same { committer.new.regions ≡ committer.old.regions }
     {
         let (ring, hand) = rings;
@@ -66,17 +76,14 @@ impl<N: Naming> ConsumerHalf<N> {
         if self.drain(rt, hand, committer) {
             return Err(RollRefusal::WriteFault);
         }
-        match committer.roll(alloc) {
-            Ok(rolled) => Ok(rolled),
-            Err(refusal) => Err(refusal),
-        }
+        committer.roll(alloc)
     }
 }
 
 impl<D: Disk, N: Naming> LogService<D, N> {
-    /// Takes both turns, moves what was pushed, up to 1,024 items, commits all that was moved, rolls, and after Ok renames the closed logs that are wholly flushed. After Ok, and
-    /// where there is nothing to roll, the seat has seen each closed word at or above the synced words that it had seen before.
-    /// `WriteFault` exactly where the seat has then seen the fault.
+    /// Takes both turns, moves what was pushed, up to 1,024 items, commits all that was moved, rolls, and after Ok renames the closed logs that
+    /// are wholly flushed. After Ok, and where there is nothing to roll, the seat has seen each closed word at or above the synced words that it
+    /// had seen before. `WriteFault` exactly where the seat has then seen the fault.
     #[tactic(auto, using(crate::proofs::SeatLaws::later_trans))]
     pub fn roll<R: Wait>(
         &self,
@@ -87,10 +94,14 @@ impl<D: Disk, N: Naming> LogService<D, N> {
         requires seat { IsSeatOf self.now seat.old }
         ensures seat { IsSeatOf self.now seat.new }
         ensures later { IsLaterSeat seat.old seat.new }
+        ensures rolled { IfOk result (λ rolled. (file : OpenLog) × (log : Option OpenLog) × HasRolled file rolled log) }
         ensures closed { IfOk result (λ _. (r : ℕ) → 0 < r → r ≤ self.now.regions
             → seen_synced seat.old.device.knows r ≤ seen_closed self.now.regions seat.new.device.knows r) }
         ensures nothing { (n : ℕ) → result ≡ Err (RollRefusal.NothingToRoll n) → (r : ℕ) → 0 < r → r ≤ self.now.regions
             → seen_synced seat.old.device.knows r ≤ seen_closed self.now.regions seat.new.device.knows r }
+        // Unless the log is broken, all that was moved is committed, and the seat has seen so.
+        ensures moved { seat.new.device.knows.broken ≡ false → HasMovedAll N.lasts }
+        ensures saw { seat.new.device.knows.broken ≡ false → SawAllLoads N.lasts seat.new.device.knows }
         ensures fault { IsErrOf result RollRefusal.WriteFault ↔ (seat.new.device.knows.broken ≡ true) }
     {
         let (mut mover, mut turn) = self.take_both(rt, seat);
@@ -103,9 +114,6 @@ impl<D: Disk, N: Naming> LogService<D, N> {
         let rings = (&self.ring, &self.hand);
         let rolled = mover.ware.roll(rt, alloc, rings, &mut turn.ware);
         self.give_both(seat, mover, turn);
-        match rolled {
-            Ok(rolled) => Ok(rolled),
-            Err(refusal) => Err(refusal),
-        }
+        rolled
     }
 }

@@ -1,14 +1,16 @@
 //! Turns.
-ghost use Rattle.std.specs.Prelude.{◌≡◌, ◌≤◌, ◌<◌, ◌+◌, ◌⊎◌, ◌↔◌, ◌++◌, ◌∷◌, [], List, length, ℕ, true, false, slice_index, IsTrue, IsFalse};
+ghost use Rattle.std.specs.Prelude.{◌≡◌, ◌≤◌, ◌<◌, ◌+◌, ◌⊎◌, ◌↔◌, ◌++◌, ◌∷◌, [], List, length, ℕ, true, false, IsTrue};
 ghost use Rattle.crossbeam_queue.specs.Passes.{view};
 ghost use Rattle.log_trucks.specs.Held.{Held};
-ghost use Rattle.log_service.specs.Moves.{WasFull};
 ghost use Rattle.log_berth.specs.Words.{NoMore, looked};
 ghost use Rattle.log_berth.specs.Turns.{turn_id};
-ghost use Rattle.log_device.specs.Whole.{IsBroken, books_of};
+ghost use Rattle.log_device.specs.Whole.{IsBroken, disk_of, books_of};
+ghost use Rattle.log_service.specs.Loads.{AreInOrder};
 ghost use Rattle.log_service.specs.Halves.{broken_of};
+ghost use Rattle.log_service.specs.Moves.{WasFull};
 ghost use Rattle.log_service.specs.Numbers.{told_numbers};
-ghost use Rattle.log_service.specs.Places.{IsSeatOf, IsLaterSeat, FoundTaken, HadTurn, LastFoundTaken, LastHadTurn};
+ghost use Rattle.log_service.specs.Places.{IsSeatOf, IsLaterSeat, FoundTaken, HadTurn, HadBothTurns, FoundOneTaken};
+ghost use Rattle.log_service.specs.Turns.{HasMovedItems, FoundEmpty, FoundTooLong, HasSynced, FoundNoLoad, SawCommitted};
 
 use crate::committer::DeviceHalf;
 use crate::committing::Commit;
@@ -18,12 +20,8 @@ use crate::raising::raise_all;
 use crate::seats::LogSeat;
 use crate::service::LogService;
 use disk_images::Disk;
-use log_berth::{LogSeat as BerthSeat, Turn, Ware};
+use log_berth::Turn;
 use std::sync::Wait;
-use std::thread;
-
-/// How often a sync turn tries for the consumer's turn.
-const TRIES: u32 = 1000;
 
 /// What a consumer's turn did.
 #[derive(Clone, Copy, Debug, PartialEq, Eq)]
@@ -51,7 +49,7 @@ pub enum SyncTurn {
     Clean,
     /// A disk call failed in this turn.
     WriteFault,
-    /// The log was broken before.
+    /// The fault word was found set: the log was broken before.
     Broken,
 }
 
@@ -68,6 +66,10 @@ impl<D: Disk, N: Naming> LogService<D, N> {
         ensures had { ((n : ℕ) → result ≡ ConsumerTurn.Moved n → HadTurn seat.old.consumer.knows seat.new.consumer.knows)
             × (result ≡ ConsumerTurn.Empty → HadTurn seat.old.consumer.knows seat.new.consumer.knows)
             × (result ≡ ConsumerTurn.StageFull → HadTurn seat.old.consumer.knows seat.new.consumer.knows) }
+        // What the work has shown.
+        ensures items { (n : ℕ) → result ≡ ConsumerTurn.Moved n → HasMovedItems N.lasts n }
+        ensures empty { result ≡ ConsumerTurn.Empty → FoundEmpty N.lasts }
+        ensures full { result ≡ ConsumerTurn.StageFull → FoundTooLong N.lasts }
         ensures busy { result ≡ ConsumerTurn.Busy → FoundTaken seat.old.consumer.knows seat.new.consumer.knows }
         ensures looked { seat.new.device.knows.tally ≡ looked seat.old.device.knows.tally }
         ensures broken { (result ≡ ConsumerTurn.Broken) ↔ (seat.new.device.knows.broken ≡ true) }
@@ -88,58 +90,58 @@ impl<D: Disk, N: Naming> LogService<D, N> {
         }
     }
 
-    /// Takes the device's turn, hands the load over where a sync request was moved since the last time or an item is held, and then commits
-    /// one load, however many entries it has, in four disk calls. So a load has all that was moved while the last one was committed. `Synced`
-    /// says how many entries, and the synced words are raised. Busy only where one of the two turn words was found taken: then nothing is
-    /// handed over. Clean where no load was there. It takes no memory.
+    /// Looks at the fault word and takes the device's turn, hands the load over where a sync request was moved since the last time or an item is
+    /// held, and then commits one load, however many entries it has, in four disk calls. So a load has all that was moved while the last one was
+    /// committed. `Synced` says how many entries, and the synced words are raised. Busy only where one of the two turn words was found taken:
+    /// then nothing is handed over. Clean where no load was there. Broken exactly where the fault word was found set, at the look or at a
+    /// second one with the device's turn. It takes no memory.
+    #[tactic(auto, using(crate::proofs::SeatLaws::later_trans))]
     pub fn sync_turn<R: Wait>(&self, rt: &R, seat: &mut LogSeat) -> SyncTurn
         requires seat { IsSeatOf self.now seat.old }
 
         ensures seat { IsSeatOf self.now seat.new }
         ensures later { IsLaterSeat seat.old seat.new }
-        ensures tried { HadTurn seat.old.device.knows seat.new.device.knows
-            ⊎ ((seat.new.consumer ≡ seat.old.consumer) × FoundTaken seat.old.device.knows seat.new.device.knows) }
-        ensures busy { result ≡ SyncTurn.Busy
-            → (LastFoundTaken seat.old.consumer.knows seat.new.consumer.knows × HadTurn seat.old.device.knows seat.new.device.knows)
-            ⊎ ((seat.new.consumer ≡ seat.old.consumer) × FoundTaken seat.old.device.knows seat.new.device.knows) }
-        ensures clean { result ≡ SyncTurn.Clean → LastHadTurn seat.old.consumer.knows seat.new.consumer.knows
-            × HadTurn seat.old.device.knows seat.new.device.knows }
-        ensures synced { (n : ℕ) → result ≡ SyncTurn.Synced n → LastHadTurn seat.old.consumer.knows seat.new.consumer.knows
-            × HadTurn seat.old.device.knows seat.new.device.knows }
-        ensures fault { result ≡ SyncTurn.WriteFault → (seat.old.device.knows.broken ≡ false) × (seat.new.device.knows.broken ≡ true) }
-        ensures broken { result ≡ SyncTurn.Broken → (seat.new.device.knows.broken ≡ true) × (seat.new.consumer ≡ seat.old.consumer) }
-        ensures some { (n : ℕ) → result ≡ SyncTurn.Synced n → 1 ≤ n }
-        ensures whole { ((n : ℕ) → result ≡ SyncTurn.Synced n → seat.new.device.knows.broken ≡ false)
-            × (result ≡ SyncTurn.Clean → seat.new.device.knows.broken ≡ false) }
+        ensures synced { (n : ℕ) → result ≡ SyncTurn.Synced n → HadBothTurns seat.old seat.new
+            × HasSynced N.lasts seat.old.device.knows seat.new.device.knows n }
+        ensures clean { result ≡ SyncTurn.Clean → HadBothTurns seat.old seat.new × FoundNoLoad N.lasts seat.new.device.knows }
+        ensures busy { result ≡ SyncTurn.Busy → FoundOneTaken seat.old seat.new }
+        ensures fault { result ≡ SyncTurn.WriteFault → HadBothTurns seat.old seat.new
+            × (seat.old.device.knows.broken ≡ false) × (seat.new.device.knows.broken ≡ true) }
+        ensures tried { (seat.new.consumer ≡ seat.old.consumer) ⊎ HadTurn seat.old.device.knows seat.new.device.knows }
+        ensures looked { seat.old.device.knows.tally.looks < seat.new.device.knows.tally.looks }
+        ensures broken { (result ≡ SyncTurn.Broken) ↔ ((seat.new.device.knows.broken ≡ true) × (seat.new.consumer ≡ seat.old.consumer)) }
+        ensures whole { (result ≡ SyncTurn.Broken → ⊥) → (result ≡ SyncTurn.WriteFault → ⊥) → seat.new.device.knows.broken ≡ false }
     {
+        if self.broken(seat) {
+            return SyncTurn::Broken;
+        }
         self.turn_over(rt, seat, false)
     }
 
-    /// The same. Before the load is handed over it may move up to 64 items, so that a commit has all that was pushed before it.
+    /// The same without the first look. Before the load is handed over it may move up to 64 items, so that a commit has all that was pushed
+    /// before it.
     pub(crate) fn turn_over<R: Wait>(&self, rt: &R, seat: &mut LogSeat, moves: bool) -> SyncTurn
         requires seat { IsSeatOf self.now seat.old }
 
         ensures seat { IsSeatOf self.now seat.new }
         ensures later { IsLaterSeat seat.old seat.new }
-        ensures tried { HadTurn seat.old.device.knows seat.new.device.knows
-            ⊎ ((seat.new.consumer ≡ seat.old.consumer) × FoundTaken seat.old.device.knows seat.new.device.knows) }
-        ensures busy { result ≡ SyncTurn.Busy
-            → (LastFoundTaken seat.old.consumer.knows seat.new.consumer.knows × HadTurn seat.old.device.knows seat.new.device.knows)
-            ⊎ ((seat.new.consumer ≡ seat.old.consumer) × FoundTaken seat.old.device.knows seat.new.device.knows) }
-        ensures clean { result ≡ SyncTurn.Clean → LastHadTurn seat.old.consumer.knows seat.new.consumer.knows
-            × HadTurn seat.old.device.knows seat.new.device.knows }
-        ensures synced { (n : ℕ) → result ≡ SyncTurn.Synced n → LastHadTurn seat.old.consumer.knows seat.new.consumer.knows
-            × HadTurn seat.old.device.knows seat.new.device.knows }
-        ensures fault { result ≡ SyncTurn.WriteFault → (seat.old.device.knows.broken ≡ false) × (seat.new.device.knows.broken ≡ true) }
+        ensures synced { (n : ℕ) → result ≡ SyncTurn.Synced n → HadBothTurns seat.old seat.new
+            × HasSynced N.lasts seat.old.device.knows seat.new.device.knows n }
+        ensures clean { result ≡ SyncTurn.Clean → HadBothTurns seat.old seat.new × FoundNoLoad N.lasts seat.new.device.knows }
+        ensures busy { result ≡ SyncTurn.Busy → FoundOneTaken seat.old seat.new }
+        ensures fault { result ≡ SyncTurn.WriteFault → HadBothTurns seat.old seat.new
+            × (seat.old.device.knows.broken ≡ false) × (seat.new.device.knows.broken ≡ true) }
+        ensures tried { (seat.new.consumer ≡ seat.old.consumer) ⊎ HadTurn seat.old.device.knows seat.new.device.knows }
+        ensures looked { seat.old.device.knows.tally.looks ≤ seat.new.device.knows.tally.looks }
         ensures broken { result ≡ SyncTurn.Broken → (seat.new.device.knows.broken ≡ true) × (seat.new.consumer ≡ seat.old.consumer) }
-        ensures some { (n : ℕ) → result ≡ SyncTurn.Synced n → 1 ≤ n }
-        ensures whole { ((n : ℕ) → result ≡ SyncTurn.Synced n → seat.new.device.knows.broken ≡ false)
-            × (result ≡ SyncTurn.Clean → seat.new.device.knows.broken ≡ false) }
+        ensures whole { (result ≡ SyncTurn.Broken → ⊥) → (result ≡ SyncTurn.WriteFault → ⊥) → seat.old.device.knows.broken ≡ false
+            → seat.new.device.knows.broken ≡ false }
     {
         let Ok(mut turn) = self.device.take(&mut seat.device) else {
             return SyncTurn::Busy;
         };
-        if turn.ware.broken() {
+        // Another seat may have broken the log since the last look.
+        if self.device.broken(&mut seat.device) {
             self.end_turn(&mut seat.device, turn);
             return SyncTurn::Broken;
         }
@@ -160,43 +162,6 @@ impl<D: Disk, N: Naming> LogService<D, N> {
         }
     }
 
-    /// Hands the load over where a sync request was moved since the last time or an item is held. False where another seat has the consumer's
-    /// turn at each of many tries: it has it for a moment only, unless it has lost its processor.
-    fn hand_load<R: Wait>(&self, rt: &R, seat: &mut BerthSeat, moves: bool) -> bool
-        requires seat { seat.old.berth ≡ self.now.consumer }
-        requires no_turn { seat.old.knows.turn ≡ false }
-        ensures seat { (seat.new.berth ≡ seat.old.berth) × (seat.new.knows.turn ≡ false) }
-        ensures had { IsTrue result → LastHadTurn seat.old.knows seat.new.knows }
-        ensures busy { IsFalse result → LastFoundTaken seat.old.knows seat.new.knows }
-    {
-        for _try in 0..TRIES {
-            if self.try_hand(rt, seat, moves) {
-                return true;
-            }
-            thread::yield_now();
-        }
-        self.try_hand(rt, seat, moves)
-    }
-
-    /// The same in one try.
-    fn try_hand<R: Wait>(&self, rt: &R, seat: &mut BerthSeat, moves: bool) -> bool
-        requires seat { seat.old.berth ≡ self.now.consumer }
-        requires no_turn { seat.old.knows.turn ≡ false }
-        ensures seat { (seat.new.berth ≡ seat.old.berth) × (seat.new.knows.turn ≡ false) }
-        ensures had { IsTrue result → HadTurn seat.old.knows seat.new.knows }
-        ensures busy { IsFalse result → FoundTaken seat.old.knows seat.new.knows }
-    {
-        let Ok(mut turn) = self.consumer.take(seat) else {
-            return false;
-        };
-        if moves {
-            turn.ware.move_items(rt, &self.ring);
-        }
-        turn.ware.hand_over(rt, &self.hand);
-        self.consumer.give(seat, turn);
-        true
-    }
-
     /// Commits a load with the device's turn, and raises the synced words or sets the fault word.
     fn commit_and_raise<R: Wait>(
         &self,
@@ -215,12 +180,14 @@ impl<D: Disk, N: Naming> LogService<D, N> {
         ensures later { NoMore seat.old.device.knows.seen seat.new.device.knows.seen }
         ensures below { NoMore seat.new.device.knows.seen (told_numbers turn.new.ware.regions (books_of turn.new.ware.device)) }
         ensures broken { broken_of turn.new.ware.device ≡ seat.new.device.knows.broken }
-        ensures raised { (n : ℕ) → result ≡ Commit.Committed n → (i : ℕ) → i < self.now.regions
-            → slice_index seat.new.device.knows.seen i ≡ slice_index (told_numbers turn.new.ware.regions (books_of turn.new.ware.device)) i }
+        ensures sees { (n : ℕ) → result ≡ Commit.Committed n → SawCommitted N.lasts seat.new.device.knows (view turn.new.ware.consumer.pass).popped }
         ensures fault { result ≡ Commit.WriteFault → seat.new.device.knows.broken ≡ true }
         ensures committed { (n : ℕ) → result ≡ Commit.Committed n → (load : List Held)
             × ((view turn.new.ware.consumer.pass).popped ≡ (view turn.old.ware.consumer.pass).popped ++ load ∷ []) × (n ≡ length load) }
-        ensures clean { result ≡ Commit.Clean → (turn.new.ware.device ≡ turn.old.ware.device) × WasFull 0 (view turn.old.ware.consumer.pass) }
+        ensures ordered { (n : ℕ) → result ≡ Commit.Committed n → AreInOrder N.lasts (view turn.new.ware.consumer.pass).popped }
+        ensures clean { result ≡ Commit.Clean → (turn.new.ware.device ≡ turn.old.ware.device)
+            × (view turn.new.ware.consumer.pass ≡ view turn.old.ware.consumer.pass) × WasFull 0 (view turn.old.ware.consumer.pass) }
+        ensures clock { IsTrue D.told → (D.view (disk_of turn.new.ware.device)).clock ≤ (D.view (disk_of turn.old.ware.device)).clock + 4 }
         ensures some { (n : ℕ) → result ≡ Commit.Committed n → 1 ≤ n }
         ensures whole { ((n : ℕ) → result ≡ Commit.Committed n → seat.new.device.knows.broken ≡ false)
             × (result ≡ Commit.Clean → seat.new.device.knows.broken ≡ false) }

@@ -1,4 +1,4 @@
-use Rattle.std.proofs.Common.{length, refl, inr}
+use Rattle.std.proofs.Common.{ℕ, List, length, get_or, refl, inr, sym, ap, ◌∙◌, arith}
 use Rattle.std.proofs.Math.Logic.{∥∥₁_map}
 use Rattle.log_ledger.specs.History.{committed_in, flushed_in}
 use Rattle.log_device.specs.Whole.{disk_of, books_of}
@@ -52,3 +52,20 @@ returns-in-Err-archive-clause-ties g c told =
     (λ h file whole is. (length h.logs, one_higher h.kept.base (books_of mid).next_store file.name.number (length h.logs) u w ((c.archive.ensures.archives told h whole).names file is)))
     (λ h whole unbroken. absurd (unbroken (c.in-Err-archive.ensures.broken.0 refl)))
     record { synced = c.archive.ensures.books.synced; stored = c.archive.ensures.books.stored; closed = c.archive.ensures.books.closed; next_store = c.archive.ensures.books.next_store }
+
+pub returns-in-Ok-archive-clause-flushed : goal.returns-in-Ok-archive-clause-flushed
+returns-in-Ok-archive-clause-flushed g c =
+    let r = c.args.region in
+    let said = c.in-Ok.ensures.books in
+    let synced = said.synced (λ broken. cc (c.in-Ok.ensures.broken.1 broken)) in record {
+      last = ap (λ (l : List ℕ). get_or l r 0) (c.archive.ensures.books.synced ∙ synced) ∙ sym said.number;
+      stored = ap (λ (l : List ℕ). get_or l r 0) c.archive.ensures.books.stored ∙ said.stored;
+      above = said.above;
+    }
+
+pub returns-in-Err-clause-nothing : goal.returns-in-Err-clause-nothing
+returns-in-Err-clause-nothing g c n is =
+    let r = c.args.region in
+    let said = c.in-Err.ensures.books in
+    let synced = ap (λ (l : List ℕ). get_or l r 0) (said.synced (λ broken. let why = c.in-Err.ensures.broken.1 broken in cc (why, is))) in
+    record { last = omega (arith, synced, said.nothing_number n is); stored = said.stored_nothing n is }

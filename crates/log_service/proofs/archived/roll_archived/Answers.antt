@@ -1,7 +1,7 @@
-use Rattle.std.proofs.Common.{◌<◌, ℕ, List, length, get_or, refl, sym, subst}
+use Rattle.std.proofs.Common.{◌<◌, ℕ, List, length, get_or, refl, sym, subst, arith}
 use Rattle.std.proofs.Math.Logic.{∥∥₁_map}
 use Rattle.log_ledger.specs.History.{committed_in, closed_in}
-use Rattle.log_device.specs.Whole.{disk_of, books_of}
+use Rattle.log_device.specs.Whole.{disk_of, books_of, IsBegunAfter}
 use Rattle.log_service.proofs.Tied.{ties_committed, ties_archived, few_same, one_higher}
 use Rattle.log_service.proofs.archived.roll_archived.Goals as goal
 
@@ -52,3 +52,20 @@ returns-in-Err-archive-clause-ties g c told =
     (λ h file whole is. (length h.logs, one_higher h.kept.base (books_of mid).next_store file.name.number (length h.logs) u w ((c.archive.ensures.archives told h whole).names file is)))
     (λ h whole unbroken. absurd (unbroken (c.in-Err-archive.ensures.broken.0 refl)))
     record { synced = c.archive.ensures.books.synced; stored = c.archive.ensures.books.stored; closed = c.archive.ensures.books.closed; next_store = c.archive.ensures.books.next_store }
+
+pub returns-in-Ok-archive-clause-rolled : goal.returns-in-Ok-archive-clause-rolled
+returns-in-Ok-archive-clause-rolled g c file is =
+    let told = c.in-Ok.ensures.books.file file is in
+    record { closed = told.0; entries = told.1; some = told.2; next = subst (IsBegunAfter file) (sym c.in-Ok-archive.ensures.books.file) (c.in-Ok.ensures.books.next file is) }
+
+pub returns-in-Err-clause-none : goal.returns-in-Err-clause-none
+returns-in-Err-clause-none g c file n is nothing = let told = c.in-Err.ensures.books.nothing file n is nothing in record { number = told.0; none = told.1 }
+
+pub returns-in-Err-clause-empty : goal.returns-in-Err-clause-empty
+returns-in-Err-clause-empty g c file is none unbroken = c.in-Err.ensures.books.empty file is none unbroken
+
+pub returns-in-Ok-archive-clause-empty : goal.returns-in-Ok-archive-clause-empty
+returns-in-Ok-archive-clause-empty g c file is none unbroken = let told = c.in-Ok.ensures.books.file file is in absurd (omega (arith, told.1, told.2, none))
+
+pub returns-in-Err-archive-clause-empty : goal.returns-in-Err-archive-clause-empty
+returns-in-Err-archive-clause-empty g c file is none unbroken = absurd (unbroken (c.in-Err-archive.ensures.broken.0 refl))

@@ -1,4 +1,4 @@
-use Rattle.std.proofs.Common.{◌≡◌, ◌≤◌, ◌+◌, ℕ, List, ◌++◌, get_or, Result, Ok, Err, IfOk, OnOk, OnErr, IsErr, inl, inr, refl, sym, ap, ◌∙◌, subst, arith}
+use Rattle.std.proofs.Common.{◌≡◌, ◌≤◌, ◌<◌, ◌+◌, ℕ, List, ◌++◌, get_or, Result, Ok, Err, IfOk, OnOk, OnErr, IsErr, inl, inr, refl, sym, ap, ◌∙◌, subst, arith}
 use Rattle.std.specs.Prelude.{slice_set, IsErrAnd}
 use Rattle.std.proofs.Math.Logic.{∥∥₁_map}
 use Rattle.log_model.specs.declared.name.Name.{Name}
@@ -56,6 +56,7 @@ returns-in_err-commit_staged-clause-books g c =
     let same = c.in_err-commit_staged.ensures.faulty in
     let broken = c.in_err-commit_staged.ensures.broken.0 refl in record {
       number = none_of result (λ n. n ≡ get_or old.drawn r 0) failed.0;
+      above = none_of result (λ n. get_or old.stored r 0 < n) failed.0;
       nothing_number = λ n is. absurd (not_nothing result n failed.1 is);
       stored = none_of result (λ n. get_or new.stored r 0 ≡ n) failed.0;
       stored_nothing = λ n is. absurd (not_nothing result n failed.1 is);
@@ -151,6 +152,7 @@ returns-clause-books g c =
     let said = c.flush_committed.ensures in
     let synced = said.synced ∙ ap (λ (b : Books). b.synced) same in record {
       number = then result (λ n is. is.0 ∙ ap (λ (b : Books). get_or b.drawn r 0) same) said.number;
+      above = then result (λ n is. subst (λ (m : ℕ). m < n) (ap (λ (b : Books). get_or b.stored r 0) same) is) said.above;
       nothing_number = λ n is.
           let drawn = ap (λ (b : Books). get_or b.drawn r 0) same in
           omega (arith, drawn, (said.nothing n is).1);

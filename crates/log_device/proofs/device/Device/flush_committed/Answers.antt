@@ -5,6 +5,7 @@ use Rattle.log_ledger.specs.Books.{Books}
 use Rattle.log_ledger.proofs.DrawnSums.{served_place}
 use Rattle.log_device.proofs.Bearing.{still_names}
 use Rattle.log_device.proofs.Few.{few_kept}
+use Rattle.log_device.proofs.Results.{then}
 use Rattle.log_device.proofs.Numbering.{numbered_still}
 use Rattle.log_device.proofs.Whole.{kept_file}
 use Rattle.log_device.proofs.StoreSteps.{still_moments}
@@ -48,3 +49,8 @@ returns-clause-flushed g c told h whole none = c.write_store.ensures.flushed tol
 pub returns-clause-any_moment : goal.returns-clause-any_moment
 returns-clause-any_moment g c told h file whole is none =
     c.write_store.ensures.any_moment told h file whole is none ((rw c.deref-ledger.ensures at c.in_ok-cells.ensures.cut) h whole.counted none)
+
+pub returns-clause-above : goal.returns-clause-above
+returns-clause-above g c =
+    let order = rw c.deref-ledger.ensures at c.has_unflushed.ensures.order in
+    then c.write_store.result (λ n is. omega (arith, is.1, (order.regions c.args.region).stored)) c.write_store.ensures.number

@@ -14,7 +14,7 @@ use Rattle.log_service.specs.Commits.{all_staged_in, drawn_in}
 use Rattle.log_service.specs.Halves.{Stands, Fell, RecoversHeld}
 use Rattle.log_service.proofs.Chains.{come_append}
 use Rattle.log_service.proofs.ItemLaws.{all_with}
-use Rattle.log_service.proofs.Committed.{spelled_entries, follow_within, follow_served, popped_follows, come_at, come_later, told_later, stands_more, falls, since_more, rose_before, on_ok, on_err}
+use Rattle.log_service.proofs.Committed.{spelled_entries, of_all, follow_within, follow_served, popped_follows, come_at, come_later, told_later, stands_more, falls, since_more, rose_before, on_ok, on_err}
 use Rattle.log_service.proofs.Tied.{few_same}
 use Rattle.log_service.proofs.Elapsed.{goes_on_by}
 use Rattle.log_service.proofs.committer.DeviceHalf.commit_one.Goals as goal
@@ -145,3 +145,11 @@ returns-in-Err-clause-clock g c told =
     ∥∥₁_elim (s.stands told c.requires.unbroken) le_prop (λ x.
     ∥∥₁_elim (spelled_entries c.in-Some.load c.in-Some.ensures.popped.good.0.2) le_prop (λ e.
     (said.any_moment told x.0 e.0 x.1.whole x.1.idle e.1).time.by_most))
+
+pub returns-in-Ok-clause-ordered : goal.returns-in-Ok-clause-ordered
+returns-in-Ok-clause-ordered g c n is =
+    let s = c.args.self.now in
+    let got = c.in-Some.ensures.popped in
+    let popped = (view s.consumer.pass).popped in
+    let order = subst (λ (l : List ℕ). AreInOrder l (of (λ (_ : List Held). 1) 1 (popped ++ c.in-Some.load ∷ []))) s.from.1 got.ordered in
+    subst (AreInOrder g.N.Naming.lasts) (of_all (popped ++ c.in-Some.load ∷ []) ∙ sym (ap (λ k. k.popped) got.now)) order

@@ -1,10 +1,12 @@
-use Rattle.std.proofs.Common.{◌≡◌, ◌≤◌, ◌<◌, ◌+◌, ◌-◌, ◌*◌, ℕ, false, get_or, refl, sym, ap, ◌∙◌, subst, arith}
-use Rattle.std.specs.Prelude.{Option, Some, None, is_none}
+use Rattle.std.proofs.Common.{◌≡◌, ◌≤◌, ◌-◌, ◌+◌, ℕ, get_or, refl, sym, ap, ◌∙◌, subst, arith}
+use Rattle.crossbeam_queue.specs.Passes.{view}
 use Rattle.log_berth.proofs.Joined.{no_more-trans}
+use Rattle.log_device.specs.declared.error.DeviceFlush.TheVariants as refusals
 use Rattle.log_device.specs.Whole.{log_of, books_of}
 use Rattle.log_service.specs.Numbers.{told_numbers}
 use Rattle.log_service.specs.Places.{Place}
-use Rattle.log_service.proofs.Numbers.{stored_over}
+use Rattle.log_service.proofs.Numbers.{stored_low}
+use Rattle.log_service.proofs.Sees.{has_file, not_broken, then_whole, sees_all}
 use Rattle.log_service.proofs.service.LogService.flush.Goals as goal
 
 pub give_both-requires-clause-device : goal.give_both-requires-clause-device
@@ -13,45 +15,60 @@ give_both-requires-clause-device g c =
     let b = c.flush-flushed.new.committer in
     no_more-trans c.take_both-mover.new.seat.device.knows.seen (told_numbers a.regions (books_of a.device)) (told_numbers b.regions (books_of b.device)) c.take_both-mover.ensures.device.1 c.flush-flushed.ensures.later
 
-is_some : {A : Type 0} (o : Option A) → (o ≡ None → ⊥) → is_none o ≡ false
-is_some None some = absurd (some refl)
-is_some (Some a) some = refl
-
-pub returns-in-Ok-clause-flushed : goal.returns-in-Ok-clause-flushed
-returns-in-Ok-clause-flushed g c =
+pub returns-clause-flushed : goal.returns-clause-flushed
+returns-clause-flushed g c =
+    let first = c.take_both-mover.result.1.ware in
     let ware = c.flush-flushed.new.committer in
-    let n : ℕ = ware.regions in
-    let n_is : n ≡ c.args.self.now.regions = ware.all.0 ∙ (sym c.self.invariant.6 ∙ ap (λ (p : Place). p.regions) c.self.view_is) in
-    let whole = c.give_both.ensures.broken in
-    let fine : c.give_both.new.seat.device.knows.broken ≡ false = sym whole ∙ is_some (log_of ware.device) (λ broken. cc (c.in-Ok.ensures.broken.1 broken)) in
-    let raised = subst (λ (m : ℕ). (i : ℕ) → i < 3 * m → get_or c.give_both.new.seat.device.knows.seen i 0 ≡ get_or (told_numbers n (books_of ware.device)) i 0) (sym n_is) (c.give_both.ensures.raised fine) in
-    let said = c.in-Ok.ensures.flushed in
-    let stored = subst (λ (m : ℕ). get_or (books_of ware.device).stored c.args.region 0 ≡ get_or c.give_both.new.seat.device.knows.seen (m + c.args.region - 1) 0) n_is
-    (stored_over n (books_of ware.device) c.give_both.new.seat.device.knows.seen raised c.args.region c.requires.region.0 (omega (arith, c.requires.region, n_is))) in
-    (said.0, omega (arith, said.1, stored))
+    let r = c.args.region in
+    let n_is : first.regions ≡ c.args.self.now.regions = first.all.0 ∙ (sym c.self.invariant.6 ∙ ap (λ (p : Place). p.regions) c.self.view_is) in
+    let old = c.args.seat.now.device.knows.seen in
+    let seen = no_more-trans old c.take_both-mover.new.seat.device.knows.seen (told_numbers first.regions (books_of first.device)) c.take_both-mover.ensures.later.words c.take_both-mover.ensures.device.1 in
+    let low = subst (λ (m : ℕ). get_or old (m + r - 1) 0 ≤ get_or (books_of first.device).stored r 0) n_is
+    (stored_low first.regions (books_of first.device) old r seen c.requires.region.0 (omega (arith, c.requires.region, n_is))) in
+    then_whole c.flush-flushed.result refusals.WriteFault c.flush-flushed.ensures.broken.1
+    (λ n unbroken said.
+    let saw = c.give_both.ensures.saw (sym c.give_both.ensures.broken ∙ not_broken (log_of ware.device) unbroken) in
+    record {
+      upto = said.0;
+      stored = sym said.1.stored ∙ sym (saw.stored r c.requires.region.0 c.requires.region.1);
+      above = omega (arith, low, said.1.above);
+      last = sym said.1.last ∙ sym (saw.synced r c.requires.region.0 c.requires.region.1);
+    })
+    c.flush-flushed.ensures.flushed
 
-pub returns-in-Ok-clause-exact : goal.returns-in-Ok-clause-exact
-returns-in-Ok-clause-exact g c =
+pub returns-clause-nothing : goal.returns-clause-nothing
+returns-clause-nothing g c n is =
     let ware = c.flush-flushed.new.committer in
-    let n : ℕ = ware.regions in
-    let n_is : n ≡ c.args.self.now.regions = ware.all.0 ∙ (sym c.self.invariant.6 ∙ ap (λ (p : Place). p.regions) c.self.view_is) in
-    let whole = c.give_both.ensures.broken in
-    let fine : c.give_both.new.seat.device.knows.broken ≡ false = sym whole ∙ is_some (log_of ware.device) (λ broken. cc (c.in-Ok.ensures.broken.1 broken)) in
-    let raised = subst (λ (m : ℕ). (i : ℕ) → i < 3 * m → get_or c.give_both.new.seat.device.knows.seen i 0 ≡ get_or (told_numbers n (books_of ware.device)) i 0) (sym n_is) (c.give_both.ensures.raised fine) in
-    let said = c.in-Ok.ensures.flushed in
-    let stored = subst (λ (m : ℕ). get_or (books_of ware.device).stored c.args.region 0 ≡ get_or c.give_both.new.seat.device.knows.seen (m + c.args.region - 1) 0) n_is
-    (stored_over n (books_of ware.device) c.give_both.new.seat.device.knows.seen raised c.args.region c.requires.region.0 (omega (arith, c.requires.region, n_is))) in
-    omega (arith, said.1, stored)
+    let r = c.args.region in
+    let said = c.flush-flushed.ensures.nothing n is in
+    let unbroken = not_broken (log_of ware.device) (λ broken. let why = c.flush-flushed.ensures.broken.1 broken in cc (why, is)) in
+    let saw = c.give_both.ensures.saw (sym c.give_both.ensures.broken ∙ unbroken) in
+    record {
+      upto = said.0;
+      stored = sym said.1.stored ∙ sym (saw.stored r c.requires.region.0 c.requires.region.1);
+      last = omega (arith, said.1.last, saw.synced r c.requires.region.0 c.requires.region.1);
+    }
 
-pub returns-in-Err-clause-nothing : goal.returns-in-Err-clause-nothing
-returns-in-Err-clause-nothing g c m is =
+pub returns-clause-moved : goal.returns-clause-moved
+returns-clause-moved g c whole =
+    let mover = c.flush-flushed.new.self in
+    let unbroken = has_file (log_of c.flush-flushed.new.committer.device) (c.give_both.ensures.broken ∙ whole) in record {
+      before = view c.take_both-mover.result.0.ware.consumer.pass;
+      pass = view mover.consumer.pass;
+      from = mover.ring.1;
+      moved = c.flush-flushed.ensures.moved unbroken;
+    }
+
+pub returns-clause-saw : goal.returns-clause-saw
+returns-clause-saw g c whole =
     let ware = c.flush-flushed.new.committer in
-    let n : ℕ = ware.regions in
-    let n_is : n ≡ c.args.self.now.regions = ware.all.0 ∙ (sym c.self.invariant.6 ∙ ap (λ (p : Place). p.regions) c.self.view_is) in
-    let whole = c.give_both.ensures.broken in
-    let fine : c.give_both.new.seat.device.knows.broken ≡ false = sym whole ∙ is_some (log_of ware.device) (λ broken. cc (c.in-Err.ensures.broken.1 broken)) in
-    let raised = subst (λ (m : ℕ). (i : ℕ) → i < 3 * m → get_or c.give_both.new.seat.device.knows.seen i 0 ≡ get_or (told_numbers n (books_of ware.device)) i 0) (sym n_is) (c.give_both.ensures.raised fine) in
-    let said = c.in-Err.ensures.nothing m is in
-    let stored = subst (λ (m : ℕ). get_or (books_of ware.device).stored c.args.region 0 ≡ get_or c.give_both.new.seat.device.knows.seen (m + c.args.region - 1) 0) n_is
-    (stored_over n (books_of ware.device) c.give_both.new.seat.device.knows.seen raised c.args.region c.requires.region.0 (omega (arith, c.requires.region, n_is))) in
-    (said.0, omega (arith, said.1, stored))
+    let unbroken = has_file (log_of ware.device) (c.give_both.ensures.broken ∙ whole) in
+    let n_is : c.args.self.now.regions ≡ ware.regions = sym (ware.all.0 ∙ (sym c.self.invariant.6 ∙ ap (λ (p : Place). p.regions) c.self.view_is)) in
+    record {
+      pass = view ware.consumer.pass;
+      from = ware.from.1;
+      empty = (c.flush-flushed.ensures.drained unbroken).1;
+      saw =
+          sees_all g.N.Naming.lasts c.args.self.now.regions (books_of ware.device) (view ware.consumer.pass).popped (n_is ∙ ware.all.0) (ware.synced unbroken) (ware.drawn unbroken)
+          c.give_both.new.seat.device.knows (c.give_both.ensures.saw whole);
+    }

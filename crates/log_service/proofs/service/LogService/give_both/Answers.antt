@@ -1,8 +1,11 @@
-use Rattle.std.proofs.Common.{true≢false, get_or, sym, ap, ◌∙◌, subst, arith}
+use Rattle.std.proofs.Common.{◌≡◌, ◌<◌, ◌*◌, ℕ, true≢false, get_or, sym, ap, ◌∙◌, subst, arith}
 use Rattle.log_berth.specs.declared.known.Known.{Known}
 use Rattle.log_berth.specs.declared.known.Tally.{Tally}
 use Rattle.log_berth.specs.Words.{NoMore}
+use Rattle.log_device.specs.Whole.{books_of}
+use Rattle.log_service.specs.Numbers.{told_numbers, HasSeen}
 use Rattle.log_service.specs.Places.{Place}
+use Rattle.log_service.proofs.Sees.{has_seen}
 use Rattle.log_service.proofs.service.LogService.give_both.Goals as goal
 
 pub give-requires-clause-durable : goal.give-requires-clause-durable
@@ -18,8 +21,13 @@ returns-clause-later g c = record {
       omega (arith, given, told);
 }
 
-pub returns-clause-raised : goal.returns-clause-raised
-returns-clause-raised g c whole i low =
+pub returns-clause-saw : goal.returns-clause-saw
+returns-clause-saw g c whole =
+    let ware = c.args.turn.ware in
+    let seat = c.give.new.seat.knows in
     let still = ap (λ (k : Known). k.broken) c.give.ensures.1 in
     let regions = ap (λ (p : Place). p.regions) c.self.view_is in
-    ap (λ (k : Known). get_or k.seen i 0) c.give.ensures.1 ∙ c.tell_all.ensures.raised (sym still ∙ whole) i (omega (arith, low, regions))
+    let n_is : ware.regions ≡ c.args.self.now.regions = ware.all.0 ∙ (sym c.self.invariant.6 ∙ regions) in
+    let raised : (i : ℕ) → i < 3 * ware.regions → get_or seat.seen i 0 ≡ get_or (told_numbers ware.regions (books_of ware.device)) i 0 = λ i low.
+    ap (λ (k : Known). get_or k.seen i 0) c.give.ensures.1 ∙ c.tell_all.ensures.raised (sym still ∙ whole) i (omega (arith, low, n_is, regions)) in
+    subst (λ (m : ℕ). HasSeen m seat (books_of ware.device)) n_is (has_seen ware.regions seat (books_of ware.device) raised)

@@ -1,10 +1,12 @@
-use Rattle.std.proofs.Common.{◌≡◌, ◌≤◌, ◌<◌, ◌+◌, ◌-◌, ◌*◌, ℕ, false, get_or, refl, sym, ap, ◌∙◌, subst, arith}
-use Rattle.std.specs.Prelude.{Option, Some, None, is_none}
+use Rattle.std.proofs.Common.{◌≡◌, ◌≤◌, ◌<◌, ◌-◌, ◌+◌, ℕ, get_or, refl, sym, ap, ◌∙◌, subst, arith}
+use Rattle.crossbeam_queue.specs.Passes.{view}
 use Rattle.log_berth.proofs.Joined.{no_more-trans}
+use Rattle.log_device.specs.declared.error.RollRefusal.TheVariants as refusals
 use Rattle.log_device.specs.Whole.{log_of, books_of}
 use Rattle.log_service.specs.Numbers.{told_numbers}
 use Rattle.log_service.specs.Places.{Place}
-use Rattle.log_service.proofs.Numbers.{closed_over}
+use Rattle.log_service.proofs.Numbers.{synced_low}
+use Rattle.log_service.proofs.Sees.{has_file, not_broken, then_whole, sees_all, closed_over}
 use Rattle.log_service.proofs.service.LogService.roll.Goals as goal
 
 pub give_both-requires-clause-device : goal.give_both-requires-clause-device
@@ -13,36 +15,58 @@ give_both-requires-clause-device g c =
     let b = c.roll-rolled.new.committer in
     no_more-trans c.take_both-mover.new.seat.device.knows.seen (told_numbers a.regions (books_of a.device)) (told_numbers b.regions (books_of b.device)) c.take_both-mover.ensures.device.1 c.roll-rolled.ensures.later
 
-is_some : {A : Type 0} (o : Option A) → (o ≡ None → ⊥) → is_none o ≡ false
-is_some None some = absurd (some refl)
-is_some (Some a) some = refl
+pub returns-clause-rolled : goal.returns-clause-rolled
+returns-clause-rolled g c =
+    then_whole c.roll-rolled.result refusals.WriteFault c.roll-rolled.ensures.broken.1 (λ rolled unbroken said. (said.0, (log_of c.roll-rolled.new.committer.device, said.1))) c.roll-rolled.ensures.rolled
 
-pub returns-in-Ok-clause-closed : goal.returns-in-Ok-clause-closed
-returns-in-Ok-clause-closed g c r above within =
-    let ware = c.roll-rolled.new.committer in
-    let first = c.take_both-mover.result.1.ware in
-    let n : ℕ = ware.regions in
-    let n_is : n ≡ c.args.self.now.regions = ware.all.0 ∙ (sym c.self.invariant.6 ∙ ap (λ (p : Place). p.regions) c.self.view_is) in
-    let whole = c.give_both.ensures.broken in
-    let fine : c.give_both.new.seat.device.knows.broken ≡ false = sym whole ∙ is_some (log_of ware.device) (λ broken. cc (c.in-Ok.ensures.broken.1 broken)) in
-    let raised = subst (λ (m : ℕ). (i : ℕ) → i < 3 * m → get_or c.give_both.new.seat.device.knows.seen i 0 ≡ get_or (told_numbers n (books_of ware.device)) i 0) (sym n_is) (c.give_both.ensures.raised fine) in
-    let old = c.args.seat.now.device.knows.seen in
-    let seen = no_more-trans old c.take_both-mover.new.seat.device.knows.seen (told_numbers first.regions (books_of first.device)) c.take_both-mover.ensures.later.words c.take_both-mover.ensures.device.1 in
-    let low = no_more-trans old (told_numbers first.regions (books_of first.device)) (told_numbers n (books_of ware.device)) seen c.roll-rolled.ensures.later in
-    subst (λ (m : ℕ). get_or old (r - 1) 0 ≤ get_or c.give_both.new.seat.device.knows.seen (m + m + r - 1) 0) n_is
-    (closed_over n (books_of ware.device) old c.give_both.new.seat.device.knows.seen low raised (c.in-Ok.ensures.closed) r above (omega (arith, within, n_is)))
+pub returns-clause-moved : goal.returns-clause-moved
+returns-clause-moved g c whole =
+    let mover = c.roll-rolled.new.self in
+    let unbroken = has_file (log_of c.roll-rolled.new.committer.device) (c.give_both.ensures.broken ∙ whole) in record {
+      before = view c.take_both-mover.result.0.ware.consumer.pass;
+      pass = view mover.consumer.pass;
+      from = mover.ring.1;
+      moved = c.roll-rolled.ensures.moved unbroken;
+    }
 
-pub returns-in-Err-clause-nothing : goal.returns-in-Err-clause-nothing
-returns-in-Err-clause-nothing g c m is r above within =
+pub returns-clause-saw : goal.returns-clause-saw
+returns-clause-saw g c whole =
     let ware = c.roll-rolled.new.committer in
+    let unbroken = has_file (log_of ware.device) (c.give_both.ensures.broken ∙ whole) in
+    let n_is : c.args.self.now.regions ≡ ware.regions = sym (ware.all.0 ∙ (sym c.self.invariant.6 ∙ ap (λ (p : Place). p.regions) c.self.view_is)) in
+    record {
+      pass = view ware.consumer.pass;
+      from = ware.from.1;
+      empty = (c.roll-rolled.ensures.drained unbroken).1;
+      saw =
+          sees_all g.N.Naming.lasts c.args.self.now.regions (books_of ware.device) (view ware.consumer.pass).popped (n_is ∙ ware.all.0) (ware.synced unbroken) (ware.drawn unbroken)
+          c.give_both.new.seat.device.knows (c.give_both.ensures.saw whole);
+    }
+
+pub returns-clause-closed : goal.returns-clause-closed
+returns-clause-closed g c =
     let first = c.take_both-mover.result.1.ware in
-    let n : ℕ = ware.regions in
-    let n_is : n ≡ c.args.self.now.regions = ware.all.0 ∙ (sym c.self.invariant.6 ∙ ap (λ (p : Place). p.regions) c.self.view_is) in
-    let whole = c.give_both.ensures.broken in
-    let fine : c.give_both.new.seat.device.knows.broken ≡ false = sym whole ∙ is_some (log_of ware.device) (λ broken. cc (c.in-Err.ensures.broken.1 broken)) in
-    let raised = subst (λ (m : ℕ). (i : ℕ) → i < 3 * m → get_or c.give_both.new.seat.device.knows.seen i 0 ≡ get_or (told_numbers n (books_of ware.device)) i 0) (sym n_is) (c.give_both.ensures.raised fine) in
+    let ware = c.roll-rolled.new.committer in
     let old = c.args.seat.now.device.knows.seen in
-    let seen = no_more-trans old c.take_both-mover.new.seat.device.knows.seen (told_numbers first.regions (books_of first.device)) c.take_both-mover.ensures.later.words c.take_both-mover.ensures.device.1 in
-    let low = no_more-trans old (told_numbers first.regions (books_of first.device)) (told_numbers n (books_of ware.device)) seen c.roll-rolled.ensures.later in
-    subst (λ (m : ℕ). get_or old (r - 1) 0 ≤ get_or c.give_both.new.seat.device.knows.seen (m + m + r - 1) 0) n_is
-    (closed_over n (books_of ware.device) old c.give_both.new.seat.device.knows.seen low raised (c.in-Err.ensures.nothing m is) r above (omega (arith, within, n_is)))
+    let mid = c.take_both-mover.new.seat.device.knows.seen in
+    let n_is : ware.regions ≡ c.args.self.now.regions = ware.all.0 ∙ (sym c.self.invariant.6 ∙ ap (λ (p : Place). p.regions) c.self.view_is) in
+    let seen = no_more-trans old mid (told_numbers first.regions (books_of first.device)) c.take_both-mover.ensures.later.words c.take_both-mover.ensures.device.1 in
+    let low = no_more-trans old (told_numbers first.regions (books_of first.device)) (told_numbers ware.regions (books_of ware.device)) seen c.roll-rolled.ensures.later in
+    then_whole c.roll-rolled.result refusals.WriteFault c.roll-rolled.ensures.broken.1
+    (λ rolled unbroken closed.
+    let saw = c.give_both.ensures.saw (sym c.give_both.ensures.broken ∙ not_broken (log_of ware.device) unbroken) in
+    closed_over ware.regions c.args.self.now.regions n_is c.give_both.new.seat.device.knows (books_of ware.device) old low saw closed)
+    c.roll-rolled.ensures.closed
+
+pub returns-clause-nothing : goal.returns-clause-nothing
+returns-clause-nothing g c n is =
+    let first = c.take_both-mover.result.1.ware in
+    let ware = c.roll-rolled.new.committer in
+    let old = c.args.seat.now.device.knows.seen in
+    let mid = c.take_both-mover.new.seat.device.knows.seen in
+    let n_is : ware.regions ≡ c.args.self.now.regions = ware.all.0 ∙ (sym c.self.invariant.6 ∙ ap (λ (p : Place). p.regions) c.self.view_is) in
+    let seen = no_more-trans old mid (told_numbers first.regions (books_of first.device)) c.take_both-mover.ensures.later.words c.take_both-mover.ensures.device.1 in
+    let low = no_more-trans old (told_numbers first.regions (books_of first.device)) (told_numbers ware.regions (books_of ware.device)) seen c.roll-rolled.ensures.later in
+    let unbroken = not_broken (log_of ware.device) (λ broken. let why = c.roll-rolled.ensures.broken.1 broken in cc (why, is)) in
+    let saw = c.give_both.ensures.saw (sym c.give_both.ensures.broken ∙ unbroken) in
+    closed_over ware.regions c.args.self.now.regions n_is c.give_both.new.seat.device.knows (books_of ware.device) old low saw (c.roll-rolled.ensures.nothing n is)

@@ -1,48 +1,93 @@
-use Rattle.std.proofs.Common.{◌≡◌, Bool, true, false, true≢false, refl, sym, ap, ◌∙◌, subst}
+use Rattle.std.proofs.Common.{◌≡◌, ◌∷◌, ◌++◌, [], true≢false, refl, sym, ap, ◌∙◌, subst}
+use Rattle.crossbeam_queue.specs.Passes.{view}
 use Rattle.log_berth.specs.declared.known.Known.{Known}
-use Rattle.log_berth.specs.declared.known.Tally.{Tally}
-use Rattle.log_berth.specs.Standing.{Standing}
-use Rattle.log_service.specs.Places.{LastHadTurn}
-use Rattle.log_service.proofs.SeatLaws.{turn_later}
+use Rattle.log_berth.specs.Words.{looked, NoMore}
+use Rattle.log_berth.proofs.Joined.{no_more-trans}
+use Rattle.log_device.specs.Whole.{log_of, books_of}
+use Rattle.log_trucks.specs.Held.{Held}
+use Rattle.log_service.specs.Loads.{AreInOrder}
+use Rattle.log_service.specs.Moves.{WasFull}
+use Rattle.log_service.specs.Numbers.{told_numbers}
+use Rattle.log_service.specs.Turns.{SawCommitted}
+use Rattle.log_service.proofs.SeatLaws.{turn_later, had_both, not_set}
+use Rattle.log_service.proofs.Sees.{has_file, saw_at_most}
 use Rattle.log_service.proofs.service.LogService.turn_over.Goals as goal
 
 pub returns-in-Committed-clause-later : goal.returns-in-Committed-clause-later
 returns-in-Committed-clause-later g c =
     let held = c.in-Ok.ensures.taken.1 in
-    turn_later c.args.seat.now _ c.take.new.seat.knows c.commit_and_raise-commit.new.seat.device.knows (sym held.broken ∙ (sym c.broken.ensures ∙ c.if-broken.false))
-    (λ broken. (held.stands broken).0) held.seen c.commit_and_raise-commit.ensures.later c.end_turn-2.ensures.1
-    (c.commit_and_raise-commit.ensures.seat.3 ∙ held.tally)
+    turn_later c.args.seat.now _ c.take.new.seat.knows c.commit_and_raise-commit.new.seat.device.knows (sym (c.broken.ensures.exact held.turn) ∙ c.if-broken.false)
+    (λ broken. (held.stands broken).0) held.seen (subst (λ l. NoMore l c.commit_and_raise-commit.new.seat.device.knows.seen) c.broken.ensures.same.3 c.commit_and_raise-commit.ensures.later) c.end_turn-2.ensures.1
+    (c.commit_and_raise-commit.ensures.seat.3 ∙ c.broken.ensures.known.1 ∙ ap looked held.tally)
 
 pub returns-in-Clean-clause-later : goal.returns-in-Clean-clause-later
 returns-in-Clean-clause-later g c =
     let held = c.in-Ok.ensures.taken.1 in
-    turn_later c.args.seat.now _ c.take.new.seat.knows c.commit_and_raise-commit.new.seat.device.knows (sym held.broken ∙ (sym c.broken.ensures ∙ c.if-broken.false))
-    (λ broken. (held.stands broken).0) held.seen c.commit_and_raise-commit.ensures.later c.end_turn-2.ensures.1
-    (c.commit_and_raise-commit.ensures.seat.3 ∙ held.tally)
+    turn_later c.args.seat.now _ c.take.new.seat.knows c.commit_and_raise-commit.new.seat.device.knows (sym (c.broken.ensures.exact held.turn) ∙ c.if-broken.false)
+    (λ broken. (held.stands broken).0) held.seen (subst (λ l. NoMore l c.commit_and_raise-commit.new.seat.device.knows.seen) c.broken.ensures.same.3 c.commit_and_raise-commit.ensures.later) c.end_turn-2.ensures.1
+    (c.commit_and_raise-commit.ensures.seat.3 ∙ c.broken.ensures.known.1 ∙ ap looked held.tally)
 
 pub returns-in-WriteFault-clause-later : goal.returns-in-WriteFault-clause-later
 returns-in-WriteFault-clause-later g c =
     let held = c.in-Ok.ensures.taken.1 in
-    turn_later c.args.seat.now _ c.take.new.seat.knows c.commit_and_raise-commit.new.seat.device.knows (sym held.broken ∙ (sym c.broken.ensures ∙ c.if-broken.false))
-    (λ broken. (held.stands broken).0) held.seen c.commit_and_raise-commit.ensures.later c.end_turn-2.ensures.1
-    (c.commit_and_raise-commit.ensures.seat.3 ∙ held.tally)
+    turn_later c.args.seat.now _ c.take.new.seat.knows c.commit_and_raise-commit.new.seat.device.knows (sym (c.broken.ensures.exact held.turn) ∙ c.if-broken.false)
+    (λ broken. (held.stands broken).0) held.seen (subst (λ l. NoMore l c.commit_and_raise-commit.new.seat.device.knows.seen) c.broken.ensures.same.3 c.commit_and_raise-commit.ensures.later) c.end_turn-2.ensures.1
+    (c.commit_and_raise-commit.ensures.seat.3 ∙ c.broken.ensures.known.1 ∙ ap looked held.tally)
 
 pub returns-in-Committed-clause-synced : goal.returns-in-Committed-clause-synced
 returns-in-Committed-clause-synced g c n is =
     let held = c.in-Ok.ensures.taken.1 in
+    let ware = c.in-Ok.turn.ware in
+    let lasts = g.N.Naming.lasts in
     let same = c.commit_and_raise-commit.ensures.seat in
-    let had : LastHadTurn c.args.seat.now.consumer.knows c.hand_load.new.seat.knows = search (c.if-not-hand_load.ensures.had) in
+    let knows = c.commit_and_raise-commit.new.seat.device.knows in
     let ended = c.end_turn-2.ensures.1 in
-    let tries = ap (λ (k : Known). k.tally.tries) ended ∙ (ap (λ (t : Tally). t.tries) same.3 ∙ ap (λ (t : Tally). t.tries) held.tally) in
-    let found = ap (λ (k : Known). k.tally.found) ended ∙ (ap (λ (t : Tally). t.found) same.3 ∙ ap (λ (t : Tally). t.found) held.tally) in
-    (subst (λ (s : Standing). LastHadTurn c.args.seat.now.consumer.knows s.knows) (sym same.0) had, (tries, found))
+    let before = (view ware.consumer.pass).popped in
+    let now = (view c.commit_and_raise-commit.new.turn.ware.consumer.pass).popped in
+    let unbroken = has_file (log_of ware.device) (held.broken ∙ (sym (c.broken.ensures.exact held.turn) ∙ c.if-broken.false)) in
+    let of = cc is in
+    let got = c.in-Committed.ensures.committed n of in (
+      had_both c.args.seat.now _ c.hand_load.new.seat c.take.new.seat.knows c.broken.new.seat.knows knows (search (c.if-not-hand_load.ensures.had)) same.0 held.tally c.broken.ensures.known.1 same.3 ended,
+      record {
+        before = before;
+        load = got.0;
+        count = got.2;
+        some = c.in-Committed.ensures.some n of;
+        in_order = subst (AreInOrder lasts) got.1 (c.in-Committed.ensures.ordered n of);
+        saw = saw_at_most lasts ware.regions (books_of ware.device) before ware.all.0 (ware.synced unbroken) (ware.drawn unbroken) c.args.seat.now.device.knows
+            (no_more-trans c.args.seat.now.device.knows.seen c.take.new.seat.knows.seen (told_numbers ware.regions (books_of ware.device)) held.seen held.below);
+        sees = subst (λ (k : Known). SawCommitted lasts k (before ++ got.0 ∷ [])) (sym ended) (subst (SawCommitted lasts knows) got.1 (c.in-Committed.ensures.sees n of));
+      },
+    )
 
-not_set : (b : Bool) → (b ≡ true → ⊥) → b ≡ false
-not_set true unset = absurd (unset refl)
-not_set false unset = refl
+pub returns-in-Clean-clause-clean : goal.returns-in-Clean-clause-clean
+returns-in-Clean-clause-clean g c is =
+    let held = c.in-Ok.ensures.taken.1 in
+    let ware = c.commit_and_raise-commit.new.turn.ware in
+    let lasts = g.N.Naming.lasts in
+    let same = c.commit_and_raise-commit.ensures.seat in
+    let knows = c.commit_and_raise-commit.new.seat.device.knows in
+    let ended = c.end_turn-2.ensures.1 in
+    let unbroken = has_file (log_of ware.device) (c.commit_and_raise-commit.ensures.broken ∙ c.in-Clean.ensures.whole.1 refl) in
+    let none = c.in-Clean.ensures.clean refl in (
+      had_both c.args.seat.now _ c.hand_load.new.seat c.take.new.seat.knows c.broken.new.seat.knows knows (search (c.if-not-hand_load.ensures.had)) same.0 held.tally c.broken.ensures.known.1 same.3 ended,
+      record {
+        pass = view ware.consumer.pass;
+        from = ware.from.1;
+        empty = subst (WasFull 0) (sym none.1) none.2;
+        saw = saw_at_most lasts ware.regions (books_of ware.device) (view ware.consumer.pass).popped ware.all.0 (ware.synced unbroken) (ware.drawn unbroken) c.end_turn-2.new.seat.knows
+            (subst (λ (k : Known). NoMore k.seen (told_numbers ware.regions (books_of ware.device))) (sym ended) c.commit_and_raise-commit.ensures.below);
+      },
+    )
 
 pub returns-in-WriteFault-clause-fault : goal.returns-in-WriteFault-clause-fault
 returns-in-WriteFault-clause-fault g c is =
     let held = c.in-Ok.ensures.taken.1 in
-    let whole = sym held.broken ∙ (sym c.broken.ensures ∙ c.if-broken.false) in
-    (not_set c.args.seat.now.device.knows.broken (λ broken. true≢false (sym (held.stands broken).0 ∙ whole)), ap (λ (k : Known). k.broken) c.end_turn-2.ensures.1 ∙ c.in-WriteFault.ensures.fault refl)
+    let same = c.commit_and_raise-commit.ensures.seat in
+    let ended = c.end_turn-2.ensures.1 in
+    let whole = sym (c.broken.ensures.exact held.turn) ∙ c.if-broken.false in (
+      had_both c.args.seat.now _ c.hand_load.new.seat c.take.new.seat.knows c.broken.new.seat.knows c.commit_and_raise-commit.new.seat.device.knows (search (c.if-not-hand_load.ensures.had)) same.0 held.tally
+          c.broken.ensures.known.1 same.3 ended,
+      not_set c.args.seat.now.device.knows.broken (λ broken. true≢false (sym (held.stands broken).0 ∙ whole)),
+      ap (λ (k : Known). k.broken) ended ∙ c.in-WriteFault.ensures.fault refl,
+    )
