@@ -10,10 +10,6 @@ size_append (t ∷ ts) ys = let more = size_append ts ys in omega (arith, more)
 pub size_one_more : (xs : List Held) (t : Held) → size_of (xs ++ t ∷ []) ≡ size_of xs + length t.bytes + 1
 size_one_more xs t = size_append xs (t ∷ []) ∙ (let one : size_of (t ∷ []) ≡ (length t.bytes + 1) + 0 = refl in omega (arith, one))
 
-pub no_more_than_size : (xs : List Held) → length xs ≤ size_of xs
-no_more_than_size [] = omega arith
-no_more_than_size (t ∷ ts) = let more = no_more_than_size ts in omega (arith, more)
-
 -- of the first and of the last
 pub spelled_front : (xs ys : List Held) → AreSpelled (xs ++ ys) → AreSpelled xs
 spelled_front [] ys s = tt

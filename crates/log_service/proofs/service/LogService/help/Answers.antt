@@ -11,6 +11,6 @@ returns-in-Moved-default-clause-something g c is =
     let moved = c.consumer_turn-moves.ensures.had.0 c.in-Moved-default.field-0-0 c.in-Moved-default.is-0 in
     let same = ap (λ (t : Tally). t.tries + 1) c.consumer_turn-moves.ensures.looked in
     elim c.sync_turn-commit.ensures.tried as (λ _. LastHadTurn old.consumer.knows new.consumer.knows ⊎ HadTurn old.device.knows new.device.knows) [
-      | inl had ↦ inr (had.0 ∙ same, had.1)
-      | inr taken ↦ inl (subst (λ (s : Standing). LastHadTurn old.consumer.knows s.knows) (sym taken.0) (omega (arith, moved.0), moved.1))
+      | inl alone ↦ inl (subst (λ (s : Standing). LastHadTurn old.consumer.knows s.knows) (sym alone) (omega (arith, moved.0), moved.1))
+      | inr had ↦ inr (had.0 ∙ same, had.1)
     ]
