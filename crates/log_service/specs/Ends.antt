@@ -31,13 +31,13 @@ pub record HasNoneAbove (r n : ℕ) (new : Books) : Type 0 where
   pub stored : get_or new.stored r 0 ≡ n
 
 -- The same as the seat has seen it. The number is at or above the one asked for.
-pub record HasFlushed (regions region upto n : ℕ) (old new : Known) : Type 0 where
-  pub upto : upto ≤ n
+pub record HasFlushed (regions region least n : ℕ) (old new : Known) : Type 0 where
+  pub upto : least ≤ n
   pub stored : n ≡ seen_stored regions new region
   pub above : seen_stored regions old region < n
   pub last : n ≡ seen_synced new region
 
-pub record HadNothing (regions region upto n : ℕ) (new : Known) : Type 0 where
-  pub upto : upto ≤ n
+pub record HadNothing (regions region least n : ℕ) (new : Known) : Type 0 where
+  pub upto : least ≤ n
   pub stored : n ≡ seen_stored regions new region
   pub last : seen_synced new region ≤ n

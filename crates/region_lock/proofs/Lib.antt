@@ -4,7 +4,6 @@ pub mod Parts
 pub mod Shows
 pub mod Knowns
 pub mod PutLaws
-pub mod FaultLaws
 pub mod FlushLaws
 pub mod ScanLaws
 pub mod Lifts
