@@ -5,6 +5,8 @@ use Rattle.log_berth.specs.Words.{NoMore, looked}
 use Rattle.log_berth.proofs.Joined.{no_more-trans}
 use Rattle.log_device.specs.Whole.{log_of, books_of}
 use Rattle.log_trucks.specs.Held.{Held}
+use Rattle.log_service.specs.declared.committing.Commit.TheVariants as commits
+use Rattle.log_service.specs.declared.seats.LogSeat.{LogSeat}
 use Rattle.log_service.specs.Loads.{AreInOrder}
 use Rattle.log_service.specs.Moves.{WasFull}
 use Rattle.log_service.specs.Numbers.{told_numbers}
@@ -36,6 +38,7 @@ returns-in-WriteFault-clause-later g c =
 
 pub returns-in-Committed-clause-synced : goal.returns-in-Committed-clause-synced
 returns-in-Committed-clause-synced g c n is =
+    let after : LogSeat = record { consumer = c.commit_and_raise-commit.new.seat.consumer; device = c.end_turn-2.new.seat } in
     let held = c.in-Ok.ensures.taken.1 in
     let ware = c.in-Ok.turn.ware in
     let lasts = g.N.Naming.lasts in
@@ -45,9 +48,9 @@ returns-in-Committed-clause-synced g c n is =
     let before = (view ware.consumer.pass).popped in
     let now = (view c.commit_and_raise-commit.new.turn.ware.consumer.pass).popped in
     let unbroken = has_file (log_of ware.device) (held.broken ∙ (sym (c.broken.ensures.exact held.turn) ∙ c.if-broken.false)) in
-    let of = cc is in
+    let of : commits.Committed c.in-Committed.count ≡ commits.Committed n = cc (is) in
     let got = c.in-Committed.ensures.committed n of in (
-      had_both c.args.seat.now _ c.hand_load.new.seat c.take.new.seat.knows c.broken.new.seat.knows knows (search (c.if-not-hand_load.ensures.had)) same.0 held.tally c.broken.ensures.known.1 same.3 ended,
+      had_both c.args.seat.now after c.hand_load.new.seat c.take.new.seat.knows c.broken.new.seat.knows knows (search (c.if-not-hand_load.ensures.had)) same.0 held.tally c.broken.ensures.known.1 same.3 ended,
       record {
         before = before;
         load = got.0;
@@ -62,6 +65,7 @@ returns-in-Committed-clause-synced g c n is =
 
 pub returns-in-Clean-clause-clean : goal.returns-in-Clean-clause-clean
 returns-in-Clean-clause-clean g c is =
+    let after : LogSeat = record { consumer = c.commit_and_raise-commit.new.seat.consumer; device = c.end_turn-2.new.seat } in
     let held = c.in-Ok.ensures.taken.1 in
     let ware = c.commit_and_raise-commit.new.turn.ware in
     let lasts = g.N.Naming.lasts in
@@ -70,7 +74,7 @@ returns-in-Clean-clause-clean g c is =
     let ended = c.end_turn-2.ensures.1 in
     let unbroken = has_file (log_of ware.device) (c.commit_and_raise-commit.ensures.broken ∙ c.in-Clean.ensures.whole.1 refl) in
     let none = c.in-Clean.ensures.clean refl in (
-      had_both c.args.seat.now _ c.hand_load.new.seat c.take.new.seat.knows c.broken.new.seat.knows knows (search (c.if-not-hand_load.ensures.had)) same.0 held.tally c.broken.ensures.known.1 same.3 ended,
+      had_both c.args.seat.now after c.hand_load.new.seat c.take.new.seat.knows c.broken.new.seat.knows knows (search (c.if-not-hand_load.ensures.had)) same.0 held.tally c.broken.ensures.known.1 same.3 ended,
       record {
         pass = view ware.consumer.pass;
         from = ware.from.1;
@@ -82,11 +86,12 @@ returns-in-Clean-clause-clean g c is =
 
 pub returns-in-WriteFault-clause-fault : goal.returns-in-WriteFault-clause-fault
 returns-in-WriteFault-clause-fault g c is =
+    let after : LogSeat = record { consumer = c.commit_and_raise-commit.new.seat.consumer; device = c.end_turn-2.new.seat } in
     let held = c.in-Ok.ensures.taken.1 in
     let same = c.commit_and_raise-commit.ensures.seat in
     let ended = c.end_turn-2.ensures.1 in
     let whole = sym (c.broken.ensures.exact held.turn) ∙ c.if-broken.false in (
-      had_both c.args.seat.now _ c.hand_load.new.seat c.take.new.seat.knows c.broken.new.seat.knows c.commit_and_raise-commit.new.seat.device.knows (search (c.if-not-hand_load.ensures.had)) same.0 held.tally
+      had_both c.args.seat.now after c.hand_load.new.seat c.take.new.seat.knows c.broken.new.seat.knows c.commit_and_raise-commit.new.seat.device.knows (search (c.if-not-hand_load.ensures.had)) same.0 held.tally
           c.broken.ensures.known.1 same.3 ended,
       not_set c.args.seat.now.device.knows.broken (λ broken. true≢false (sym (held.stands broken).0 ∙ whole)),
       ap (λ (k : Known). k.broken) ended ∙ c.in-WriteFault.ensures.fault refl,
