@@ -53,4 +53,4 @@ returns-clause-any_moment g c told h file whole is none =
 pub returns-clause-above : goal.returns-clause-above
 returns-clause-above g c =
     let order = rw c.deref-ledger.ensures at c.has_unflushed.ensures.order in
-    then c.write_store.result (λ n is. omega (arith, is.1, (order.regions c.args.region).stored)) c.write_store.ensures.number
+    then c.write_store.result (λ n is. omega (arith, is, c.write_store.requires.above, (order.regions c.args.region).stored)) c.write_store.ensures.number
