@@ -53,4 +53,5 @@ returns-clause-any_moment g c told h file whole is none =
 pub returns-clause-above : goal.returns-clause-above
 returns-clause-above g c =
     let order = rw c.deref-ledger.ensures at c.has_unflushed.ensures.order in
-    then c.write_store.result (λ n is. omega (arith, is, c.write_store.requires.above, (order.regions c.args.region).stored)) c.write_store.ensures.number
+    let above = (rw c.deref-ledger.ensures at c.if-not-has_unflushed.ensures.above).0 refl in
+    then c.write_store.result (λ n is. omega (arith, is, above, (order.regions c.args.region).stored)) c.write_store.ensures.number
