@@ -10,8 +10,9 @@ use Rattle.log_model.specs.declared.name.Name.{Name}
 use Rattle.log_model.specs.declared.name.NameKind.TheVariants as kinds
 use Rattle.log_model.specs.declared.damage.Damage.{Damage}
 use Rattle.log_model.specs.Entry.{Entry}
-use Rattle.log_model.specs.Files.{Files, name_cmp, IsLogFile, IsLogged}
+use Rattle.log_model.specs.Files.{Files, name_cmp, IsLogFile, IsLogged, IsSound}
 use Rattle.log_model.specs.Damage.{Disagreement, IsDisagreement, IsFirstDisagreement, IsDamage, disagreement_cmp}
+use Rattle.log_model.proofs.DamageLaws.{no_disagreement}
 use Rattle.log_model.proofs.NameLaws.{name_cmp_total}
 use Rattle.disk_images.proofs.Settled.{among_names}
 use Rattle.found_files.specs.declared.found.FoundEntry.{FoundEntry}
@@ -196,6 +197,9 @@ module _ (told : Type 0) (is_told : told) (files : Files) (es : List FoundEntry)
       here = here Any files es among_read (read.from_logs is_told) ordered damage pair;
       first = λ y h. none_lower Any files es among_read (read.from_logs is_told) ordered damage pair y h tt tt;
     }
+
+    pub pair_unsound : ¬ IsSound files
+    pair_unsound sound = no_disagreement files (told_as Any files es among_read (read.from_logs is_told) ordered damage pair) sound is_first.here
 
     pub pair_told : IsDamage files damage
     pair_told = subst (λ (d : Damage). IsDamage files d) (sym (pair.damage_is some_found)) is_first

@@ -89,7 +89,7 @@ before_this names i d rise lt m has =
 
 pub first_hurt : (told : Type 0) (is_told : told) (files : Files) (names : List Name) (i : ℕ) (d : Name) (es : List FoundEntry) (ss : List FoundStore) → AllPairs (λ a b. name_cmp a b ≡ Less) names → i < length names
     → AreContents told files (take i names) es ss → (damage : Damage) → IsDamageAt files (get_or names i d) damage → IsFirstHurt files names damage
-first_hurt told is_told files names i d es ss rise lt read damage (at, is, hurt) = record {
+first_hurt told is_told files names i d es ss rise lt read damage (at, is, hurt, unsound) = record {
   name = this;
   at = at;
   is = is;

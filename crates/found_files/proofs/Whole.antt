@@ -1,15 +1,15 @@
 -- What was read isn't damaged, and what is told is the first damage.
-use Rattle.std.proofs.Common.{◌≡◌, inl, inr, ℕ, ◌+◌, ◌<◌, List, [], ◌∷◌, ◌++◌, length, take, drop, get_or, Contains, Some, refl, sym, ap, ◌∙◌, subst}
+use Rattle.std.proofs.Common.{◌≡◌, inl, inr, ℕ, ◌+◌, ◌<◌, List, [], ◌∷◌, ◌++◌, length, take, drop, get_or, Contains, refl, sym, ap, ◌∙◌, subst}
 use Rattle.std.specs.FinMap.{keys}
 use Rattle.std.proofs.lemmas.List.{take_more, take-append-drop, append_assoc}
 use Rattle.log_model.specs.declared.name.Name.{Name}
 use Rattle.log_model.specs.declared.damage.Damage.{Damage}
 use Rattle.log_model.specs.LogText.{IsLogText}
-use Rattle.log_model.specs.StoreText.{IsThere, IsStoreText, IsStoreDamaged}
-use Rattle.log_model.specs.StoreText.IsStoreDamaged.{Field, Pair, Behind}
-use Rattle.log_model.specs.Files.{Files, key_of}
+use Rattle.log_model.specs.StoreText.{IsStoreText}
+use Rattle.log_model.specs.Files.{Files, key_of, IsPresent, IsSound}
 use Rattle.log_model.specs.Damage.{IsBadName, HasDamage, IsDamage}
 use Rattle.log_model.specs.Damage.HasDamage.{Logged, Stored}
+use Rattle.log_model.proofs.DamageLaws.{damaged_there, no_bad_name, same_bytes}
 use Rattle.log_model.proofs.StoreLaws.{not_damaged}
 use Rattle.disk_images.proofs.Settled.{among_names, there_of}
 use Rattle.found_files.specs.declared.found.FoundEntry.{FoundEntry}
@@ -30,13 +30,10 @@ bad_name files name (inl high) = inl high
 bad_name files name (inr (inl range)) = inr (inl range)
 bad_name files name (inr (inr (log, (other, there, old, same)))) = inr (inr (log, (other, there_of files other there, old, same)))
 
-damaged_there : (r : ℕ) (bytes : List ℕ) (at : ℕ) → IsStoreDamaged r bytes at → IsThere bytes
-damaged_there r bytes at (Field there wrong) = there
-damaged_there r bytes at (Pair there right cells rest stands fewer none place) = there
-damaged_there r bytes at (Behind there right cells rest stands counted more place) = there
-
-same_bytes : (x y : List ℕ) → Some x ≡ Some y → x ≡ y
-same_bytes x y e = cc e
+-- what is told of one file, sound files don't have
+pub unsound_one : (files : Files) (name : Name) (damage : Damage) → IsPresent files name → TellsOne files (keys files) name damage → ¬ IsSound files
+unsound_one files name damage there (inl (bad, same)) sound = no_bad_name files name sound there (bad_name files name bad)
+unsound_one files name damage there (inr (good, (at, same, hurt, unsound))) sound = unsound sound
 
 module _ (told : Type 0) (files : Files) (names : List Name) (es : List FoundEntry) (ss : List FoundStore) (is_told : told) (read : AreContents told files names es ss) where
   -- what was read isn't damaged
@@ -57,7 +54,7 @@ module _ (told : Type 0) (files : Files) (names : List Name) (es : List FoundEnt
   told_one name after is damage (inl (bad, same)) =
       subst (λ (d : Damage). IsDamage files d) (sym same)
       (by_order files names after name 0 is read_whole (inl (there_of files name (subst (λ (l : List Name). Contains l name) (sym is) (Rattle.std.proofs.lemmas.List.Elements.Contains-append_right names (name ∷ after) name (Rattle.found_files.proofs.Placing.first_in name after))), bad_name files name bad, refl)))
-  told_one name after is damage (inr (good, (at, same, hurt))) =
+  told_one name after is damage (inr (good, (at, same, hurt, unsound))) =
       subst (λ (d : Damage). IsDamage files d) (sym same) (by_order files names after name at is read_whole (inr ((λ bad. good (bad_among files name bad)), hurt)))
 
 pub split_at : (names : List Name) (i : ℕ) (d : Name) → i < length names → names ≡ take i names ++ get_or names i d ∷ drop (i + 1) names

@@ -3,7 +3,7 @@ use Rattle.std.specs.Prelude.{◌≡◌, ℕ, Result, Ok, Err}
 use Rattle.log_model.specs.declared.name.Name.{Name}
 use Rattle.log_model.specs.declared.damage.Damage.{Damage}
 use Rattle.log_model.specs.declared.damage.Damage.TheVariants as damages
-use Rattle.log_model.specs.Files.{Files}
+use Rattle.log_model.specs.Files.{Files, IsSound}
 use Rattle.log_model.specs.Damage.{HasDamage}
 use Rattle.disk_images.specs.declared.disk.NamesError.{NamesError}
 use Rattle.disk_images.specs.declared.disk.NamesError.TheVariants as names_errors
@@ -21,6 +21,6 @@ IfDamage (Err (refusals.Damaged damage)) P = P damage
 IfDamage (Err refusals.Memory) P = Unit {0}
 IfDamage (Err refusals.DiskFault) P = Unit {0}
 
--- the bytes of this file are damaged, and this is the place
+-- the bytes of this file are damaged, this is the place, and the files aren't sound
 abbrev pub IsDamageAt : Files → Name → Damage → Type 0
-IsDamageAt files name damage = (at : ℕ) × (damage ≡ damages.Bytes name at) × HasDamage files name at
+IsDamageAt files name damage = (at : ℕ) × (damage ≡ damages.Bytes name at) × HasDamage files name at × (¬ IsSound files)

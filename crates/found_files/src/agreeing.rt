@@ -1,6 +1,6 @@
 //! Entries in the order of regions and numbers, and the first two of one region and number that differ.
 
-ghost use Rattle.std.specs.Prelude.{◌≡◌, ◌↔◌, ◌<◌, ℕ, List, length, Contains, IsTrue, OnOk, MatchOption};
+ghost use Rattle.std.specs.Prelude.{◌≡◌, ◌↔◌, ◌<◌, length, Contains, IsTrue, OnOk, MatchOption};
 ghost use Rattle.found_files.specs.declared.found.FoundEntry.{FoundEntry as TheFound};
 ghost use Rattle.found_files.specs.Sorted.{AreOrdered, AllAgree, IsFirstPair, IsOfSame, DifferAt, GoesOn};
 

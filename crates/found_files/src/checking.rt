@@ -1,9 +1,9 @@
 //! Reading and checking the files of a store.
 
-ghost use Rattle.std.specs.Prelude.{◌≡◌, ◌++◌, ◌∷◌, [], ◌≤◌, ◌+◌, ℕ, List, Contains, IsTrue, IfOk, OnOk, IsErrOf};
+ghost use Rattle.std.specs.Prelude.{◌≡◌, ℕ, List, IsTrue, IfOk, OnOk, IsErrOf};
 ghost use Rattle.std.specs.FinMap.{keys};
 ghost use Rattle.log_model.specs.declared.name.Name.{Name as TheName};
-ghost use Rattle.log_model.specs.Files.{Files, Reads};
+ghost use Rattle.log_model.specs.Files.{Reads, IsSound};
 ghost use Rattle.log_model.specs.Damage.{IsDamage};
 ghost use Rattle.disk_images.specs.Calls.{HasCause};
 ghost use Rattle.found_files.specs.Names.{AreOldNumbers};
@@ -30,6 +30,7 @@ pub(crate) fn read_checked<D: Disk>(
 
     ensures read { IfOk result (λ found. AreRead (IsTrue D.told) (D.view disk.old).files names.now names.now found.entries.items found.stores.items) }
     ensures damaged { IsTrue D.told → IfDamage result (IsDamage (D.view disk.old).files) }
+    ensures unsound { IsTrue D.told → IfDamage result (λ damage. ¬ IsSound (D.view disk.old).files) }
     ensures watches { IsTrue D.told → OnlyWatches (D.view disk.old) (D.view disk.new) }
     ensures cause { HasCause (D.faults disk.old) (D.faults disk.new) (IsErrOf result SplitRefusal.DiskFault) }
 {

@@ -2,7 +2,7 @@
 
 ghost use Rattle.std.specs.Prelude.{◌≡◌, ◌↔◌, Contains, IsTrue, IfOk, IfErr, OnOk, IsErrOf};
 ghost use Rattle.std.specs.FinMap.{keys};
-ghost use Rattle.log_model.specs.Files.{Files, IsSound};
+ghost use Rattle.log_model.specs.Files.{IsSound};
 ghost use Rattle.log_model.specs.Damage.{IsDamage};
 ghost use Rattle.disk_images.specs.Calls.{HasCause};
 ghost use Rattle.disk_images.specs.Settled.{IsSettled};
@@ -29,6 +29,7 @@ pub fn find_files<D: Disk>(alloc: Global, disk: &mut D) -> Result<Finding, Split
     ensures ordered { IfOk result (λ found. AreOrdered found.files.entries.items) }
     ensures agree { IfOk result (λ found. AllAgree found.files.entries.items) }
     ensures sound { IsTrue D.told → OnOk result (IsSound (D.view disk.old).files) }
+    ensures unsound { IsTrue D.told → IfDamage result (λ damage. ¬ IsSound (D.view disk.old).files) }
     ensures damaged { IsTrue D.told → IfDamage result (IsDamage (D.view disk.old).files) }
     ensures watches { IsTrue D.told → OnlyWatches (D.view disk.old) (D.view disk.new) }
     ensures cause { HasCause (D.faults disk.old) (D.faults disk.new) (IsErrOf result SplitRefusal.DiskFault) }

@@ -4,7 +4,7 @@ ghost use Rattle.std.specs.Prelude.{◌≡◌, ◌≤◌, ◌++◌, ◌∷◌, [
 ghost use Rattle.std.specs.declared.cmp.Ordering.TheVariants.{Less};
 ghost use Rattle.log_model.specs.declared.name.Name.{Name as TheName};
 ghost use Rattle.log_model.specs.declared.damage.Damage.{Damage as TheDamage};
-ghost use Rattle.log_model.specs.Files.{Files, Reads, name_cmp};
+ghost use Rattle.log_model.specs.Files.{Reads, name_cmp};
 ghost use Rattle.disk_images.specs.Calls.{HasCause};
 ghost use Rattle.found_files.specs.Found.{AreContents};
 ghost use Rattle.found_files.specs.OfRegion.{names_of, AreNamesOf, IsFirstHurt, IsDamageIn};

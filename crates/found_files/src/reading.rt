@@ -1,8 +1,8 @@
 //! Reading one file of a store.
 
-ghost use Rattle.std.specs.Prelude.{◌≡◌, ◌≢◌, ◌<◌, ◌≤◌, ◌+◌, ◌^◌, ◌++◌, ℕ, List, length, IsTrue, IfOk, OnOk, IsErr, IsErrOf};
+ghost use Rattle.std.specs.Prelude.{◌≡◌, ◌<◌, ◌+◌, ◌^◌, ◌++◌, ℕ, List, length, IsTrue, OnOk, IsErr, IsErrOf};
 ghost use Rattle.log_model.specs.declared.name.NameKind.TheVariants as kinds;
-ghost use Rattle.log_model.specs.Files.{Files, Reads, HoldsEntries};
+ghost use Rattle.log_model.specs.Files.{Reads, HoldsEntries};
 ghost use Rattle.disk_images.specs.Calls.{HasCause};
 ghost use Rattle.found_files.specs.Found.{placed, ReadsEntries, ReadsStore};
 ghost use Rattle.found_files.specs.Refusal.{IfDamage, IsDamageAt};

@@ -41,6 +41,7 @@ pub fn open<D: Disk>(
     ensures bases { IsTrue D.told → IfOk result (λ o. (length (bases_of o) ≡ regions) × AreBasesOf (D.view disk).files 1 (bases_of o)) }
     // Damage is told exactly where the files aren't sound.
     ensures sound { IsTrue D.told → OnOk result (IsSound (D.view disk).files) }
+    ensures unsound { IsTrue D.told → IfDamaged result (λ damage left. ¬ IsSound (D.view disk).files) }
     ensures damaged { IsTrue D.told → IfDamaged result (λ damage left. IsDamage (D.view disk).files damage × ((D.view left).files ≡ (D.view disk).files)) }
     ensures cause { HasCause (D.faults disk) (D.faults (disk_left result)) (IsErrAnd result (λ e. e.why ≡ StartWhy.DiskFault)) }
 {

@@ -1,6 +1,6 @@
 //! The end of an opening.
 
-ghost use Rattle.std.specs.Prelude.{◌≡◌, ◌≤◌, ◌+◌, ℕ, IsTrue, OnOk, IsErr};
+ghost use Rattle.std.specs.Prelude.{◌≡◌, IsTrue, OnOk, IsErr};
 ghost use Rattle.log_model.specs.Files.{Files};
 ghost use Rattle.recovery.specs.Kept.{HasNoLogs};
 ghost use Rattle.disk_images.specs.Crash.{Throughout};
@@ -13,7 +13,7 @@ ghost use Rattle.region_replay.specs.Cleared.{IsCleared};
 use disk_images::{Disk, Failed};
 
 /// Makes durable which files are there, so that no log and no edits file that went comes again.
-pub fn clear<D: Disk>(disk: &mut D) -> Result<(), Failed>
+pub(crate) fn clear<D: Disk>(disk: &mut D) -> Result<(), Failed>
     ensures any_moment { IsTrue D.told → (base : Files) → IsHeld base (D.view disk.old)
         → Throughout (AllAlike base) 1 (D.view disk.old) (D.view disk.new) }
     ensures cleared { IsTrue D.told → (base : Files) → IsHeld base (D.view disk.old) → HasNoLogs (D.view disk.old).files

@@ -1,6 +1,6 @@
 //! One name, store or entry goes to its region.
 
-ghost use Rattle.std.specs.Prelude.{◌≡◌, ◌≤◌, ◌<◌, ◌+◌, ◌^◌, ◌++◌, ◌∷◌, [], OnOk, vec_len};
+ghost use Rattle.std.specs.Prelude.{◌≡◌, ◌≤◌, ◌<◌, ◌+◌, ◌^◌, ◌++◌, OnOk, vec_len};
 ghost use Rattle.log_model.specs.Entry.{IsEntry};
 ghost use Rattle.region_replay.specs.Dealt.{IsGood, Deals, DealsName, AddsEdits, RaisesNext, AddsStored, AddsEntry};
 

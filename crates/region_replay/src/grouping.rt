@@ -1,9 +1,8 @@
 //! What was read and left of a store, by regions.
 
-ghost use Rattle.std.specs.Prelude.{◌≡◌, ◌≤◌, ◌<◌, ◌++◌, ◌∷◌, [], ℕ, List, length, Contains, IfOk, OnOk, slice_index, vec_len};
+ghost use Rattle.std.specs.Prelude.{◌≡◌, ◌≤◌, ◌<◌, [], ℕ, List, length, Contains, IfOk, OnOk, vec_len};
 ghost use Rattle.log_model.specs.declared.name.Name.{Name as TheName};
 ghost use Rattle.found_files.specs.declared.found.FoundStore.{FoundStore as TheStore};
-ghost use Rattle.log_model.specs.Entry.{Entry as TheEntry};
 ghost use Rattle.wal_split.specs.declared.job.EditsJob.{EditsJob as TheJob};
 ghost use Rattle.wal_split.specs.Left.{IsInRange};
 ghost use Rattle.region_replay.specs.Dealt.{IsDealt, IsGood, AreDealt, AreBegun};

@@ -19,14 +19,7 @@ mod replaying;
 mod storing;
 mod whole;
 
-pub use clearing::clear;
-pub use found::{Recovered, RegionFiles, Replayed};
+pub use found::{Recovered, Replayed};
 pub use laws::one_sort_gives_the_base;
 pub use one_region::replay;
 pub use recovering::recover_all;
-pub use region::replay_region;
-pub use regions::replay_regions;
-pub use removing::remove_all;
-pub use replaying::replay_found;
-pub use storing::store_unflushed;
-pub use whole::replay_all;

@@ -39,6 +39,7 @@ pub fn recover_all<D: Disk>(alloc: Global, disk: &mut D) -> Result<Recovered, Sp
     ensures recovered { IsTrue D.told → IfOk result (λ xs. AreOf (D.view disk.old).files (D.view disk.new).files 1 xs) }
     // Damage is told exactly where the files aren't sound.
     ensures sound { IsTrue D.told → OnOk result (IsSound (D.view disk.old).files) }
+    ensures unsound { IsTrue D.told → IfDamage result (λ damage. ¬ IsSound (D.view disk.old).files) }
     ensures damaged { IsTrue D.told
         → IfDamage result (λ damage. IsDamage (D.view disk.old).files damage × ((D.view disk.new).files ≡ (D.view disk.old).files)) }
     ensures cause { HasCause (D.faults disk.old) (D.faults disk.new) (IsErrOf result SplitRefusal.DiskFault) }

@@ -1,6 +1,6 @@
 //! The replay of one region whose files were read.
 
-ghost use Rattle.std.specs.Prelude.{◌≡◌, ◌≢◌, ◌⊎◌, ◌≤◌, ◌<◌, ◌+◌, ◌^◌, ℕ, List, [], Contains, IsTrue, IfOk, OnOk, IsErrOf};
+ghost use Rattle.std.specs.Prelude.{◌≡◌, ◌≢◌, ◌<◌, ◌+◌, ℕ, List, [], Contains, IsTrue, IfOk, OnOk, IsErrOf};
 ghost use Rattle.log_model.specs.declared.name.Name.{Name as TheName};
 ghost use Rattle.log_model.specs.declared.name.NameKind.TheVariants as kinds;
 ghost use Rattle.log_model.specs.Files.{Files, Reads, IsAbsent, content};
@@ -24,7 +24,7 @@ use std::alloc::Global;
 /// Writes what is unflushed of a region as its next store, and removes its edits files. Where nothing is unflushed, no store
 /// is written. Out of memory may come before anything is written, or when the files are as they are after Ok: then too each
 /// image recovers as before.
-pub fn replay_region<D: Disk>(
+pub(crate) fn replay_region<D: Disk>(
     alloc: Global,
     disk: &mut D,
     found: RegionFiles,

@@ -1,6 +1,6 @@
 //! The replay of the regions, one after the other.
 
-ghost use Rattle.std.specs.Prelude.{◌≡◌, ◌++◌, ◌∷◌, [], ◌≤◌, ◌+◌, List, Contains, length, IsTrue, IfOk, OnOk, IsErr, IsErrOf};
+ghost use Rattle.std.specs.Prelude.{◌≡◌, ◌++◌, ◌∷◌, [], ◌+◌, Contains, length, IsTrue, IfOk, OnOk, IsErrOf};
 ghost use Rattle.log_model.specs.declared.name.Name.{Name as TheName};
 ghost use Rattle.log_model.specs.declared.name.NameKind.TheVariants as kinds;
 ghost use Rattle.log_model.specs.Files.{Files, content};
@@ -20,7 +20,7 @@ use log_file::FileRefusal;
 use std::alloc::Global;
 
 /// Replays these regions in turn: what is unflushed of each goes into its next store, and its edits files go.
-pub fn replay_regions<D: Disk>(
+pub(crate) fn replay_regions<D: Disk>(
     alloc: Global,
     disk: &mut D,
     regions: Vec<RegionFiles>,

@@ -1,6 +1,6 @@
 //! Edits files go.
 
-ghost use Rattle.std.specs.Prelude.{◌≡◌, ◌≢◌, ◌≤◌, ◌+◌, ℕ, List, Contains, length, IsTrue, OnOk, IsErr};
+ghost use Rattle.std.specs.Prelude.{◌≡◌, ◌≢◌, ℕ, List, Contains, length, IsTrue, OnOk, IsErr};
 ghost use Rattle.log_model.specs.declared.name.Name.{Name as TheName};
 ghost use Rattle.log_model.specs.Files.{Files, Reads, IsAbsent, content};
 ghost use Rattle.disk_images.specs.Crash.{Throughout};
@@ -12,7 +12,7 @@ ghost use Rattle.region_replay.specs.Cuts.{AreEdits, EditsFlushed};
 use disk_images::{Disk, Failed, Name};
 
 /// Removes these edits files, whose entries are flushed.
-pub fn remove_all<D: Disk>(disk: &mut D, names: &[Name]) -> Result<(), Failed>
+pub(crate) fn remove_all<D: Disk>(disk: &mut D, names: &[Name]) -> Result<(), Failed>
     requires edits { AreEdits (IsTrue D.told) names.now }
     requires there { IsTrue D.told → (m : TheName) → Contains names.now m → ∥ ((c : List ℕ)
         × Reads (D.view disk.old).files m c) ∥₁ }

@@ -1,6 +1,6 @@
 //! The steps of a replay that change files.
 
-ghost use Rattle.std.specs.Prelude.{◌≡◌, ◌≢◌, ◌≤◌, ◌<◌, ◌+◌, ◌^◌, ℕ, List, Contains, IsTrue, IfOk, OnOk, IsErrOf};
+ghost use Rattle.std.specs.Prelude.{◌≡◌, ◌≢◌, ◌≤◌, ◌<◌, ◌^◌, ℕ, List, Contains, IsTrue, IfOk, OnOk, IsErrOf};
 ghost use Rattle.std.specs.FinMap.{empty};
 ghost use Rattle.cell_model.specs.Merge.{put_numbered};
 ghost use Rattle.log_model.specs.declared.name.Name.{Name as TheName};
@@ -23,7 +23,7 @@ use mem_segments::Segment;
 use std::alloc::Global;
 
 /// Writes the region's unflushed cells as a store, removes its edits files, and hands the cells back in order.
-pub fn replay_found<D: Disk>(
+pub(crate) fn replay_found<D: Disk>(
     alloc: Global,
     disk: &mut D,
     name: Name,

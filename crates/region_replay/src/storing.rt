@@ -1,6 +1,6 @@
 //! What is unflushed of a region goes into a store file.
 
-ghost use Rattle.std.specs.Prelude.{◌≡◌, ◌≤◌, ◌<◌, ◌+◌, ◌^◌, ℕ, length, IsTrue, IfOk, OnOk, IsErrOf};
+ghost use Rattle.std.specs.Prelude.{◌≡◌, ◌≤◌, ◌<◌, ◌^◌, ℕ, IsTrue, IfOk, OnOk, IsErrOf};
 ghost use Rattle.std.specs.FinMap.{empty};
 ghost use Rattle.cell_model.specs.Merge.{put_numbered};
 ghost use Rattle.log_model.specs.declared.name.NameKind.TheVariants as kinds;
@@ -22,7 +22,7 @@ use mem_segments::Segment;
 use std::alloc::Global;
 
 /// Writes the region's unflushed cells as its next store file, and hands them back in order. Each image recovers as before.
-pub fn store_unflushed<D: Disk>(
+pub(crate) fn store_unflushed<D: Disk>(
     alloc: Global,
     disk: &mut D,
     name: Name,

@@ -1,6 +1,6 @@
 //! The end of an opening, from what was read of the regions.
 
-ghost use Rattle.std.specs.Prelude.{◌≡◌, ◌≤◌, ◌+◌, Contains, length, IsTrue, IfOk, OnOk, IsErrOf};
+ghost use Rattle.std.specs.Prelude.{◌≡◌, Contains, length, IsTrue, IfOk, OnOk, IsErrOf};
 ghost use Rattle.log_model.specs.declared.name.Name.{Name as TheName};
 ghost use Rattle.log_model.specs.declared.name.NameKind.TheVariants as kinds;
 ghost use Rattle.log_model.specs.Files.{Files, content};
@@ -23,7 +23,7 @@ use std::alloc::Global;
 /// Replays all regions of a store that was split, and makes durable that its edits files are gone: then a device may start.
 /// At each moment a crash leaves files that recover as before for every region. `Memory` may come behind some regions: what
 /// was done for them stands, and the opening may be begun again.
-pub fn replay_all<D: Disk>(
+pub(crate) fn replay_all<D: Disk>(
     alloc: Global,
     disk: &mut D,
     regions: Vec<RegionFiles>,

@@ -1,6 +1,6 @@
 -- How far entries are copied.
 use Rattle.std.proofs.Common.{◌≡◌, inl, inr, ℕ, ◌+◌, ◌*◌, ◌<◌, List, [], ◌∷◌, ◌++◌, length, take, drop, get_or, Contains, Option, None, refl, sym, ap, ◌∙◌, subst, arith}
-use Rattle.std.proofs.lemmas.List.{append_assoc, take_more, take-append-drop}
+use Rattle.std.proofs.lemmas.List.{take_more, take-append-drop}
 use Rattle.std.proofs.lemmas.List.Elements.{Contains-append_left}
 use Rattle.log_model.specs.declared.name.Name.{Name}
 use Rattle.log_model.specs.Entry.{Entry}
@@ -44,16 +44,6 @@ touches_on name u v w first second = record {
   others = λ m other. second.others m other ∙ first.others m other;
   gone = λ m h. first.gone m (second.gone m h);
   formerly = λ n m h. first.formerly n m (second.formerly n m h);
-}
-
--- one more is staged
-pub staged_in : (log now : OpenLog) (v : DiskView) (entries : List Entry) (e : Entry) (in_it : AreIn log v entries) → IsSameFile log now → IsStaged now (in_it.batch ++ e ∷ []) → AreIn now v (entries ++ e ∷ [])
-staged_in log now v entries e in_it same staged = record {
-  done = in_it.done;
-  batch = in_it.batch ++ e ∷ [];
-  open_log = open_still log now v in_it.done same in_it.open_log;
-  staged = staged;
-  all = sym (append_assoc in_it.done in_it.batch (e ∷ [])) ∙ ap (λ (l : List Entry). l ++ e ∷ []) in_it.all;
 }
 
 -- one more is staged behind a commit

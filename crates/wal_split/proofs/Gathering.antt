@@ -65,21 +65,6 @@ pub record Going (ys : List FoundEntry) (flushed : List ℕ) (region number : �
   pub last : (ys ≡ []) × (region ≡ 0) ⊎ ((y : FoundEntry) × Contains ys y × (y.entry.region ≡ region) × (y.entry.number ≡ number))
   pub upto : (z : FoundEntry) → Contains ys z → (z.entry.region ≤ region) × (z.entry.region ≡ region → z.entry.number ≤ number)
 
-pub none_yet : (flushed : List ℕ) (number : ℕ) → Going [] flushed 0 number [] []
-none_yet flushed number = record {
-  parts = record {
-    from_logs = λ e has. absurd (none_in e has);
-    from_edits = λ e has. absurd (none_in e has);
-    all = λ x has. absurd (none_in x has);
-    all_logged = λ x has. absurd (none_in x has);
-    logged_rise = λ i j d less lt. absurd (omega (arith, lt));
-    kept_rise = λ i j d less lt. absurd (omega (arith, lt));
-    apart = λ d e has. absurd (none_in d has);
-  };
-  last = inl (refl, refl);
-  upto = λ z has. absurd (none_in z has);
-}
-
 module _ (ys : List FoundEntry) (flushed : List ℕ) (region number : ℕ) (x : FoundEntry) (old new : Unflushed) (so_far : Going ys flushed region number old.logged.items old.kept.items)
     (ups : (z : FoundEntry) → Contains ys z → IsUpTo z x) (agree : (z : FoundEntry) → Contains ys z → IsOfSame z x → z.entry ≡ x.entry) (valid : IsEntry x.entry) where
   abbrev ls : List Entry

@@ -1,40 +1,13 @@
 -- Entries go to the edits files of their regions.
-use Rattle.std.proofs.Common.{◌≡◌, ◌≢◌, inl, inr, ℕ, Bool, cond, ◌+◌, ◌-◌, ◌<◌, ◌≤◌, List, [], ◌∷◌, ◌++◌, length, get_or, Contains, slice_set, refl, sym, ap, ◌∙◌, subst, arith, length-append, get_or-set_other, get_or-set_same}
+use Rattle.std.proofs.Common.{◌≡◌, ◌≢◌, inl, inr, ℕ, Bool, cond, ◌+◌, ◌-◌, ◌<◌, ◌≤◌, List, [], ◌∷◌, ◌++◌, get_or, Contains, slice_set, refl, sym, ap, ◌∙◌, subst, arith, get_or-set_other, get_or-set_same}
 use Rattle.std.proofs.Math.ListN.{length-set}
-use Rattle.std.proofs.lemmas.Bool.{cases_eq, cases_lt, eq-eqb, ne_eqb}
-use Rattle.std.proofs.lemmas.List.{get_or_append_left, append-nil}
-use Rattle.std.proofs.Math.Seq.{get_or-append_seam}
+use Rattle.std.proofs.lemmas.Bool.{cases_eq, eq-eqb, ne_eqb}
+use Rattle.std.proofs.lemmas.List.{append-nil}
 use Rattle.std.proofs.lemmas.List.Elements.{Contains-append_left, Contains-push, Contains-push_cases, filter-append}
 use Rattle.log_model.specs.Entry.{Entry, IsEntry}
 use Rattle.log_model.specs.Recovered.{is_of, entries_of}
-use Rattle.found_files.proofs.Placing.{none_in}
 use Rattle.wal_split.specs.declared.job.EditsJob.{EditsJob}
-use Rattle.wal_split.specs.Grouped.{edits_name, AreEmptyJobs, AreJobsOf, AddsTo}
-
-pub none_made : (number : ℕ) → AreEmptyJobs number 0 []
-none_made number = record { long = refl; names = λ k d lt. absurd (omega (arith, lt)); none = λ k d lt. absurd (omega (arith, lt)) }
-
-pub one_made : (number count : ℕ) (jobs new : List EditsJob) (job : EditsJob) → AreEmptyJobs number count jobs → new ≡ jobs ++ job ∷ [] → job.name ≡ edits_name (count + 1) number → job.entries.items ≡ [] → AreEmptyJobs number (count + 1) new
-one_made number count jobs new job made is named empty = subst (λ (l : List EditsJob). AreEmptyJobs number (count + 1) l) (sym is) (record {
-  long = omega (arith, length-append jobs (job ∷ []), made.long);
-  names = λ k d lt. elim (cases_lt k count) as (λ _. (get_or (jobs ++ job ∷ []) k d).name ≡ edits_name (k + 1) number) [
-    | inl early ↦ ap (λ (j : EditsJob). j.name) (get_or_append_left jobs (job ∷ []) d k (omega (arith, early, made.long))) ∙ made.names k d early
-    | inr late ↦ (let at : k ≡ length jobs = omega (arith, lt, late, made.long) in ap (λ (i : ℕ). (get_or (jobs ++ job ∷ []) i d).name) at ∙ ap (λ (j : EditsJob). j.name) (get_or-append_seam jobs job [] d) ∙ named ∙ ap (λ (i : ℕ). edits_name (i + 1) number) (sym made.long ∙ sym at))
-  ];
-  none = λ k d lt. elim (cases_lt k count) as (λ _. (get_or (jobs ++ job ∷ []) k d).entries.items ≡ []) [
-    | inl early ↦ ap (λ (j : EditsJob). j.entries.items) (get_or_append_left jobs (job ∷ []) d k (omega (arith, early, made.long))) ∙ made.none k d early
-    | inr late ↦ (let at : k ≡ length jobs = omega (arith, lt, late, made.long) in ap (λ (i : ℕ). (get_or (jobs ++ job ∷ []) i d).entries.items) at ∙ ap (λ (j : EditsJob). j.entries.items) (get_or-append_seam jobs job [] d) ∙ empty)
-  ];
-})
-
-pub none_grouped : (number : ℕ) (jobs : List EditsJob) → AreEmptyJobs number 64 jobs → AreJobsOf [] number jobs
-none_grouped number jobs made = record {
-  long = made.long;
-  names = made.names;
-  each = λ k d e lt has. absurd (none_in e (subst (λ (l : List Entry). Contains l e) (made.none k d lt) has));
-  are = made.none;
-  all = λ e has. absurd (none_in e has);
-}
+use Rattle.wal_split.specs.Grouped.{edits_name, AreJobsOf, AddsTo}
 
 -- the entries of a region, with one entry more
 pub of_more : (r : ℕ) (entries : List Entry) (entry : Entry) → entries_of r (entries ++ entry ∷ []) ≡ entries_of r entries ++ cond (is_of r entry) (entry ∷ []) []

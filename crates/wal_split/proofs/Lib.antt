@@ -9,4 +9,5 @@ pub mod Grouped
 pub mod Raising
 pub mod LogNumbers
 pub mod Plans
+pub mod Handing
 pub mod AfterSplit

@@ -10,7 +10,7 @@ use Rattle.disk_images.specs.Crash.{DiskView, IsImageNow, Throughout}
 use Rattle.disk_images.specs.Calls.{Renames, Removes, MovedIn, RemovedIn, Renamed}
 use Rattle.disk_images.proofs.Moments.{in_one_call}
 use Rattle.recovery.specs.Change.{HasText}
-use Rattle.recovery.proofs.Names.{name_cases, entries_no_old, store_no_old}
+use Rattle.recovery.proofs.Names.{entries_no_old, store_no_old}
 use Rattle.recovery.proofs.Stores.{flushes_kept}
 use Rattle.recovery.specs.Alike.{AllAlike}
 use Rattle.recovery.specs.OpeningSteps.{AreKept}

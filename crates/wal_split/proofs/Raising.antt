@@ -1,19 +1,11 @@
 -- The flushed numbers of regions, store by store.
-use Rattle.std.proofs.Common.{◌≡◌, ◌≢◌, ◌⊎◌, inl, inr, ℕ, ◌<◌, ◌≤◌, max, List, [], ◌∷◌, ◌++◌, replicate, get_or, slice_set, sym, ap, ◌∙◌, subst, arith, get_or-set_other, get_or-set_same}
+use Rattle.std.proofs.Common.{◌≡◌, ◌≢◌, ◌⊎◌, inl, inr, ℕ, ◌<◌, ◌≤◌, max, List, [], ◌∷◌, ◌++◌, get_or, slice_set, sym, ap, ◌∙◌, subst, arith, get_or-set_other, get_or-set_same}
 use Rattle.std.proofs.Math.ListN.{length-set}
 use Rattle.std.proofs.lemmas.Bool.{cases_eq, cases_lt}
-use Rattle.std.proofs.lemmas.List.{get_or-replicate, length-replicate}
 use Rattle.std.proofs.lemmas.List.Elements.{Contains-append_left, Contains-push, Contains-push_cases}
 use Rattle.log_model.specs.Recovered.{IsGreatest}
 use Rattle.found_files.specs.declared.found.FoundStore.{FoundStore}
-use Rattle.found_files.proofs.Placing.{none_in}
 use Rattle.wal_split.specs.Flushed.{GoesTo, AreFlushed}
-
-pub none_flushed : (flushed : List ℕ) → flushed ≡ replicate 65 0 → AreFlushed [] flushed
-none_flushed flushed is = subst (λ (l : List ℕ). AreFlushed [] l) (sym is) (record {
-  long = length-replicate {A = ℕ} 65 0;
-  each = λ r lt. record { reached = inr (get_or-replicate 65 r 0 0 lt); bound = λ m goes. absurd (none_in goes.0 goes.1) };
-})
 
 max_left : (a b : ℕ) → b < a → max a b ≡ a
 max_left a b lt = omega arith

@@ -43,9 +43,6 @@ none_renamed told v logs = record {
 no_old : kinds.Log ≡ kinds.Old → ⊥
 no_old is = absurd cc
 
-no_log : kinds.Edits ≡ kinds.Log → ⊥
-no_log is = absurd cc
-
 pub edits_other : (logs : List ℕ) (m : Name) → m.kind ≡ kinds.Edits → IsOther logs m
 edits_other logs m kind n has = (λ is. absurd (cc (sym kind ∙ ap (λ (x : Name). x.kind) is)), λ is. absurd (cc (sym kind ∙ ap (λ (x : Name). x.kind) is)))
 

@@ -1,10 +1,9 @@
 //! The entries that are not flushed.
 
-ghost use Rattle.std.specs.Prelude.{◌≡◌, ◌<◌, ◌≤◌, ◌++◌, ◌∷◌, [], ℕ, List, length, Contains, IfOk, OnOk, IsTrue, ◌↔◌};
+ghost use Rattle.std.specs.Prelude.{◌≡◌, ◌<◌, length, IfOk, OnOk, IsTrue, ◌↔◌};
 ghost use Rattle.log_model.specs.Entry.{IsEntry};
-ghost use Rattle.found_files.specs.declared.found.FoundEntry.{FoundEntry as TheFound};
 ghost use Rattle.found_files.specs.Sorted.{AreOrdered, AllAgree};
-ghost use Rattle.wal_split.specs.Unflushed.{AreUnflushedOf, IsNew, Adds, flushed_of};
+ghost use Rattle.wal_split.specs.Unflushed.{AreUnflushedOf, IsNew, Adds};
 
 use entry_frame::Entry;
 use found_files::FoundEntry;

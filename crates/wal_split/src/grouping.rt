@@ -1,6 +1,6 @@
 //! The edits files of a split: one for each region.
 
-ghost use Rattle.std.specs.Prelude.{◌≡◌, ◌≤◌, ◌++◌, ◌∷◌, [], ℕ, IfOk, OnOk, vec_len};
+ghost use Rattle.std.specs.Prelude.{◌≡◌, ◌≤◌, ◌++◌, ◌∷◌, [], IfOk, OnOk, vec_len};
 ghost use Rattle.log_model.specs.Entry.{IsEntry};
 ghost use Rattle.wal_split.specs.Grouped.{AreJobsOf, AreEmptyJobs, AddsTo};
 

@@ -1,6 +1,6 @@
 //! What a split will write and rename, told from what was read.
 
-ghost use Rattle.std.specs.Prelude.{◌≡◌, ◌≤◌, ◌^◌, Contains, IfOk};
+ghost use Rattle.std.specs.Prelude.{◌≤◌, ◌^◌, Contains, IfOk};
 ghost use Rattle.log_model.specs.declared.name.Name.{Name as TheName};
 ghost use Rattle.found_files.specs.declared.found.FoundStore.{FoundStore as TheStore};
 ghost use Rattle.found_files.specs.Sorted.{AreOrdered, AllAgree};

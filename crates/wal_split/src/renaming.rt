@@ -1,6 +1,6 @@
 //! Logs become old logs.
 
-ghost use Rattle.std.specs.Prelude.{◌≡◌, ◌≤◌, ◌<◌, ◌+◌, ℕ, List, Contains, length, IsTrue, OnOk, IsErr};
+ghost use Rattle.std.specs.Prelude.{◌≡◌, ◌<◌, ℕ, Contains, length, IsTrue, OnOk, IsErr};
 ghost use Rattle.log_model.specs.declared.name.Name.{Name as TheName};
 ghost use Rattle.log_model.specs.Files.{Files, IsAbsent, content};
 ghost use Rattle.disk_images.specs.Crash.{Throughout};

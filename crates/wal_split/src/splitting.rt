@@ -1,6 +1,6 @@
 //! The steps of a split that change files.
 
-ghost use Rattle.std.specs.Prelude.{◌≡◌, ◌≤◌, ◌+◌, ℕ, Contains, None, IsTrue, OnOk, IsErrOf};
+ghost use Rattle.std.specs.Prelude.{◌≡◌, ℕ, Contains, None, IsTrue, OnOk, IsErrOf};
 ghost use Rattle.log_model.specs.declared.name.Name.{Name as TheName};
 ghost use Rattle.log_model.specs.Entry.{Entry as TheEntry};
 ghost use Rattle.log_model.specs.Files.{Files, IsAbsent, content};

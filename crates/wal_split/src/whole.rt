@@ -1,10 +1,9 @@
 //! The split of a store.
 
-ghost use Rattle.std.specs.Prelude.{◌≡◌, ℕ, length, Contains, IsTrue, IfOk, OnOk, IsErrOf};
+ghost use Rattle.std.specs.Prelude.{◌≡◌, IsTrue, IfOk, OnOk, IsErrOf};
 ghost use Rattle.std.specs.FinMap.{keys};
-ghost use Rattle.log_model.specs.Files.{Files, IsFit, IsSound};
+ghost use Rattle.log_model.specs.Files.{IsFit, IsSound};
 ghost use Rattle.log_model.specs.Damage.{IsDamage};
-ghost use Rattle.disk_images.specs.Crash.{Throughout};
 ghost use Rattle.disk_images.specs.Calls.{HasCause};
 ghost use Rattle.disk_images.specs.Settled.{IsSettled};
 ghost use Rattle.recovery.specs.Alike.{AllAlike, StoresStand};
@@ -47,6 +46,7 @@ pub fn split<D: Disk>(alloc: Global, disk: &mut D) -> Result<SplitReport, SplitR
     ensures report { IsTrue D.told → IfOk result (λ report. (report.logs ≡ log_count (D.view disk.old).files) × Counts (D.view disk.old).files report.entries) }
     // Damage is told exactly where the files aren't sound.
     ensures sound { IsTrue D.told → OnOk result (IsSound (D.view disk.old).files) }
+    ensures unsound { IsTrue D.told → IfDamage result (λ damage. ¬ IsSound (D.view disk.old).files) }
     ensures damaged { IsTrue D.told
         → IfDamage result (λ damage. IsDamage (D.view disk.old).files damage × ((D.view disk.new).files ≡ (D.view disk.old).files)) }
     ensures cause { HasCause (D.faults disk.old) (D.faults disk.new) (IsErrOf result SplitRefusal.DiskFault) }
@@ -74,6 +74,7 @@ pub fn split_read<D: Disk>(alloc: Global, disk: &mut D) -> Result<SplitFiles, Sp
     ensures found { IsTrue D.told → IfOk result (λ x. x.names ≡ keys (D.view disk.old).files) }
     ensures names { IsTrue D.told → OnOk result (AtMostOneHigher (D.view disk.old).files (D.view disk.new).files) }
     ensures sound { IsTrue D.told → OnOk result (IsSound (D.view disk.old).files) }
+    ensures unsound { IsTrue D.told → IfDamage result (λ damage. ¬ IsSound (D.view disk.old).files) }
     ensures damaged { IsTrue D.told
         → IfDamage result (λ damage. IsDamage (D.view disk.old).files damage × ((D.view disk.new).files ≡ (D.view disk.old).files)) }
     ensures cause { HasCause (D.faults disk.old) (D.faults disk.new) (IsErrOf result SplitRefusal.DiskFault) }

@@ -1,11 +1,12 @@
 use Rattle.std.proofs.Common.{◌≡◌, IsTrue, List, Contains, take, get_or, sym, subst, arith}
+use Rattle.std.specs.FinMap.{keys}
 use Rattle.std.proofs.lemmas.List.{take_more}
 use Rattle.std.proofs.lemmas.List.Elements.{Contains-get_or}
 use Rattle.log_model.specs.declared.name.Name.{Name}
 use Rattle.log_model.specs.declared.name.NameKind.TheVariants as kinds
-use Rattle.log_model.specs.Files.{Files}
+use Rattle.log_model.specs.Files.{Files, IsSound}
 use Rattle.log_model.specs.Damage.{IsDamage}
-use Rattle.disk_images.proofs.Settled.{read_of}
+use Rattle.disk_images.proofs.Settled.{read_of, there_of}
 use Rattle.found_files.specs.declared.found.FoundFiles.{FoundFiles}
 use Rattle.found_files.specs.Found.{AreRead}
 use Rattle.found_files.specs.Checked.{TellsOne}
@@ -13,7 +14,7 @@ use Rattle.found_files.proofs.ReadSteps.{one_read}
 use Rattle.found_files.proofs.Told.{handed_on}
 use Rattle.found_files.proofs.NameOrder.{below_this}
 use Rattle.found_files.proofs.Watched.{watched_on, reads_now}
-use Rattle.found_files.proofs.Whole.{first_told}
+use Rattle.found_files.proofs.Whole.{first_told, unsound_one}
 use Rattle.found_files.proofs.checking.read_checked.Goals as goal
 
 abbrev some_name : Name
@@ -45,6 +46,20 @@ returns-in_err-read_one-clause-damaged g c told =
     handed_on (Unit {0}) FoundFiles (TellsOne v.files names (get_or names i some_name)) (IsDamage u.files) c.in_err-read_one.field-0.0 c.from_residual-in_err-read_one.result h.0 h.1
     (λ d tells. first_told (IsTrue g.D.Disk.told) u.files names i some_name c.loop-name.found.entries.items c.loop-name.found.stores.items told (c.requires.names told) c.loop-name-test.true c.loop-name.invariant.read d
     (subst (λ (f : Files). TellsOne f names (get_or names i some_name) d) same tells))
+    (c.in_err-read_one.ensures.damaged told names (rw c.deref.ensures.value c.in_ok-olds.ensures))
+
+pub returns-in_err-read_one-clause-unsound : goal.returns-in_err-read_one-clause-unsound
+returns-in_err-read_one-clause-unsound g c told =
+    let u = g.D.Disk.view c.args.disk.now in
+    let v = g.D.Disk.view c.loop-name.disk in
+    let names = c.args.names.now in
+    let i = c.loop-name.name-index in
+    let this : Name = get_or names i some_name in
+    let all : names ≡ keys u.files = c.requires.names told in
+    let h = c.from_residual-in_err-read_one.ensures in
+    handed_on (Unit {0}) FoundFiles (TellsOne v.files names this) (λ d. ¬ IsSound u.files) c.in_err-read_one.field-0.0 c.from_residual-in_err-read_one.result h.0 h.1
+    (λ d tells. unsound_one u.files this d (there_of u.files this (subst (λ (l : List Name). Contains l this) all (Contains-get_or names i some_name c.loop-name-test.true)))
+    (subst (λ (l : List Name). TellsOne u.files l this d) all (subst (λ (f : Files). TellsOne f names this d) (c.loop-name.invariant.watches told).1.files tells)))
     (c.in_err-read_one.ensures.damaged told names (rw c.deref.ensures.value c.in_ok-olds.ensures))
 
 pub loop-name-preserved : goal.loop-name-preserved

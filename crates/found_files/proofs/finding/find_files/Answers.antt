@@ -5,7 +5,7 @@ use Rattle.found_files.specs.Found.{AreRead}
 use Rattle.found_files.specs.Sorted.{AllAgree, IsFirstPair}
 use Rattle.found_files.proofs.Watched.{watched_on}
 use Rattle.found_files.proofs.Sound.{found_read, are_sound}
-use Rattle.found_files.proofs.Disagreeing.{pair_told}
+use Rattle.found_files.proofs.Disagreeing.{pair_told, pair_unsound}
 use Rattle.found_files.proofs.finding.find_files.Goals as goal
 
 pub returns-in_err-files-clause-watches : goal.returns-in_err-files-clause-watches
@@ -29,6 +29,17 @@ returns-in-Some-clause-damaged g c told =
     let read = found_read (IsTrue g.D.Disk.told) v.files u.files (λ is_told. (c.barrier.ensures.watches is_told).1.files) c.in_ok-names.names c.as_slice.result.now c.as_slice.ensures c.in_ok-files.files.entries.items es c.in_ok-files.files.stores.items ss
     c.in_ok-files-2.ensures.same c.in_ok-files-2.ensures.stores c.in_ok-files.ensures.read in
     pair_told (IsTrue g.D.Disk.told) told u.files es ss (subst (λ (l : List Name). AreRead (IsTrue g.D.Disk.told) u.files l l es ss) (c.in_ok-names.ensures.names told) read) c.in_ok-files-2.ensures.ordered c.in-Some.damage
+    (subst (λ (l : List FoundEntry). IsFirstPair l c.in-Some.damage) c.deref.ensures.value c.in-Some.ensures)
+
+pub returns-in-Some-clause-unsound : goal.returns-in-Some-clause-unsound
+returns-in-Some-clause-unsound g c told =
+    let u = g.D.Disk.view c.args.disk.now in
+    let v = g.D.Disk.view c.barrier.new.disk in
+    let es = c.in_ok-files-2.files.entries.items in
+    let ss = c.in_ok-files-2.files.stores.items in
+    let read = found_read (IsTrue g.D.Disk.told) v.files u.files (λ is_told. (c.barrier.ensures.watches is_told).1.files) c.in_ok-names.names c.as_slice.result.now c.as_slice.ensures c.in_ok-files.files.entries.items es c.in_ok-files.files.stores.items ss
+    c.in_ok-files-2.ensures.same c.in_ok-files-2.ensures.stores c.in_ok-files.ensures.read in
+    pair_unsound (IsTrue g.D.Disk.told) told u.files es ss (subst (λ (l : List Name). AreRead (IsTrue g.D.Disk.told) u.files l l es ss) (c.in_ok-names.ensures.names told) read) c.in_ok-files-2.ensures.ordered c.in-Some.damage
     (subst (λ (l : List FoundEntry). IsFirstPair l c.in-Some.damage) c.deref.ensures.value c.in-Some.ensures)
 
 pub returns-in-None-clause-read : goal.returns-in-None-clause-read

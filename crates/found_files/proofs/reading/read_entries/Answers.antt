@@ -1,6 +1,7 @@
 use Rattle.std.proofs.Common.{refl}
 use Rattle.disk_images.proofs.Reading.{reads_some}
 use Rattle.log_model.specs.Damage.HasDamage.{Logged}
+use Rattle.log_model.proofs.DamageLaws.{no_damaged_log}
 use Rattle.found_files.proofs.Watched.{watched}
 use Rattle.found_files.proofs.reading.read_entries.Goals as goal
 
@@ -22,7 +23,8 @@ returns-in-Err-Damaged-clause-watches g c told = watched (g.D.Disk.view c.args.d
 pub returns-in-Err-Damaged-clause-damaged : goal.returns-in-Err-Damaged-clause-damaged
 returns-in-Err-Damaged-clause-damaged g c told =
     let r = reads_some (g.D.Disk.view c.args.disk.now).files c.args.name (c.requires.there told) in
-    (c.in-Err-Damaged.at, refl, Logged r.0 r.1 c.requires.kind (rw c.in-Err-Damaged.field-0-is at (c.in-Err-Damaged.ensures.damaged told r.0 r.1)))
+    let hurt = rw c.in-Err-Damaged.field-0-is at (c.in-Err-Damaged.ensures.damaged told r.0 r.1) in
+    (c.in-Err-Damaged.at, refl, Logged r.0 r.1 c.requires.kind hurt, λ sound. no_damaged_log (g.D.Disk.view c.args.disk.now).files c.args.name r.0 c.in-Err-Damaged.at sound c.requires.kind r.1 hurt)
 
 pub returns-in_ok-add_entries-in-Ok-clause-read : goal.returns-in_ok-add_entries-in-Ok-clause-read
 returns-in_ok-add_entries-in-Ok-clause-read g c = record {

@@ -1,6 +1,7 @@
 use Rattle.std.proofs.Common.{IsTrue, refl}
 use Rattle.disk_images.proofs.Reading.{reads_some}
 use Rattle.log_model.specs.Damage.HasDamage.{Stored}
+use Rattle.log_model.proofs.DamageLaws.{no_damaged_store}
 use Rattle.found_files.specs.declared.found.FoundStore.{FoundStore}
 use Rattle.found_files.proofs.Watched.{watched, watched_on, there_now, reads_now}
 use Rattle.found_files.proofs.OneStore.{store_added, store_not_there}
@@ -56,7 +57,8 @@ returns-in-Err-Damaged-clause-damaged g c told =
     let u = g.D.Disk.view c.args.disk.now in
     let v = g.D.Disk.view c.size_of_file.new.disk in
     let r = reads_some u.files c.args.name (c.requires.there told) in
-    (c.in-Err-Damaged.at, refl, Stored r.0 r.1 c.requires.kind (rw c.in-Err-Damaged.field-0-is at (c.in-Err-Damaged.ensures.damaged told r.0 (reads_now u v c.args.name r.0 (c.size_of_file.ensures.files told) r.1))))
+    let hurt = rw c.in-Err-Damaged.field-0-is at (c.in-Err-Damaged.ensures.damaged told r.0 (reads_now u v c.args.name r.0 (c.size_of_file.ensures.files told) r.1)) in
+    (c.in-Err-Damaged.at, refl, Stored r.0 r.1 c.requires.kind hurt, λ sound. no_damaged_store u.files c.args.name r.0 c.in-Err-Damaged.at sound (c.in_ok-_size.ensures.small told r.0 r.1) c.requires.kind r.1 hurt)
 
 pub returns-in_ok-push-in-Ok-Some-clause-read : goal.returns-in_ok-push-in-Ok-Some-clause-read
 returns-in_ok-push-in-Ok-Some-clause-read g c =

@@ -1,4 +1,4 @@
-use Rattle.std.proofs.Common.{◌≤◌, ◌+◌, ◌++◌, ◌∙◌, inl, List, Contains, sym, ap, subst, arith}
+use Rattle.std.proofs.Common.{◌≤◌, ◌+◌, ◌∙◌, inl, List, Contains, sym, ap, subst, arith}
 use Rattle.std.specs.FinMap.{empty}
 use Rattle.std.specs.List.{AllByRecursion}
 use Rattle.cell_model.specs.Order.{NumberedCell}

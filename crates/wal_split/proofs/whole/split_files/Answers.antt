@@ -1,4 +1,4 @@
-use Rattle.std.proofs.Common.{◌≡◌, ◌∙◌, ℕ, IsTrue, List, Contains, None, length, sym, ap, subst}
+use Rattle.std.proofs.Common.{◌≡◌, ℕ, IsTrue, List, Contains, None, length, sym, ap, subst}
 use Rattle.log_model.specs.declared.name.Name.{Name}
 use Rattle.log_model.specs.Entry.{Entry}
 use Rattle.log_model.specs.Files.{IsAbsent, content}
@@ -6,16 +6,15 @@ use Rattle.disk_images.proofs.Moments.{at_once}
 use Rattle.recovery.specs.Change.{HasText}
 use Rattle.recovery.specs.Alike.{AllAlike}
 use Rattle.found_files.specs.declared.found.FoundStore.{FoundStore}
-use Rattle.found_files.specs.Found.{AreRead}
 use Rattle.wal_split.specs.declared.job.EditsJob.{EditsJob}
 use Rattle.wal_split.specs.declared.split_files.SplitFiles.{SplitFiles}
 use Rattle.wal_split.specs.Held.{IsHeld}
-use Rattle.wal_split.specs.Jobs.{AreJobs, AreFreeNames, AllLogged, IsNoJob}
+use Rattle.wal_split.specs.Jobs.{AreJobs, AreFreeNames, IsNoJob}
 use Rattle.wal_split.specs.Logs.{AreFree, AreRising, IsOther, log_name}
-use Rattle.wal_split.specs.Covered.{LogsCovered}
 use Rattle.wal_split.specs.Planned.{IsPlan}
+use Rattle.wal_split.proofs.Handing.{of_files, handed}
 use Rattle.wal_split.proofs.Holding.{settled_held}
-use Rattle.wal_split.proofs.Plans.{numbers_low, regions_low, are_jobs, are_free_names, are_free, are_rising, all_logged, logs_covered, counted, no_log_left, olds_left, small_left, given_left, held_here}
+use Rattle.wal_split.proofs.Plans.{numbers_low, regions_low, are_jobs, are_free_names, are_free, are_rising, counted, no_log_left, olds_left, small_left, given_left, held_here}
 use Rattle.wal_split.proofs.AfterSplit.{in_range, are_left, one_higher}
 use Rattle.wal_split.proofs.whole.split_files.Goals as goal
 
@@ -49,10 +48,9 @@ split_found-requires-clause-free g c told =
     let xs = found.files.entries.items in
     let ss = found.files.stores.items in
     let p = c.in_ok-plan.plan in
-    let read = subst (λ (l : List Name). AreRead (IsTrue g.D.Disk.told) u.files l l xs ss) (c.requires.names told) c.requires.read in
-    let plan = subst (λ (l : List Name). IsPlan l xs ss p) (c.as_slice.ensures ∙ c.requires.names told) (subst (λ (l : List FoundStore). IsPlan c.as_slice.result.now xs l p) c.deref.ensures.value c.in_ok-plan.ensures) in
+    let both = of_files (IsTrue g.D.Disk.told) u.files found.names c.as_slice.result.now xs ss c.deref.result.now p (c.requires.names told) c.as_slice.ensures c.deref.ensures.value c.requires.read c.in_ok-plan.ensures in
     let true_disk = g.met.D.Disk.is_true c.args.disk.now told in
-    subst (λ (l : List EditsJob). AreFreeNames u l) (sym (c.deref-2.ensures.value)) (are_free_names (IsTrue g.D.Disk.told) told u true_disk (c.requires.settled told) xs ss p read plan)
+    subst (λ (l : List EditsJob). AreFreeNames u l) (sym (c.deref-2.ensures.value)) (are_free_names (IsTrue g.D.Disk.told) told u true_disk (c.requires.settled told) xs ss p both.0 both.1)
 
 pub split_found-requires-clause-logs : goal.split_found-requires-clause-logs
 split_found-requires-clause-logs g c told =
@@ -61,10 +59,9 @@ split_found-requires-clause-logs g c told =
     let xs = found.files.entries.items in
     let ss = found.files.stores.items in
     let p = c.in_ok-plan.plan in
-    let read = subst (λ (l : List Name). AreRead (IsTrue g.D.Disk.told) u.files l l xs ss) (c.requires.names told) c.requires.read in
-    let plan = subst (λ (l : List Name). IsPlan l xs ss p) (c.as_slice.ensures ∙ c.requires.names told) (subst (λ (l : List FoundStore). IsPlan c.as_slice.result.now xs l p) c.deref.ensures.value c.in_ok-plan.ensures) in
+    let both = of_files (IsTrue g.D.Disk.told) u.files found.names c.as_slice.result.now xs ss c.deref.result.now p (c.requires.names told) c.as_slice.ensures c.deref.ensures.value c.requires.read c.in_ok-plan.ensures in
     let true_disk = g.met.D.Disk.is_true c.args.disk.now told in
-    ∣ subst (λ (l : List ℕ). AreFree u l) (sym (c.deref-3.ensures.value)) (are_free (IsTrue g.D.Disk.told) told u true_disk (c.requires.settled told) xs ss p read plan) ∣₁
+    ∣ subst (λ (l : List ℕ). AreFree u l) (sym (c.deref-3.ensures.value)) (are_free (IsTrue g.D.Disk.told) told u true_disk (c.requires.settled told) xs ss p both.0 both.1) ∣₁
 
 pub split_found-requires-clause-rising : goal.split_found-requires-clause-rising
 split_found-requires-clause-rising g c told =
@@ -73,10 +70,9 @@ split_found-requires-clause-rising g c told =
     let xs = found.files.entries.items in
     let ss = found.files.stores.items in
     let p = c.in_ok-plan.plan in
-    let read = subst (λ (l : List Name). AreRead (IsTrue g.D.Disk.told) u.files l l xs ss) (c.requires.names told) c.requires.read in
-    let plan = subst (λ (l : List Name). IsPlan l xs ss p) (c.as_slice.ensures ∙ c.requires.names told) (subst (λ (l : List FoundStore). IsPlan c.as_slice.result.now xs l p) c.deref.ensures.value c.in_ok-plan.ensures) in
+    let both = of_files (IsTrue g.D.Disk.told) u.files found.names c.as_slice.result.now xs ss c.deref.result.now p (c.requires.names told) c.as_slice.ensures c.deref.ensures.value c.requires.read c.in_ok-plan.ensures in
     let true_disk = g.met.D.Disk.is_true c.args.disk.now told in
-    subst (λ (l : List ℕ). AreRising l) (sym (c.deref-3.ensures.value)) (are_rising (IsTrue g.D.Disk.told) told u true_disk (c.requires.settled told) xs ss p read plan)
+    subst (λ (l : List ℕ). AreRising l) (sym (c.deref-3.ensures.value)) (are_rising (IsTrue g.D.Disk.told) told u true_disk (c.requires.settled told) xs ss p both.0 both.1)
 
 pub returns-in-Ok-clause-any_moment : goal.returns-in-Ok-clause-any_moment
 returns-in-Ok-clause-any_moment g c told =
@@ -85,16 +81,11 @@ returns-in-Ok-clause-any_moment g c told =
     let xs = found.files.entries.items in
     let ss = found.files.stores.items in
     let p = c.in_ok-plan.plan in
-    let read = subst (λ (l : List Name). AreRead (IsTrue g.D.Disk.told) u.files l l xs ss) (c.requires.names told) c.requires.read in
-    let plan = subst (λ (l : List Name). IsPlan l xs ss p) (c.as_slice.ensures ∙ c.requires.names told) (subst (λ (l : List FoundStore). IsPlan c.as_slice.result.now xs l p) c.deref.ensures.value c.in_ok-plan.ensures) in
+    let both = of_files (IsTrue g.D.Disk.told) u.files found.names c.as_slice.result.now xs ss c.deref.result.now p (c.requires.names told) c.as_slice.ensures c.deref.ensures.value c.requires.read c.in_ok-plan.ensures in
     let true_disk = g.met.D.Disk.is_true c.args.disk.now told in
-    let w = g.D.Disk.view c.split_found.new.disk in
-    let js : c.deref-2.result.now ≡ p.jobs.items = c.deref-2.ensures.value in
-    let ls : c.deref-3.result.now ≡ p.logs.items = c.deref-3.ensures.value in
     let held : IsHeld u.files u = settled_held u (c.requires.settled told) (c.requires.fit told) in
-    let logged : AllLogged u.files c.deref-2.result.now = subst (λ (l : List EditsJob). AllLogged u.files l) (sym js) (all_logged (IsTrue g.D.Disk.told) told u true_disk (c.requires.settled told) xs ss p read plan) in
-    let covered : LogsCovered u.files c.deref-2.result.now c.deref-3.result.now = subst (λ (l : List EditsJob). LogsCovered u.files l c.deref-3.result.now) (sym js) (subst (λ (l : List ℕ). LogsCovered u.files p.jobs.items l) (sym ls) (logs_covered (IsTrue g.D.Disk.told) told u true_disk (c.requires.settled told) xs ss p read plan)) in
-    c.split_found.ensures.any_moment told u.files held logged covered
+    let given = handed (IsTrue g.D.Disk.told) told u true_disk (c.requires.settled told) xs ss p both.0 both.1 c.deref-2.result.now c.deref-3.result.now c.deref-2.ensures.value c.deref-3.ensures.value in
+    c.split_found.ensures.any_moment told u.files held given.0 given.1
 
 pub returns-in-Err-Memory-clause-any_moment : goal.returns-in-Err-Memory-clause-any_moment
 returns-in-Err-Memory-clause-any_moment g c told =
@@ -103,16 +94,11 @@ returns-in-Err-Memory-clause-any_moment g c told =
     let xs = found.files.entries.items in
     let ss = found.files.stores.items in
     let p = c.in_ok-plan.plan in
-    let read = subst (λ (l : List Name). AreRead (IsTrue g.D.Disk.told) u.files l l xs ss) (c.requires.names told) c.requires.read in
-    let plan = subst (λ (l : List Name). IsPlan l xs ss p) (c.as_slice.ensures ∙ c.requires.names told) (subst (λ (l : List FoundStore). IsPlan c.as_slice.result.now xs l p) c.deref.ensures.value c.in_ok-plan.ensures) in
+    let both = of_files (IsTrue g.D.Disk.told) u.files found.names c.as_slice.result.now xs ss c.deref.result.now p (c.requires.names told) c.as_slice.ensures c.deref.ensures.value c.requires.read c.in_ok-plan.ensures in
     let true_disk = g.met.D.Disk.is_true c.args.disk.now told in
-    let w = g.D.Disk.view c.split_found.new.disk in
-    let js : c.deref-2.result.now ≡ p.jobs.items = c.deref-2.ensures.value in
-    let ls : c.deref-3.result.now ≡ p.logs.items = c.deref-3.ensures.value in
     let held : IsHeld u.files u = settled_held u (c.requires.settled told) (c.requires.fit told) in
-    let logged : AllLogged u.files c.deref-2.result.now = subst (λ (l : List EditsJob). AllLogged u.files l) (sym js) (all_logged (IsTrue g.D.Disk.told) told u true_disk (c.requires.settled told) xs ss p read plan) in
-    let covered : LogsCovered u.files c.deref-2.result.now c.deref-3.result.now = subst (λ (l : List EditsJob). LogsCovered u.files l c.deref-3.result.now) (sym js) (subst (λ (l : List ℕ). LogsCovered u.files p.jobs.items l) (sym ls) (logs_covered (IsTrue g.D.Disk.told) told u true_disk (c.requires.settled told) xs ss p read plan)) in
-    c.split_found.ensures.any_moment told u.files held logged covered
+    let given = handed (IsTrue g.D.Disk.told) told u true_disk (c.requires.settled told) xs ss p both.0 both.1 c.deref-2.result.now c.deref-3.result.now c.deref-2.ensures.value c.deref-3.ensures.value in
+    c.split_found.ensures.any_moment told u.files held given.0 given.1
 
 pub returns-clause-any_moment : goal.returns-clause-any_moment
 returns-clause-any_moment g c told =
@@ -121,16 +107,11 @@ returns-clause-any_moment g c told =
     let xs = found.files.entries.items in
     let ss = found.files.stores.items in
     let p = c.in_ok-plan.plan in
-    let read = subst (λ (l : List Name). AreRead (IsTrue g.D.Disk.told) u.files l l xs ss) (c.requires.names told) c.requires.read in
-    let plan = subst (λ (l : List Name). IsPlan l xs ss p) (c.as_slice.ensures ∙ c.requires.names told) (subst (λ (l : List FoundStore). IsPlan c.as_slice.result.now xs l p) c.deref.ensures.value c.in_ok-plan.ensures) in
+    let both = of_files (IsTrue g.D.Disk.told) u.files found.names c.as_slice.result.now xs ss c.deref.result.now p (c.requires.names told) c.as_slice.ensures c.deref.ensures.value c.requires.read c.in_ok-plan.ensures in
     let true_disk = g.met.D.Disk.is_true c.args.disk.now told in
-    let w = g.D.Disk.view c.split_found.new.disk in
-    let js : c.deref-2.result.now ≡ p.jobs.items = c.deref-2.ensures.value in
-    let ls : c.deref-3.result.now ≡ p.logs.items = c.deref-3.ensures.value in
     let held : IsHeld u.files u = settled_held u (c.requires.settled told) (c.requires.fit told) in
-    let logged : AllLogged u.files c.deref-2.result.now = subst (λ (l : List EditsJob). AllLogged u.files l) (sym js) (all_logged (IsTrue g.D.Disk.told) told u true_disk (c.requires.settled told) xs ss p read plan) in
-    let covered : LogsCovered u.files c.deref-2.result.now c.deref-3.result.now = subst (λ (l : List EditsJob). LogsCovered u.files l c.deref-3.result.now) (sym js) (subst (λ (l : List ℕ). LogsCovered u.files p.jobs.items l) (sym ls) (logs_covered (IsTrue g.D.Disk.told) told u true_disk (c.requires.settled told) xs ss p read plan)) in
-    c.split_found.ensures.any_moment told u.files held logged covered
+    let given = handed (IsTrue g.D.Disk.told) told u true_disk (c.requires.settled told) xs ss p both.0 both.1 c.deref-2.result.now c.deref-3.result.now c.deref-2.ensures.value c.deref-3.ensures.value in
+    c.split_found.ensures.any_moment told u.files held given.0 given.1
 
 pub returns-in-Ok-clause-split : goal.returns-in-Ok-clause-split
 returns-in-Ok-clause-split g c told =
@@ -139,23 +120,21 @@ returns-in-Ok-clause-split g c told =
     let xs = found.files.entries.items in
     let ss = found.files.stores.items in
     let p = c.in_ok-plan.plan in
-    let read = subst (λ (l : List Name). AreRead (IsTrue g.D.Disk.told) u.files l l xs ss) (c.requires.names told) c.requires.read in
-    let plan = subst (λ (l : List Name). IsPlan l xs ss p) (c.as_slice.ensures ∙ c.requires.names told) (subst (λ (l : List FoundStore). IsPlan c.as_slice.result.now xs l p) c.deref.ensures.value c.in_ok-plan.ensures) in
+    let both = of_files (IsTrue g.D.Disk.told) u.files found.names c.as_slice.result.now xs ss c.deref.result.now p (c.requires.names told) c.as_slice.ensures c.deref.ensures.value c.requires.read c.in_ok-plan.ensures in
     let true_disk = g.met.D.Disk.is_true c.args.disk.now told in
     let w = g.D.Disk.view c.split_found.new.disk in
     let js : c.deref-2.result.now ≡ p.jobs.items = c.deref-2.ensures.value in
     let ls : c.deref-3.result.now ≡ p.logs.items = c.deref-3.ensures.value in
     let held : IsHeld u.files u = settled_held u (c.requires.settled told) (c.requires.fit told) in
-    let logged : AllLogged u.files c.deref-2.result.now = subst (λ (l : List EditsJob). AllLogged u.files l) (sym js) (all_logged (IsTrue g.D.Disk.told) told u true_disk (c.requires.settled told) xs ss p read plan) in
-    let covered : LogsCovered u.files c.deref-2.result.now c.deref-3.result.now = subst (λ (l : List EditsJob). LogsCovered u.files l c.deref-3.result.now) (sym js) (subst (λ (l : List ℕ). LogsCovered u.files p.jobs.items l) (sym ls) (logs_covered (IsTrue g.D.Disk.told) told u true_disk (c.requires.settled told) xs ss p read plan)) in
+    let given = handed (IsTrue g.D.Disk.told) told u true_disk (c.requires.settled told) xs ss p both.0 both.1 c.deref-2.result.now c.deref-3.result.now c.deref-2.ensures.value c.deref-3.ensures.value in
     let others : (m : Name) → IsNoJob p.jobs.items m → IsOther p.logs.items m → content w.files m ≡ content u.files m =
     λ m no_job other. c.in-Ok.ensures.others told m (λ j has. no_job j (subst (λ (l : List EditsJob). Contains l j) js has)) (λ n has. other n (subst (λ (l : List ℕ). Contains l n) ls has)) in
     let gone : (n : ℕ) → Contains p.logs.items n → IsAbsent w.files (log_name n) = λ n has. c.in-Ok.ensures.gone told n (subst (λ (l : List ℕ). Contains l n) (sym ls) has) in
     record {
-      held = held_here u.files w (g.met.D.Disk.is_true c.split_found.new.disk told) (c.in-Ok.ensures.held told u.files held logged covered);
-      no_logs = no_log_left (IsTrue g.D.Disk.told) told u true_disk (c.requires.settled told) xs ss p read plan w others gone;
-      small = small_left (IsTrue g.D.Disk.told) told u true_disk (c.requires.settled told) xs ss p read plan w others gone;
-      given = given_left (IsTrue g.D.Disk.told) told u true_disk (c.requires.settled told) xs ss p read plan w others gone;
+      held = held_here u.files w (g.met.D.Disk.is_true c.split_found.new.disk told) (c.in-Ok.ensures.held told u.files held given.0 given.1);
+      no_logs = no_log_left (IsTrue g.D.Disk.told) told u true_disk (c.requires.settled told) xs ss p both.0 both.1 w others gone;
+      small = small_left (IsTrue g.D.Disk.told) told u true_disk (c.requires.settled told) xs ss p both.0 both.1 w others gone;
+      given = given_left (IsTrue g.D.Disk.told) told u true_disk (c.requires.settled told) xs ss p both.0 both.1 w others gone;
     }
 
 pub returns-in-Ok-clause-alike : goal.returns-in-Ok-clause-alike
@@ -165,16 +144,12 @@ returns-in-Ok-clause-alike g c told =
     let xs = found.files.entries.items in
     let ss = found.files.stores.items in
     let p = c.in_ok-plan.plan in
-    let read = subst (λ (l : List Name). AreRead (IsTrue g.D.Disk.told) u.files l l xs ss) (c.requires.names told) c.requires.read in
-    let plan = subst (λ (l : List Name). IsPlan l xs ss p) (c.as_slice.ensures ∙ c.requires.names told) (subst (λ (l : List FoundStore). IsPlan c.as_slice.result.now xs l p) c.deref.ensures.value c.in_ok-plan.ensures) in
+    let both = of_files (IsTrue g.D.Disk.told) u.files found.names c.as_slice.result.now xs ss c.deref.result.now p (c.requires.names told) c.as_slice.ensures c.deref.ensures.value c.requires.read c.in_ok-plan.ensures in
     let true_disk = g.met.D.Disk.is_true c.args.disk.now told in
     let w = g.D.Disk.view c.split_found.new.disk in
-    let js : c.deref-2.result.now ≡ p.jobs.items = c.deref-2.ensures.value in
-    let ls : c.deref-3.result.now ≡ p.logs.items = c.deref-3.ensures.value in
     let held : IsHeld u.files u = settled_held u (c.requires.settled told) (c.requires.fit told) in
-    let logged : AllLogged u.files c.deref-2.result.now = subst (λ (l : List EditsJob). AllLogged u.files l) (sym js) (all_logged (IsTrue g.D.Disk.told) told u true_disk (c.requires.settled told) xs ss p read plan) in
-    let covered : LogsCovered u.files c.deref-2.result.now c.deref-3.result.now = subst (λ (l : List EditsJob). LogsCovered u.files l c.deref-3.result.now) (sym js) (subst (λ (l : List ℕ). LogsCovered u.files p.jobs.items l) (sym ls) (logs_covered (IsTrue g.D.Disk.told) told u true_disk (c.requires.settled told) xs ss p read plan)) in
-    (c.in-Ok.ensures.held told u.files held logged covered).alike w.files (g.met.D.Disk.is_true c.split_found.new.disk told).reads
+    let given = handed (IsTrue g.D.Disk.told) told u true_disk (c.requires.settled told) xs ss p both.0 both.1 c.deref-2.result.now c.deref-3.result.now c.deref-2.ensures.value c.deref-3.ensures.value in
+    (c.in-Ok.ensures.held told u.files held given.0 given.1).alike w.files (g.met.D.Disk.is_true c.split_found.new.disk told).reads
 
 pub returns-in-Ok-clause-olds : goal.returns-in-Ok-clause-olds
 returns-in-Ok-clause-olds g c told =
@@ -183,8 +158,7 @@ returns-in-Ok-clause-olds g c told =
     let xs = found.files.entries.items in
     let ss = found.files.stores.items in
     let p = c.in_ok-plan.plan in
-    let read = subst (λ (l : List Name). AreRead (IsTrue g.D.Disk.told) u.files l l xs ss) (c.requires.names told) c.requires.read in
-    let plan = subst (λ (l : List Name). IsPlan l xs ss p) (c.as_slice.ensures ∙ c.requires.names told) (subst (λ (l : List FoundStore). IsPlan c.as_slice.result.now xs l p) c.deref.ensures.value c.in_ok-plan.ensures) in
+    let both = of_files (IsTrue g.D.Disk.told) u.files found.names c.as_slice.result.now xs ss c.deref.result.now p (c.requires.names told) c.as_slice.ensures c.deref.ensures.value c.requires.read c.in_ok-plan.ensures in
     let true_disk = g.met.D.Disk.is_true c.args.disk.now told in
     let w = g.D.Disk.view c.split_found.new.disk in
     let js : c.deref-2.result.now ≡ p.jobs.items = c.deref-2.ensures.value in
@@ -192,7 +166,7 @@ returns-in-Ok-clause-olds g c told =
     let others : (m : Name) → IsNoJob p.jobs.items m → IsOther p.logs.items m → content w.files m ≡ content u.files m =
     λ m no_job other. c.in-Ok.ensures.others told m (λ j has. no_job j (subst (λ (l : List EditsJob). Contains l j) js has)) (λ n has. other n (subst (λ (l : List ℕ). Contains l n) ls has)) in
     let gone : (n : ℕ) → Contains p.logs.items n → IsAbsent w.files (log_name n) = λ n has. c.in-Ok.ensures.gone told n (subst (λ (l : List ℕ). Contains l n) (sym ls) has) in
-    olds_left (IsTrue g.D.Disk.told) told u true_disk (c.requires.settled told) xs ss p read plan w others gone (λ n has. c.in-Ok.ensures.moved told n (subst (λ (l : List ℕ). Contains l n) (sym ls) has))
+    olds_left (IsTrue g.D.Disk.told) told u true_disk (c.requires.settled told) xs ss p both.0 both.1 w others gone (λ n has. c.in-Ok.ensures.moved told n (subst (λ (l : List ℕ). Contains l n) (sym ls) has))
 
 pub returns-in-Ok-clause-counts : goal.returns-in-Ok-clause-counts
 returns-in-Ok-clause-counts g c told =
@@ -201,10 +175,9 @@ returns-in-Ok-clause-counts g c told =
     let xs = found.files.entries.items in
     let ss = found.files.stores.items in
     let p = c.in_ok-plan.plan in
-    let read = subst (λ (l : List Name). AreRead (IsTrue g.D.Disk.told) u.files l l xs ss) (c.requires.names told) c.requires.read in
-    let plan = subst (λ (l : List Name). IsPlan l xs ss p) (c.as_slice.ensures ∙ c.requires.names told) (subst (λ (l : List FoundStore). IsPlan c.as_slice.result.now xs l p) c.deref.ensures.value c.in_ok-plan.ensures) in
+    let both = of_files (IsTrue g.D.Disk.told) u.files found.names c.as_slice.result.now xs ss c.deref.result.now p (c.requires.names told) c.as_slice.ensures c.deref.ensures.value c.requires.read c.in_ok-plan.ensures in
     let true_disk = g.met.D.Disk.is_true c.args.disk.now told in
-    record { logs = ap length plan.logs; entries = counted (IsTrue g.D.Disk.told) told u true_disk (c.requires.settled told) xs ss p read plan }
+    record { logs = ap length both.1.logs; entries = counted (IsTrue g.D.Disk.told) told u true_disk (c.requires.settled told) xs ss p both.0 both.1 }
 
 pub returns-in-Ok-clause-left : goal.returns-in-Ok-clause-left
 returns-in-Ok-clause-left g c told =
@@ -213,8 +186,7 @@ returns-in-Ok-clause-left g c told =
     let xs = found.files.entries.items in
     let ss = found.files.stores.items in
     let p = c.in_ok-plan.plan in
-    let read = subst (λ (l : List Name). AreRead (IsTrue g.D.Disk.told) u.files l l xs ss) (c.requires.names told) c.requires.read in
-    let plan = subst (λ (l : List Name). IsPlan l xs ss p) (c.as_slice.ensures ∙ c.requires.names told) (subst (λ (l : List FoundStore). IsPlan c.as_slice.result.now xs l p) c.deref.ensures.value c.in_ok-plan.ensures) in
+    let both = of_files (IsTrue g.D.Disk.told) u.files found.names c.as_slice.result.now xs ss c.deref.result.now p (c.requires.names told) c.as_slice.ensures c.deref.ensures.value c.requires.read c.in_ok-plan.ensures in
     let true_disk = g.met.D.Disk.is_true c.args.disk.now told in
     let w = g.D.Disk.view c.split_found.new.disk in
     let js : c.deref-2.result.now ≡ p.jobs.items = c.deref-2.ensures.value in
@@ -225,7 +197,7 @@ returns-in-Ok-clause-left g c told =
     let written : (j : EditsJob) (e : Entry) → Contains p.jobs.items j → Contains j.entries.items e → HasText j.name j.entries.items None (content w.files j.name) =
     λ j e has member. c.in-Ok.ensures.written told j e (subst (λ (l : List EditsJob). Contains l j) (sym js) has) member in
     let x : SplitFiles = record { names = found.names; stores = found.files.stores; plan = p } in
-    are_left (IsTrue g.D.Disk.told) told u true_disk (c.requires.settled told) x xs read plan (c.requires.names told) w others gone written
+    are_left (IsTrue g.D.Disk.told) told u true_disk (c.requires.settled told) x xs both.0 both.1 (c.requires.names told) w others gone written
 
 pub returns-in-Ok-clause-names : goal.returns-in-Ok-clause-names
 returns-in-Ok-clause-names g c told =
@@ -234,8 +206,7 @@ returns-in-Ok-clause-names g c told =
     let xs = found.files.entries.items in
     let ss = found.files.stores.items in
     let p = c.in_ok-plan.plan in
-    let read = subst (λ (l : List Name). AreRead (IsTrue g.D.Disk.told) u.files l l xs ss) (c.requires.names told) c.requires.read in
-    let plan = subst (λ (l : List Name). IsPlan l xs ss p) (c.as_slice.ensures ∙ c.requires.names told) (subst (λ (l : List FoundStore). IsPlan c.as_slice.result.now xs l p) c.deref.ensures.value c.in_ok-plan.ensures) in
+    let both = of_files (IsTrue g.D.Disk.told) u.files found.names c.as_slice.result.now xs ss c.deref.result.now p (c.requires.names told) c.as_slice.ensures c.deref.ensures.value c.requires.read c.in_ok-plan.ensures in
     let true_disk = g.met.D.Disk.is_true c.args.disk.now told in
     let w = g.D.Disk.view c.split_found.new.disk in
     let js : c.deref-2.result.now ≡ p.jobs.items = c.deref-2.ensures.value in
@@ -246,7 +217,7 @@ returns-in-Ok-clause-names g c told =
     let written : (j : EditsJob) (e : Entry) → Contains p.jobs.items j → Contains j.entries.items e → HasText j.name j.entries.items None (content w.files j.name) =
     λ j e has member. c.in-Ok.ensures.written told j e (subst (λ (l : List EditsJob). Contains l j) (sym js) has) member in
     let x : SplitFiles = record { names = found.names; stores = found.files.stores; plan = p } in
-    one_higher (IsTrue g.D.Disk.told) told u true_disk (c.requires.settled told) x xs read plan (c.requires.names told) w others gone written
+    one_higher (IsTrue g.D.Disk.told) told u true_disk (c.requires.settled told) x xs both.0 both.1 (c.requires.names told) w others gone written
 
 pub returns-in-Ok-clause-in_range : goal.returns-in-Ok-clause-in_range
 returns-in-Ok-clause-in_range g c =
