@@ -43,6 +43,9 @@ script_told words told is tells = subst (λ (o : Option Word). IsScriptTold o to
 pub status_of : (words command : Option Word) (status : Status) → words ≡ command → IsStatusFor command status → IsStatusFor words status
 status_of words command status is may = subst (λ (o : Option Word). IsStatusFor o status) (sym is) may
 
+pub none_status : (read : Option CodeWord) (words : Option Word) (status : Status) → read ≡ None → option_map meaning_of read ≡ words → status ≡ ends.Usage → IsStatusFor words status
+none_status read words status is names used = status_of words None status (sym names ∙ ap (option_map meaning_of) is) (subst (λ (s : Status). IsStatusFor None s) (sym used) tt)
+
 -- damage that was told, for the command that was read
 reported_for : (word x : Word) (status : Status) (damage : Damage) → word ≡ x → IsOrEarlier status (ends.Damaged damage) (earlier_than_damage x)
     → IsOrEarlier status (ends.Damaged damage) (earlier_than_damage word)

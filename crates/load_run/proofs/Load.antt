@@ -41,14 +41,17 @@ unread_ends word status script had has v rose sank is printed = subst (λ (s : S
     go To_run = inr (refused_so had has refused_memory sank printed, same_disk v)
     go (To_load options) = (refused_so had has refused_memory sank printed, untouched v)
 
-pub unread_status : (words : Option Word) → IsStatusFor words ends.Memory
-unread_status None = tt
-unread_status (Some To_log) = tt
-unread_status (Some To_show) = tt
-unread_status (Some (To_dump n)) = tt
-unread_status (Some To_recover) = tt
-unread_status (Some To_run) = tt
-unread_status (Some (To_load options)) = tt
+memory_for : (words : Option Word) → IsStatusFor words ends.Memory
+memory_for None = tt
+memory_for (Some To_log) = tt
+memory_for (Some To_show) = tt
+memory_for (Some (To_dump n)) = tt
+memory_for (Some To_recover) = tt
+memory_for (Some To_run) = tt
+memory_for (Some (To_load options)) = tt
+
+pub unread_status : (words : Option Word) (status : Status) → status ≡ ends.Memory → IsStatusFor words status
+unread_status words status is = subst (λ (s : Status). IsStatusFor words s) (sym is) (memory_for words)
 
 pub unread_leaves : (words : Option Word) (script : List ℕ) (v : DiskView) (J : Files) → IsImageNow v J → MayLeave words script v J
 unread_leaves None script v J image = image

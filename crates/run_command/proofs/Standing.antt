@@ -1,5 +1,5 @@
 -- What was printed of a run that is closed is the report that the headline speaks of.
-use Rattle.std.proofs.Common.{◌≡◌, ℕ, Bool, List, [], ◌∷◌, ◌++◌, length, map, Option, Some, refl, sym, ap, ◌∙◌, subst, inl, inr}
+use Rattle.std.proofs.Common.{◌≡◌, ℕ, Bool, true, List, [], ◌∷◌, ◌++◌, length, map, Option, Some, refl, sym, ap, ◌∙◌, subst, inl, inr}
 use Rattle.std.specs.FinMap.{len, len-entries, entries}
 use Rattle.std.proofs.lemmas.List.{map-append, length-map}
 use Rattle.cell_model.specs.Order.{Content, cells_of, cell_of}

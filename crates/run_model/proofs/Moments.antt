@@ -1,18 +1,17 @@
 -- At each moment of a run a crash leaves an image of the disk as found, or what fits each region's edits.
-use Rattle.std.proofs.Common.{◌≡◌, ℕ, ◌⊎◌, ◌<◌, ◌≤◌, List, [], ◌∷◌, Contains, refl, sym, ◌∙◌, subst, arith, inl, inr, take}
+use Rattle.std.proofs.Common.{ℕ, ◌⊎◌, ◌<◌, ◌≤◌, List, Contains, arith, inl, inr}
 use Rattle.std.proofs.lemmas.Bool.{cases_lt}
 use Rattle.std.proofs.Math.Logic.{∥∥₁_map, ∥∥₁_elim, ∥∥₁_prop}
 use Rattle.log_model.specs.Files.{Files}
-use Rattle.log_model.specs.Recovered.{IsRecovered, IsContent, RecoversAlike}
+use Rattle.log_model.specs.Recovered.{RecoversAlike}
 use Rattle.recovery.specs.Alike.{AllAlike}
-use Rattle.region_model.specs.Journal.{Base, Edit, Follows, put_edits, cut_at}
+use Rattle.region_model.specs.Journal.{Base, Edit, Follows}
 use Rattle.region_model.specs.Crash.{Fits}
-use Rattle.region_model.proofs.VisibleLaws.{cut_by_count}
 use Rattle.disk_images.specs.Crash.{DiskView, IsImageNow, Elapses, Throughout, Since}
 use Rattle.run_model.specs.Closed.{ClosedAt, IsFound, FitsThroughout}
 use Rattle.run_model.specs.Headline.{KeepsIn, MayKeep}
 use Rattle.run_model.proofs.Choices.{each_in, each_up_to}
-use Rattle.run_model.proofs.KeepsFound.{Stands, stands_keeps, alike_keeps}
+use Rattle.run_model.proofs.KeepsFound.{stands_keeps, alike_keeps}
 
 -- Up to the moment at which the server was begun a crash leaves what an opening leaves, and from then on what fits each region's edits.
 pub fits_throughout : (found now left : DiskView) (xs : List ClosedAt) → found.clock ≤ now.clock → now.clock ≤ left.clock

@@ -8,7 +8,6 @@ use Rattle.log_model.specs.declared.name.NameKind.TheVariants as kinds
 use Rattle.log_model.specs.Entry.{Entry}
 use Rattle.log_model.specs.Files.{Files, IsFit, IsLogFile, IsSound, IsPresent, IsLastLog}
 use Rattle.log_model.specs.Recovered.{IsRecovered, IsContent, IsLast, IsStored, IsFlushed, RecoversAlike}
-use Rattle.recovery.specs.Alike.{AllAlike}
 use Rattle.region_model.specs.Journal.{Base, Edit, IsJournal, last_of, is_completed, is_done}
 use Rattle.region_model.specs.Calls.{Put, Flush, Roll, Answer, PutOk, PutFault, Scanned, FlushOk, FlushNothing, FlushBusy, RollOk, RollNothing, PutMemory, ScanMemory, FlushMemory, RollMemory, Reply}
 use Rattle.region_model.specs.Lawful.{IsLawful, flushed_of}

@@ -1,13 +1,13 @@
 use Rattle.disk_images.specs.Calls.{Rose}
-use Rattle.std.proofs.Common.{◌≡◌, rules, Some, inl, refl, sym, subst, IsTrue}
+use Rattle.std.proofs.Common.{◌≡◌, map, rules, Some, None, inl, refl, IsTrue}
 use Rattle.disk_images.specs.Crash.{IsImageNow}
 use Rattle.wal_split.specs.Moments.{WasOrAlike}
 use Rattle.run_model.specs.Headline.{MayKeep}
 use Rattle.script_model.specs.Outputs.{refused_memory}
 use Rattle.command_ends.proofs.Endings.{no_moment, time_of}
-use Rattle.load_run.specs.Words.{To_log, To_show, To_dump, To_recover, To_run, To_load}
-use Rattle.load_run.proofs.Finish.{word_named, words_named, moments_of, script_told, status_of, show_reported, dump_reported, recover_reported, run_reported, show_complete, dump_complete, recover_complete, run_complete}
-use Rattle.load_run.specs.Top.{IsStatusFor, MayLeave}
+use Rattle.load_run.specs.Words.{word_of, To_log, To_show, To_dump, To_recover, To_run, To_load}
+use Rattle.load_run.proofs.Finish.{word_named, words_named, moments_of, script_told, status_of, none_status, show_reported, dump_reported, recover_reported, run_reported, show_complete, dump_complete, recover_complete, run_complete}
+use Rattle.load_run.specs.Top.{MayLeave}
 use Rattle.load_run.proofs.Load.{load_full, unread_ends, unread_status, unread_leaves}
 use Rattle.load_run.specs.declared.words.Word.TheVariants.{Log, Show, Dump, Recover, Run, Load}
 use Rattle.load_run.proofs.command.run.Goals as goal
@@ -165,7 +165,12 @@ returns-in-Some-Load-clause-range g c =
     status_of _ (Some (To_load c.in-Some-Load.options)) _ (words_named c.in-Ok.word (Load c.in-Some-Load.options) _ read c.in-Ok.ensures.named) c.load.ensures.status
 
 pub returns-in_default-clause-range : goal.returns-in_default-clause-range
-returns-in_default-clause-range g c = subst (IsStatusFor _) (sym c.refuse.ensures.status) (unread_status _)
+returns-in_default-clause-range g c = unread_status (word_of (map (λ w. w.now) c.args.words.now)) c.refuse.result c.refuse.ensures.status
+
+pub returns-in-None-clause-range : goal.returns-in-None-clause-range
+returns-in-None-clause-range g c =
+    let read : c.in-Ok.word ≡ None = search rules in
+    none_status c.in-Ok.word (word_of (map (λ w. w.now) c.args.words.now)) c.refuse-in-None.result read c.in-Ok.ensures.named c.refuse-in-None.ensures.status
 
 -- ---- words that weren't read
 
