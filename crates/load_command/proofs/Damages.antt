@@ -1,6 +1,6 @@
 -- Damage that is told is of the files that were left.
 use Rattle.std.proofs.Common.{Err, ◌≡◌, List, sym, subst, inl, inr}
-use Rattle.log_model.specs.Files.{Files}
+use Rattle.log_model.specs.Files.{Files, IsSound}
 use Rattle.log_model.specs.Damage.{IsDamage}
 use Rattle.log_model.specs.declared.damage.Damage.{Damage}
 use Rattle.found_files.specs.Refusal.{IfDamage}
@@ -12,6 +12,7 @@ use Rattle.region_calls.specs.declared.refusal.StartWhy.TheVariants as whys
 use Rattle.command_ends.specs.Status.{IsDamageOf, IsPrintEnd}
 use Rattle.command_ends.specs.declared.status.Status.{Status}
 use Rattle.command_ends.specs.declared.status.Status.TheVariants as ends
+use Rattle.recover_command.specs.Recovered.{IsStoreDamage}
 use Rattle.recover_command.specs.Refusals.{refused_as}
 use Rattle.run_command.specs.Carried.{IfFoundDamaged}
 use Rattle.run_command.specs.Ends.{status_for}
@@ -43,15 +44,22 @@ printed_damage status result P may printed = elim printed [
 ]
 
 -- what was found is what is left
-here : (damage : Damage) (old new : Files) → IsDamage old damage × (new ≡ old) → IsDamage new damage
-here damage old new told = subst (λ (f : Files). IsDamage f damage) (sym told.1) told.0
+here : (damage : Damage) (old new : Files) → IsStoreDamage old damage × (new ≡ old) → IsStoreDamage new damage
+here damage old new told = subst (λ (f : Files). IsStoreDamage f damage) (sym told.1) told.0
 
-pub refused_damage : (refusal : SplitRefusal) (old new : Files) → IfDamage {T = List Found} (Err refusal) (λ damage. IsDamage old damage × (new ≡ old)) → IsDamageOf (refused_as refusal) (IsDamage new)
+-- so is what an opening tells
+pub found_damage : (refusal : SplitRefusal) (old new : Files) → IfDamage {T = List Found} (Err refusal) (λ damage. IsDamage old damage × (new ≡ old)) → IfDamage {T = List Found} (Err refusal) (λ damage. ¬ IsSound old)
+    → IfDamage {T = List Found} (Err refusal) (λ damage. IsStoreDamage old damage × (new ≡ old))
+found_damage refusals.Memory old new told unsound = tt
+found_damage refusals.DiskFault old new told unsound = tt
+found_damage (refusals.Damaged damage) old new told unsound = ((unsound, told.0), told.1)
+
+pub refused_damage : (refusal : SplitRefusal) (old new : Files) → IfDamage {T = List Found} (Err refusal) (λ damage. IsStoreDamage old damage × (new ≡ old)) → IsDamageOf (refused_as refusal) (IsStoreDamage new)
 refused_damage refusals.Memory old new told = tt
 refused_damage refusals.DiskFault old new told = tt
 refused_damage (refusals.Damaged damage) old new told = here damage old new told
 
-pub opened_damage : (why : StartWhy) (old new : Files) → IfFoundDamaged why (λ damage. IsDamage old damage × (new ≡ old)) → IsDamageOf (status_for why) (IsDamage new)
+pub opened_damage : (why : StartWhy) (old new : Files) → IfFoundDamaged why (λ damage. IsStoreDamage old damage × (new ≡ old)) → IsDamageOf (status_for why) (IsStoreDamage new)
 opened_damage whys.Memory old new told = tt
 opened_damage whys.DiskFault old new told = tt
 opened_damage (whys.Damaged damage) old new told = here damage old new told

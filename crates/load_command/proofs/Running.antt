@@ -5,11 +5,10 @@ use Rattle.std.proofs.Math.Logic.{∥∥₁_map, ∥∥₁_map₂, ∥∥₁_eli
 use Rattle.std.proofs.lemmas.Bool.{cases_lt}
 use Rattle.std.proofs.lemmas.List.{map-append}
 use Rattle.log_model.specs.declared.name.Name.{Name}
-use Rattle.log_model.specs.Damage.{IsDamage}
+use Rattle.recover_command.specs.Recovered.{IsStoreDamage}
 use Rattle.log_model.specs.Files.{Files, IsSound, IsPresent}
 use Rattle.log_model.specs.Recovered.{RecoversAlike}
 use Rattle.recovery.specs.Alike.{AllAlike}
-use Rattle.log_model.proofs.DamageLaws.{sound_undamaged}
 use Rattle.disk_images.specs.Crash.{DiskView, IsImageNow, Elapses, Throughout}
 use Rattle.disk_images.specs.Calls.{Looks, Rose}
 use Rattle.script_model.specs.Calls.{Script}
@@ -31,7 +30,7 @@ use Rattle.region_calls.specs.declared.refusal.StartWhy.TheVariants as whys
 use Rattle.region_calls.specs.declared.closed.ClosedRegion.{ClosedRegion}
 use Rattle.script_run.specs.Ends.{closed_at, lines_of, HasClosed}
 use Rattle.load_model.specs.Loaded.{HasBroken, HasStopped}
-use Rattle.load_model.proofs.Empty.{empty_is_sound, no_bytes}
+use Rattle.load_model.proofs.Empty.{empty_is_sound}
 use Rattle.command_ends.specs.Invocation.{invocation, AtEachMoment, GoesOn}
 use Rattle.command_ends.specs.Prints.{Prints}
 use Rattle.command_ends.specs.Ends.{Done, Failed}
@@ -128,11 +127,11 @@ opening_sink whys.DiskFault e = absurd cc
 opening_sink (whys.Damaged damage) e = absurd cc
 
 -- no damage is found in a store without files
-pub opening_complete : (why : StartWhy) (files : Files) (Q : Type 0) → keys files ≡ [] → (why ≡ whys.DiskFault → ⊥) → IfFoundDamaged why (λ damage. IsDamage files damage × Q) → IsComplete (status_for why)
+pub opening_complete : (why : StartWhy) (files : Files) (Q : Type 0) → keys files ≡ [] → (why ≡ whys.DiskFault → ⊥) → IfFoundDamaged why (λ damage. IsStoreDamage files damage × Q) → IsComplete (status_for why)
 opening_complete whys.Memory files Q none unbroken found = tt
 opening_complete whys.DiskFault files Q none unbroken found = absurd (unbroken refl)
 opening_complete (whys.Damaged damage) files Q none unbroken found =
-    absurd ((sound_undamaged files (λ name bytes there. no_bytes files name bytes none there) (empty_is_sound files none)).2 damage found.0)
+    absurd (found.0.0 (empty_is_sound files none))
 
 -- ---- a disk that was looked at first
 

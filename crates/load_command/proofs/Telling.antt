@@ -4,7 +4,6 @@ use Rattle.std.proofs.Math.Logic.{∥∥₁_map, ∥∥₁_elim}
 use Rattle.log_model.specs.Files.{Files, IsSound}
 use Rattle.log_model.specs.Damage.{IsDamage}
 use Rattle.log_model.specs.declared.damage.Damage.{Damage}
-use Rattle.log_model.proofs.DamageLaws.{sound_undamaged}
 use Rattle.disk_images.specs.Crash.{DiskView, IsImageNow}
 use Rattle.recovery.specs.Alike.{AllAlike}
 use Rattle.found_files.specs.Refusal.{IfDamage}
@@ -30,7 +29,7 @@ use Rattle.command_ends.specs.Status.{refusal_line, exit_status, IsPrintEnd, IsR
 use Rattle.command_ends.specs.declared.status.Status.{Status}
 use Rattle.command_ends.specs.declared.status.Status.TheVariants as ends
 use Rattle.command_ends.proofs.Endings.{taken_whole, taken_begins, refused_so}
-use Rattle.recover_command.specs.Recovered.{AreSized}
+use Rattle.recover_command.specs.Recovered.{IsStoreDamage}
 use Rattle.recover_command.specs.Refusals.{refused_as}
 use Rattle.recover_command.proofs.Leaving.{recovered}
 use Rattle.load_command.specs.Counted.{cells_of}
@@ -90,12 +89,10 @@ refused_complete refusals.Memory D unbroken none h = tt
 refused_complete refusals.DiskFault D unbroken none h = absurd (unbroken refl)
 refused_complete (refusals.Damaged d) D unbroken none h = absurd (none d h)
 
--- the files that a run left are sound, so not damaged where their sizes are numbers of a disk
-pub undamaged : (options : LoadOptions) (before left after : DiskView) (d : Damage) → HasEnded options before left ends.Done → IsImageNow left left.files → AreSized after.files → after.files ≡ left.files
-    → IsDamage left.files d → ⊥
-undamaged options before left after d ended now sized same damage =
-    ∥∥₁_elim (ended.reported (λ e. absurd cc)) (λ x y. absurd x)
-    (λ h. (sound_undamaged left.files (subst AreSized same sized) (sound_left (made_script options) before left 0 h.0 ended.empty h.1 left.files now)).2 d damage)
+-- the files that a run left are sound, so not damaged
+pub undamaged : (options : LoadOptions) (before left : DiskView) (d : Damage) → HasEnded options before left ends.Done → IsImageNow left left.files → IsStoreDamage left.files d → ⊥
+undamaged options before left d ended now damage =
+    ∥∥₁_elim (ended.reported (λ e. absurd cc)) (λ x y. absurd x) (λ h. damage.0 (sound_left (made_script options) before left 0 h.0 ended.empty h.1 left.files now))
 
 -- ---- a run that isn't done
 

@@ -3,7 +3,6 @@
 ghost use Rattle.std.specs.Prelude.{◌≡◌, ◌≤◌, ◌⊎◌, ℕ, List, [], ◌∷◌, Some, IsTrue};
 ghost use Rattle.std.specs.FinMap.{keys};
 ghost use Rattle.log_model.specs.declared.name.Name.{Name};
-ghost use Rattle.log_model.specs.Damage.{IsDamage};
 ghost use Rattle.disk_images.specs.Calls.{Rose};
 ghost use Rattle.made_script.specs.Made.{AreOptions};
 ghost use Rattle.run_command.specs.Decided.{decided};
@@ -12,7 +11,7 @@ ghost use Rattle.run_model.specs.Headline.{MayKeep};
 ghost use Rattle.command_ends.specs.Invocation.{invocation, IsUnchanged, AtEachMoment};
 ghost use Rattle.command_ends.specs.Prints.{Prints};
 ghost use Rattle.command_ends.specs.Status.{refusal_line, IsComplete, IsDamageOf, IsNotEmpty, IsOrEarlier, IsRefusal};
-ghost use Rattle.recover_command.specs.Recovered.{AreSized};
+ghost use Rattle.recover_command.specs.Recovered.{IsStoreDamage};
 ghost use Rattle.load_command.specs.Ends.{EndsLoad};
 ghost use Rattle.load_command.specs.Statuses.{IsClosedEnd, IsDecided, IsLoadEnd, LeavesStore};
 
@@ -53,7 +52,7 @@ pub fn load<R: Threads + Wait + Sync, D: Disk + Send, K: Sink, G: Gate + Sync>(
     ensures any_moment { IsTrue D.told → AtEachMoment (MayKeep (D.view disk)) (D.view disk) (D.view result.disk) }
     ensures status { IsLoadEnd result.status }
     // Damage is of the files that it left.
-    ensures damage { IsTrue D.told → IsDamageOf result.status (IsDamage (D.view result.disk).files) }
+    ensures damage { IsTrue D.told → IsDamageOf result.status (IsStoreDamage (D.view result.disk).files) }
     ensures not_empty { IsTrue D.told → IsNotEmpty result.status (D.view disk).files }
     ensures full { IsTrue D.told → (name : Name) (rest : List Name) → keys (D.view disk).files ≡ name ∷ rest
         → IsOrEarlier result.status (Status.NotEmpty name) (Status.DiskFault ∷ []) }
@@ -61,7 +60,7 @@ pub fn load<R: Threads + Wait + Sync, D: Disk + Send, K: Sink, G: Gate + Sync>(
     ensures sink_cause { result.status ≡ Status.SinkFault → Rose (K.faults out.old) (K.faults out.new) }
     ensures later { (D.faults disk ≤ D.faults result.disk) × (K.faults out.old ≤ K.faults out.new) }
     // On an empty store, and with no fault, it is done, or memory was refused.
-    ensures complete { IsTrue D.told → keys (D.view disk).files ≡ [] → AreSized (D.view result.disk).files
+    ensures complete { IsTrue D.told → keys (D.view disk).files ≡ []
         → (Rose (D.faults disk) (D.faults result.disk) → ⊥) → (Rose (K.faults out.old) (K.faults out.new) → ⊥) → IsComplete result.status }
 {
     let mut disk = disk;
@@ -93,12 +92,11 @@ fn load_empty<R: Threads + Wait + Sync, D: Disk + Send, K: Sink, G: Gate + Sync>
     ensures refusal { IsTrue K.told → IsRefusal result.status → (text : List ℕ) → refusal_line result.status ≡ Some text
         → Prints (K.taken out.old) (K.taken out.new) text (Rose (K.faults out.old) (K.faults out.new)) }
     ensures status { IsClosedEnd result.status }
-    ensures damage { IsTrue D.told → IsDamageOf result.status (IsDamage (D.view result.disk).files) }
+    ensures damage { IsTrue D.told → IsDamageOf result.status (IsStoreDamage (D.view result.disk).files) }
     ensures disk_cause { result.status ≡ Status.DiskFault → Rose (D.faults disk) (D.faults result.disk) }
     ensures sink_cause { result.status ≡ Status.SinkFault → Rose (K.faults out.old) (K.faults out.new) }
     ensures later { (D.faults disk ≤ D.faults result.disk) × (K.faults out.old ≤ K.faults out.new) }
-    ensures complete { IsTrue D.told → AreSized (D.view result.disk).files
-        → (Rose (D.faults disk) (D.faults result.disk) → ⊥) → (Rose (K.faults out.old) (K.faults out.new) → ⊥) → IsComplete result.status }
+    ensures complete { IsTrue D.told → (Rose (D.faults disk) (D.faults result.disk) → ⊥) → (Rose (K.faults out.old) (K.faults out.new) → ⊥) → IsComplete result.status }
 {
     let Ok(script) = make_script(alloc, options) else {
         return Outcome {

@@ -1,7 +1,6 @@
 //! How a load ends once its server is closed.
 
 ghost use Rattle.std.specs.Prelude.{◌≡◌, ◌≢◌, ◌≤◌, ℕ, List, Some, IsTrue};
-ghost use Rattle.log_model.specs.Damage.{IsDamage};
 ghost use Rattle.disk_images.specs.Calls.{Rose};
 ghost use Rattle.script_model.specs.Outputs.{refused_memory};
 ghost use Rattle.made_script.specs.Counts.{counts_of};
@@ -12,7 +11,7 @@ ghost use Rattle.run_model.specs.Headline.{MayKeep};
 ghost use Rattle.command_ends.specs.Invocation.{invocation, AtEachMoment};
 ghost use Rattle.command_ends.specs.Prints.{Prints};
 ghost use Rattle.command_ends.specs.Status.{refusal_line, exit_status, IsComplete, IsDamageOf, IsRefusal, IsPrintEnd, IsReadingEnd};
-ghost use Rattle.recover_command.specs.Recovered.{AreSized};
+ghost use Rattle.recover_command.specs.Recovered.{IsStoreDamage};
 ghost use Rattle.recover_command.specs.Refusals.{refused_as};
 ghost use Rattle.load_command.specs.Ends.{EndsLoad, HasEnded};
 ghost use Rattle.load_command.specs.Statuses.{IsDecided, IsClosedEnd, IsPrintedAs};
@@ -46,12 +45,12 @@ pub fn end_load<D: Disk, K: Sink>(
     ensures refusal { IsTrue K.told → IsRefusal result → (text : List ℕ) → refusal_line result ≡ Some text
         → Prints (K.taken out.old) (K.taken out.new) text (Rose (K.faults out.old) (K.faults out.new)) }
     ensures status { IsClosedEnd result }
-    ensures damage { IsTrue D.told → IsDamageOf result (IsDamage (D.view disk.new).files) }
+    ensures damage { IsTrue D.told → IsDamageOf result (IsStoreDamage (D.view disk.new).files) }
     ensures disk_cause { result ≡ Status.DiskFault → status ≢ Status.DiskFault → Rose (D.faults disk.old) (D.faults disk.new) }
     ensures sink_cause { result ≡ Status.SinkFault → Rose (K.faults out.old) (K.faults out.new) }
     ensures later { (D.faults disk.old ≤ D.faults disk.new) × (K.faults out.old ≤ K.faults out.new) }
     ensures complete { IsTrue D.told → (options : LoadOptions) (first : D) → HasEnded options (D.view first) (D.view disk.old) status
-        → AreSized (D.view disk.new).files → (status ≢ Status.DiskFault) → (Rose (D.faults disk.old) (D.faults disk.new) → ⊥)
+        → (status ≢ Status.DiskFault) → (Rose (D.faults disk.old) (D.faults disk.new) → ⊥)
         → (Rose (K.faults out.old) (K.faults out.new) → ⊥) → IsComplete result }
 {
     match status {
@@ -95,12 +94,12 @@ fn recover_load<D: Disk, K: Sink>(
     ensures refusal { IsTrue K.told → IsRefusal result → (text : List ℕ) → refusal_line result ≡ Some text
         → Prints (K.taken out.old) (K.taken out.new) text (Rose (K.faults out.old) (K.faults out.new)) }
     ensures status { IsReadingEnd result }
-    ensures damage { IsTrue D.told → IsDamageOf result (IsDamage (D.view disk.new).files) }
+    ensures damage { IsTrue D.told → IsDamageOf result (IsStoreDamage (D.view disk.new).files) }
     ensures disk_cause { result ≡ Status.DiskFault → Rose (D.faults disk.old) (D.faults disk.new) }
     ensures sink_cause { result ≡ Status.SinkFault → Rose (K.faults out.old) (K.faults out.new) }
     ensures later { (D.faults disk.old ≤ D.faults disk.new) × (K.faults out.old ≤ K.faults out.new) }
     ensures complete { IsTrue D.told → (options : LoadOptions) (first : D) → HasEnded options (D.view first) (D.view disk.old) Status.Done
-        → AreSized (D.view disk.new).files → (Rose (D.faults disk.old) (D.faults disk.new) → ⊥)
+        → (Rose (D.faults disk.old) (D.faults disk.new) → ⊥)
         → (Rose (K.faults out.old) (K.faults out.new) → ⊥) → IsComplete result }
 {
     match recover_all(alloc, disk) {

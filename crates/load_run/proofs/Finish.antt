@@ -6,7 +6,6 @@ use Rattle.log_model.specs.declared.damage.Damage.{Damage}
 use Rattle.log_model.specs.declared.damage.Damage.TheVariants as damages
 use Rattle.log_model.specs.Files.{Files, IsSound}
 use Rattle.log_model.specs.Damage.{IsDamage}
-use Rattle.log_model.proofs.DamageLaws.{sound_undamaged}
 use Rattle.load_run.specs.Words.{Word, To_log, To_show, To_dump, To_recover, To_run, meaning_of}
 use Rattle.load_run.specs.declared.words.Word.{Word as CodeWord}
 use Rattle.disk_images.specs.Crash.{DiskView}
@@ -19,7 +18,7 @@ use Rattle.command_ends.specs.declared.status.Status.{Status}
 use Rattle.command_ends.specs.declared.status.Status.TheVariants as ends
 use Rattle.script_model.specs.Script.{script_fault}
 use Rattle.script_model.specs.declared.command.Command.TheVariants.{Run}
-use Rattle.recover_command.specs.Recovered.{AreSized}
+use Rattle.recover_command.specs.Recovered.{IsStoreDamage}
 use Rattle.run_command.specs.Ends.{IsRunComplete}
 
 abbrev some_or : {A : Type 0} → A → Option A → A
@@ -100,24 +99,24 @@ sound_dump : (files : Files) (n : ℕ) → ((name : Name) (at : ℕ) → IsDumpe
 sound_dump files n sound (damages.Two first second region number) damage = damage
 sound_dump files n sound (damages.Bytes name at) damage = sound name at damage.0 damage.1
 
-pub show_complete : (word : Word) (status : Status) (script : List ℕ) (files left : Files) (d k : Type 0) → word ≡ To_show → IsReadingEnd status → IsDamageOf status (IsLogDamage files (log_name 1))
-    → (status ≡ ends.DiskFault → d) → (status ≡ ends.SinkFault → k) → IsReady word script files left → (d → ⊥) → (k → ⊥) → IsCompleteFor word status
-show_complete word status script files left d k is ended damage disk sink ready no_disk no_sink =
+pub show_complete : (word : Word) (status : Status) (script : List ℕ) (files : Files) (d k : Type 0) → word ≡ To_show → IsReadingEnd status → IsDamageOf status (IsLogDamage files (log_name 1))
+    → (status ≡ ends.DiskFault → d) → (status ≡ ends.SinkFault → k) → IsReady word script files → (d → ⊥) → (k → ⊥) → IsCompleteFor word status
+show_complete word status script files d k is ended damage disk sink ready no_disk no_sink =
     complete_for word To_show status is
-    (reader_done status (IsLogDamage files (log_name 1)) d k ended damage disk sink (sound_log files (log_name 1) (subst (λ (w : Word). IsReady w script files left) is ready)) no_disk no_sink)
+    (reader_done status (IsLogDamage files (log_name 1)) d k ended damage disk sink (sound_log files (log_name 1) (subst (λ (w : Word). IsReady w script files) is ready)) no_disk no_sink)
 
-pub dump_complete : (word : Word) (n : ℕ) (status : Status) (script : List ℕ) (files left : Files) (d k : Type 0) → word ≡ To_dump n → IsReadingEnd status → IsDamageOf status (IsDumpDamage n files)
-    → (status ≡ ends.DiskFault → d) → (status ≡ ends.SinkFault → k) → IsReady word script files left → (d → ⊥) → (k → ⊥) → IsCompleteFor word status
-dump_complete word n status script files left d k is ended damage disk sink ready no_disk no_sink =
+pub dump_complete : (word : Word) (n : ℕ) (status : Status) (script : List ℕ) (files : Files) (d k : Type 0) → word ≡ To_dump n → IsReadingEnd status → IsDamageOf status (IsDumpDamage n files)
+    → (status ≡ ends.DiskFault → d) → (status ≡ ends.SinkFault → k) → IsReady word script files → (d → ⊥) → (k → ⊥) → IsCompleteFor word status
+dump_complete word n status script files d k is ended damage disk sink ready no_disk no_sink =
     complete_for word (To_dump n) status is
-    (reader_done status (IsDumpDamage n files) d k ended damage disk sink (sound_dump files n (subst (λ (w : Word). IsReady w script files left) is ready)) no_disk no_sink)
+    (reader_done status (IsDumpDamage n files) d k ended damage disk sink (sound_dump files n (subst (λ (w : Word). IsReady w script files) is ready)) no_disk no_sink)
 
-pub recover_complete : (word : Word) (status : Status) (script : List ℕ) (files left : Files) (d k : Type 0) → word ≡ To_recover → IsReadingEnd status → IsDamageOf status (IsDamage files)
-    → (status ≡ ends.DiskFault → d) → (status ≡ ends.SinkFault → k) → IsReady word script files left → (d → ⊥) → (k → ⊥) → IsCompleteFor word status
-recover_complete word status script files left d k is ended damage disk sink ready no_disk no_sink =
-    let wanted : IsReady To_recover script files left = subst (λ (w : Word). IsReady w script files left) is ready in
+pub recover_complete : (word : Word) (status : Status) (script : List ℕ) (files : Files) (d k : Type 0) → word ≡ To_recover → IsReadingEnd status → IsDamageOf status (IsStoreDamage files)
+    → (status ≡ ends.DiskFault → d) → (status ≡ ends.SinkFault → k) → IsReady word script files → (d → ⊥) → (k → ⊥) → IsCompleteFor word status
+recover_complete word status script files d k is ended damage disk sink ready no_disk no_sink =
+    let wanted : IsReady To_recover script files = subst (λ (w : Word). IsReady w script files) is ready in
     complete_for word To_recover status is
-    (reader_done status (IsDamage files) d k ended damage disk sink (λ x told. (sound_undamaged files wanted.1 wanted.0).2 x told) no_disk no_sink)
+    (reader_done status (IsStoreDamage files) d k ended damage disk sink (λ x told. told.0 wanted) no_disk no_sink)
 
 pub recover_reported : (word : Word) (status : Status) (files : Files) (damage : Damage) → word ≡ To_recover → MustTell word files damage
     → ((¬ IsSound files) → IsDamage files damage → IsOrEarlier status (ends.Damaged damage) (ends.DiskFault ∷ []))
@@ -138,8 +137,8 @@ run_reported word status told script files damage is right damaged tells =
     let it : told × (script_fault Run script ≡ None) = has Run refl in
     reported_for word To_run status damage is (tells it.0 it.1 must.0 must.1)
 
-pub run_complete : (word : Word) (status : Status) (script : List ℕ) (files left : Files) → word ≡ To_run → IsReady word script files left
-    → (script_fault Run script ≡ None → IsSound files → AreSized files → IsRunComplete status) → IsCompleteFor word status
-run_complete word status script files left is ready done =
-    let wanted : IsReady To_run script files left = subst (λ (w : Word). IsReady w script files left) is ready in
-    complete_for word To_run status is (done wanted.0 wanted.1 wanted.2)
+pub run_complete : (word : Word) (status : Status) (script : List ℕ) (files : Files) → word ≡ To_run → IsReady word script files
+    → (script_fault Run script ≡ None → IsSound files → IsRunComplete status) → IsCompleteFor word status
+run_complete word status script files is ready done =
+    let wanted : IsReady To_run script files = subst (λ (w : Word). IsReady w script files) is ready in
+    complete_for word To_run status is (done wanted.0 wanted.1)

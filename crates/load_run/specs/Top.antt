@@ -4,7 +4,6 @@ use Rattle.std.specs.FinMap.{keys}
 use Rattle.log_model.specs.declared.name.Name.{Name}
 use Rattle.log_model.specs.declared.damage.Damage.{Damage}
 use Rattle.log_model.specs.Files.{Files, IsSound}
-use Rattle.log_model.specs.Damage.{IsDamage}
 use Rattle.disk_images.specs.Crash.{DiskView, IsImageNow}
 use Rattle.script_model.specs.Fields.{Why}
 use Rattle.script_model.specs.Script.{script_fault}
@@ -20,7 +19,7 @@ use Rattle.log_command.specs.Logged.{EndsLog, LogMayLeave}
 use Rattle.log_command.specs.Parts.{IsLogEnd}
 use Rattle.show_command.specs.Shown.{EndsShow}
 use Rattle.dump_command.specs.Dumped.{EndsDump, IsDumped, IsDumpDamage}
-use Rattle.recover_command.specs.Recovered.{EndsRecover, AreSized}
+use Rattle.recover_command.specs.Recovered.{EndsRecover, IsStoreDamage}
 use Rattle.run_model.specs.Headline.{MayKeep}
 use Rattle.run_command.specs.Ends.{RunEnds, IsRunEnd, IsRunRefusal, LeavesStore, IsRunComplete}
 use Rattle.load_command.specs.Ends.{EndsLoad}
@@ -140,17 +139,17 @@ abbrev pub IsDamageFor : Word → (found left : Files) → Damage → Type 0
 IsDamageFor To_log found left damage = ⊥
 IsDamageFor To_show found left damage = IsLogDamage found (log_name 1) damage
 IsDamageFor (To_dump n) found left damage = IsDumpDamage n found damage
-IsDamageFor To_recover found left damage = IsDamage found damage
-IsDamageFor To_run found left damage = IsDamage found damage
-IsDamageFor (To_load options) found left damage = IsDamage left damage
+IsDamageFor To_recover found left damage = IsStoreDamage found damage
+IsDamageFor To_run found left damage = IsStoreDamage found damage
+IsDamageFor (To_load options) found left damage = IsStoreDamage left damage
 
 -- damage that the command must tell: `recover` and `run` where the files aren't sound, and then what shows it first
 abbrev pub MustTell : Word → Files → Damage → Type 0
 MustTell To_log files damage = ⊥
 MustTell To_show files damage = IsLogDamage files (log_name 1) damage
 MustTell (To_dump n) files damage = IsDumpDamage n files damage
-MustTell To_recover files damage = (¬ IsSound files) × IsDamage files damage
-MustTell To_run files damage = (¬ IsSound files) × IsDamage files damage
+MustTell To_recover files damage = IsStoreDamage files damage
+MustTell To_run files damage = IsStoreDamage files damage
 MustTell (To_load options) files damage = ⊥
 
 -- the statuses that are decided before damage
@@ -192,14 +191,14 @@ NeedsEmpty (Some word) = WantsEmpty word
 
 -- ---- completeness
 
--- the script and the store are as the command wants them; of `load`, which reads what it left, also the sizes of those files
-abbrev pub IsReady : Word → List ℕ → (found left : Files) → Type 0
-IsReady To_log script found left = (script_fault Log script ≡ None) × (keys found ≡ [])
-IsReady To_show script found left = (at : ℕ) → IsDamagedLog found (log_name 1) at → ⊥
-IsReady (To_dump n) script found left = (name : Name) (at : ℕ) → IsDumped found n name → IsDamagedLog found name at → ⊥
-IsReady To_recover script found left = IsSound found × AreSized found
-IsReady To_run script found left = (script_fault Run script ≡ None) × IsSound found × AreSized found
-IsReady (To_load options) script found left = (keys found ≡ []) × AreSized left
+-- the script and the store are as the command wants them
+abbrev pub IsReady : Word → List ℕ → (found : Files) → Type 0
+IsReady To_log script found = (script_fault Log script ≡ None) × (keys found ≡ [])
+IsReady To_show script found = (at : ℕ) → IsDamagedLog found (log_name 1) at → ⊥
+IsReady (To_dump n) script found = (name : Name) (at : ℕ) → IsDumped found n name → IsDamagedLog found name at → ⊥
+IsReady To_recover script found = IsSound found
+IsReady To_run script found = (script_fault Run script ≡ None) × IsSound found
+IsReady (To_load options) script found = keys found ≡ []
 
 -- done, or memory was refused; of `run` also that a put found the numbers spent
 abbrev pub IsCompleteFor : Word → Status → Type 0

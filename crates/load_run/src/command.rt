@@ -87,7 +87,7 @@ pub fn run<R: Threads + Wait + Sync, D: Disk + Send, S: Source, K: Sink, G: Gate
     // With a command, a script and a store as it wants them, and no fault, it is done or memory was refused, or `run` has
     // spent a region's numbers.
     ensures complete { IsTrue S.told → IsTrue D.told → (word : TheWord) → word_of (map (λ w. w.now) words.now) ≡ Some word
-        → IsReady word (S.left script.old) (D.view disk).files (D.view result.disk).files
+        → IsReady word (S.left script.old) (D.view disk).files
         → (Rose (S.faults script.old) (S.faults script.new) → ⊥) → (Rose (D.faults disk) (D.faults result.disk) → ⊥)
         → (Rose (K.faults out.old) (K.faults out.new) → ⊥) → IsCompleteFor word result.status }
 {

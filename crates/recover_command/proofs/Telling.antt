@@ -58,10 +58,11 @@ leaves_refused refusals.Memory Q D then h = tt
 leaves_refused refusals.DiskFault Q D then h = tt
 leaves_refused (refusals.Damaged damage) Q D then h = then damage h
 
-pub damage_refused : (refusal : SplitRefusal) (D E : Damage → Type 0) → ((d : Damage) → D d → E d) → IfDamage {T = List Found} (Err refusal) D → IsDamageOf (refused_as refusal) E
-damage_refused refusals.Memory D E then h = tt
-damage_refused refusals.DiskFault D E then h = tt
-damage_refused (refusals.Damaged damage) D E then h = then damage h
+pub damage_refused : (refusal : SplitRefusal) (D U E : Damage → Type 0) → ((d : Damage) → D d → U d → E d) → IfDamage {T = List Found} (Err refusal) D → IfDamage {T = List Found} (Err refusal) U
+    → IsDamageOf (refused_as refusal) E
+damage_refused refusals.Memory D U E then h u = tt
+damage_refused refusals.DiskFault D U E then h u = tt
+damage_refused (refusals.Damaged damage) D U E then h u = then damage h u
 
 pub damaged_refused : (refusal : SplitRefusal) (files : Files) (D : Damage → Type 0) (damage : Damage) → ((d : Damage) → D d → IsDamage files d) → IfDamage {T = List Found} (Err refusal) D → IsDamage files damage
     → IsOrEarlier (refused_as refusal) (ends.Damaged damage) (ends.DiskFault ∷ [])

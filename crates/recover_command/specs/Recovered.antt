@@ -59,9 +59,9 @@ recovers o = record {
 abbrev pub EndsRecover : Status → Invocation → Type 0 → Type 0 → Type 0
 EndsRecover status o rose sank = EndsAs (recovers o) status rose sank o.taken
 
--- each file has fewer than 2^64 bytes, as all whose size a disk can tell
-abbrev pub AreSized : Files → Type 0
-AreSized files = (name : Name) (bytes : List ℕ) → Reads files name bytes → length bytes < 2 ^ 64
+-- the files aren't sound, and this shows it first
+abbrev pub IsStoreDamage : Files → Damage → Type 0
+IsStoreDamage files damage = (¬ IsSound files) × IsDamage files damage
 
 -- files have one damage at most
 abbrev pub DamageIsOne : Type 0

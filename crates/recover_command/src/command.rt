@@ -11,7 +11,7 @@ ghost use Rattle.command_ends.specs.Invocation.{invocation, AtEachMoment};
 ghost use Rattle.command_ends.specs.Prints.{Prints};
 ghost use Rattle.command_ends.specs.Status.{refusal_line, IfDamaged, IsDamageOf, IsOrEarlier, IsPrintEnd, IsReadingEnd};
 ghost use Rattle.recover_command.specs.Lines.{lines_from};
-ghost use Rattle.recover_command.specs.Recovered.{EndsRecover};
+ghost use Rattle.recover_command.specs.Recovered.{EndsRecover, IsStoreDamage};
 ghost use Rattle.recover_command.specs.Refusals.{refused_as};
 
 use crate::text::text_of;
@@ -35,7 +35,7 @@ pub fn recover<D: Disk, K: Sink>(alloc: Global, disk: &mut D, out: &mut K) -> St
     ensures any_moment { IsTrue D.told → AtEachMoment (WasOrAlike (D.view disk.old)) (D.view disk.old) (D.view disk.new) }
     ensures damage_leaves { IsTrue D.told → IfDamaged result ((D.view disk.new).files ≡ (D.view disk.old).files) }
     ensures status { IsReadingEnd result }
-    ensures damage { IsTrue D.told → IsDamageOf result (IsDamage (D.view disk.old).files) }
+    ensures damage { IsTrue D.told → IsDamageOf result (IsStoreDamage (D.view disk.old).files) }
     ensures damaged { IsTrue D.told → (damage : TheDamage) → (¬ IsSound (D.view disk.old).files) → IsDamage (D.view disk.old).files damage
         → IsOrEarlier result (Status.Damaged damage) (Status.DiskFault ∷ []) }
     ensures disk_cause { result ≡ Status.DiskFault → Rose (D.faults disk.old) (D.faults disk.new) }

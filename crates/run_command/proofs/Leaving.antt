@@ -3,7 +3,7 @@ use Rattle.std.proofs.Common.{◌≡◌, ℕ, ◌≤◌, Bool, List, map, length
 use Rattle.std.proofs.lemmas.List.{length-map}
 use Rattle.disk_images.specs.Crash.{DiskView}
 use Rattle.disk_images.specs.declared.disk.Disk.{Ghosts}
-use Rattle.log_model.specs.Damage.{IsDamage}
+use Rattle.recover_command.specs.Recovered.{IsStoreDamage}
 use Rattle.log_model.specs.declared.damage.Damage.{Damage}
 use Rattle.wal_split.specs.Moments.{During, WasOrAlike}
 use Rattle.region_model.specs.Journal.{Base}
@@ -56,6 +56,6 @@ damage_at whys.Memory P told = tt
 damage_at whys.DiskFault P told = tt
 damage_at (whys.Damaged damage) P told = told damage refl
 
-pub not_opened : (why : StartWhy) (before after : DiskView) → During (WasOrAlike before) before after → ((damage : Damage) → why ≡ whys.Damaged damage → IsDamage before.files damage × (after.files ≡ before.files))
-    → IsHalfOpened before after × IfFoundDamaged why (λ damage. IsDamage before.files damage × (after.files ≡ before.files))
+pub not_opened : (why : StartWhy) (before after : DiskView) → During (WasOrAlike before) before after → ((damage : Damage) → why ≡ whys.Damaged damage → IsStoreDamage before.files damage × (after.files ≡ before.files))
+    → IsHalfOpened before after × IfFoundDamaged why (λ damage. IsStoreDamage before.files damage × (after.files ≡ before.files))
 not_opened why before after during damaged = (∣ during ∣₁, damage_at why _ damaged)

@@ -9,7 +9,7 @@ use Rattle.region_model.specs.Lines.{Line, edits_in}
 use Rattle.script_model.specs.Calls.{Script}
 use Rattle.script_model.specs.Report.{EditLine, ReplyLine, report_text}
 use Rattle.script_model.specs.Outputs.{refused_memory, refused_disk}
-use Rattle.log_model.specs.Damage.{IsDamage}
+use Rattle.recover_command.specs.Recovered.{IsStoreDamage}
 use Rattle.log_model.specs.declared.damage.Damage.{Damage}
 use Rattle.log_model.specs.declared.damage.Damage.TheVariants as damages
 use Rattle.region_calls.specs.declared.refusal.StartWhy.{StartWhy}
@@ -147,11 +147,11 @@ damage_line (damages.Bytes name at) = refl
 damage_line (damages.Two first second region number) = refl
 
 pub refused_ends : (rose sank : Type 0) (why : StartWhy) (status : Status) (old new : List ℕ) (script : Script) (before after : DiskView) → status ≡ status_for why
-    → (IsHalfOpened before after × IfFoundDamaged why (λ damage. IsDamage before.files damage × (after.files ≡ before.files)))
+    → (IsHalfOpened before after × IfFoundDamaged why (λ damage. IsStoreDamage before.files damage × (after.files ≡ before.files)))
     → ((text : List ℕ) → refusal_line (status_for why) ≡ Some text → Prints old new text sank) → EndsRun status script before after rose sank (taken_of old new)
 refused_ends rose sank why status old new script before after is half prints = subst (λ s. EndsRun s script before after rose sank (taken_of old new)) (sym is) (go why half.1 prints)
   where
-    go : (why : StartWhy) → IfFoundDamaged why (λ damage. IsDamage before.files damage × (after.files ≡ before.files))
+    go : (why : StartWhy) → IfFoundDamaged why (λ damage. IsStoreDamage before.files damage × (after.files ≡ before.files))
         → ((text : List ℕ) → refusal_line (status_for why) ≡ Some text → Prints old new text sank) → EndsRun (status_for why) script before after rose sank (taken_of old new)
     go whys.Memory d p = inr (refused_so old new refused_memory sank (p refused_memory refl), half_keeps before after half.0)
     go whys.DiskFault d p = inr (refused_so old new refused_disk sank (p refused_disk refl), half.0)

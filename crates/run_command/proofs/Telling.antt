@@ -1,7 +1,7 @@
 -- What each clause of a run says of a status that ends it.
 use Rattle.std.proofs.Common.{◌≡◌, ℕ, zero, suc, List, [], ◌∷◌, Option, Some, None, refl, sym, ap, ◌∙◌, subst, arith, inl, inr}
 use Rattle.log_model.specs.declared.damage.Damage.{Damage}
-use Rattle.log_model.specs.Files.{Files}
+use Rattle.log_model.specs.Files.{Files, IsSound}
 use Rattle.log_model.specs.Damage.{IsDamage}
 use Rattle.disk_images.specs.Crash.{DiskView}
 use Rattle.script_model.specs.Calls.{Script, Says}
@@ -16,6 +16,7 @@ use Rattle.command_ends.specs.Status.{refusal_line, IfDamaged, IsDamageOf, IsInp
 use Rattle.command_ends.specs.declared.status.Status.{Status}
 use Rattle.command_ends.specs.declared.status.Status.TheVariants as ends
 use Rattle.command_ends.proofs.Endings.{refused_so, same_disk}
+use Rattle.recover_command.specs.Recovered.{IsStoreDamage}
 use Rattle.recover_command.proofs.OneDamage.{one_told}
 use Rattle.run_command.specs.Carried.{IfFoundDamaged}
 use Rattle.run_command.specs.Ends.{EndsRun, RunEnds, IsReportEnd, IsParsedEnd, IsRunEnd, IsRunRefusal, IsRunComplete, LeavesStore, status_for}
@@ -78,17 +79,17 @@ refused_damage whys.Memory P Q h = tt
 refused_damage whys.DiskFault P Q h = tt
 refused_damage (whys.Damaged damage) P Q h = h.0
 
-pub refused_first : (why : StartWhy) (files : Files) (Q : Type 0) (damage : Damage) → IfFoundDamaged why (λ d. IsDamage files d × Q) → IsDamage files damage
+pub refused_first : (why : StartWhy) (files : Files) (Q : Type 0) (damage : Damage) → IfFoundDamaged why (λ d. IsStoreDamage files d × Q) → IsDamage files damage
     → IsOrEarlier (status_for why) (ends.Damaged damage) (ends.DiskFault ∷ [])
 refused_first whys.Memory files Q damage h is = inr (0, omega arith, refl)
 refused_first whys.DiskFault files Q damage h is = inr (1, omega arith, refl)
-refused_first (whys.Damaged d) files Q damage h is = inl (ap ends.Damaged (one_told files d damage h.0 is))
+refused_first (whys.Damaged d) files Q damage h is = inl (ap ends.Damaged (one_told files d damage h.0.1 is))
 
-pub refused_complete : (why : StartWhy) (files : Files) (Q d : Type 0) → ((damage : Damage) → IsDamage files damage → ⊥) → IfFoundDamaged why (λ damage. IsDamage files damage × Q)
+pub refused_complete : (why : StartWhy) (files : Files) (Q d : Type 0) → IsSound files → IfFoundDamaged why (λ damage. IsStoreDamage files damage × Q)
     → (why ≡ whys.DiskFault → d) → (d → ⊥) → IsRunComplete (status_for why)
 refused_complete whys.Memory files Q d sound h disk none = tt
 refused_complete whys.DiskFault files Q d sound h disk none = absurd (none (disk refl))
-refused_complete (whys.Damaged damage) files Q d sound h disk none = absurd (sound damage h.0)
+refused_complete (whys.Damaged damage) files Q d sound h disk none = absurd (h.0.0 sound)
 
 -- ---- with a script
 

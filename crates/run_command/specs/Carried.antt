@@ -2,7 +2,7 @@
 use Rattle.std.specs.Prelude.{◌≡◌, ℕ, true, map}
 use Rattle.disk_images.specs.Crash.{DiskView}
 use Rattle.disk_images.specs.Calls.{Rose}
-use Rattle.log_model.specs.Damage.{IsDamage}
+use Rattle.recover_command.specs.Recovered.{IsStoreDamage}
 use Rattle.log_model.specs.declared.damage.Damage.{Damage}
 use Rattle.script_model.specs.Calls.{Script}
 use Rattle.server_model.specs.Pass.{Naming}
@@ -26,13 +26,13 @@ IfFoundDamaged _ P = Unit {0}
 
 -- What is left of a script on a store that was found so: a closed server, with the history of its handlers' calls, of which a crash at each
 -- moment left a beginning; the cells that were found; or a store that could not be opened, which recovers to the same. Damage is one of the
--- files as found, and changed no file.
+-- files as found, which aren't sound, and changed no file.
 abbrev pub HasRan : {D : Type 0} → (D → DiskView) → Script → DiskView → Ran D → Type 0
 HasRan view script before (rans.Closed disk regions replies spent broken) =
     (name : Naming) × HasClosed script before.files (view disk) name regions.items replies.items spent broken × FitsThroughout before (view disk) (map closed_at regions.items)
 HasRan view script before (rans.Left disk) = KeepsFound before (view disk)
 HasRan view script before (rans.NotOpened why disk) =
-    IsHalfOpened before (view disk) × IfFoundDamaged why (λ damage. IsDamage before.files damage × ((view disk).files ≡ before.files))
+    IsHalfOpened before (view disk) × IfFoundDamaged why (λ damage. IsStoreDamage before.files damage × ((view disk).files ≡ before.files))
 
 -- a broken log, and a store that isn't opened for a fault of the disk, have their cause in the disk's count of faults
 abbrev pub HasRanCause : {D : Type 0} → (D → ℕ) → ℕ → Ran D → Type 0

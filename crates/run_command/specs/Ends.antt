@@ -10,7 +10,7 @@ use Rattle.script_model.specs.declared.command.Command.TheVariants.{Run}
 use Rattle.run_model.specs.declared.spent.Spent.{Spent}
 use Rattle.report_text.specs.Reading.{IsReport}
 use Rattle.run_model.specs.Headline.{report_of, IsHeadline, IsSpentHeadline, KeepsFound, IsHalfOpened}
-use Rattle.log_model.specs.Damage.{IsDamage}
+use Rattle.recover_command.specs.Recovered.{IsStoreDamage}
 use Rattle.log_model.specs.declared.damage.Damage.{Damage}
 use Rattle.log_model.specs.declared.damage.Damage.TheVariants as damages
 use Rattle.region_calls.specs.declared.refusal.StartWhy.{StartWhy}
@@ -53,7 +53,7 @@ EndsRun ends.Memory script before after rose sank taken = IsRunReport script bef
 EndsRun ends.DiskFault script before after rose sank taken = IsRunReport script before after 5 taken ⊎ (IsRefused refused_disk sank taken × IsHalfOpened before after)
 EndsRun ends.SinkFault script before after rose sank taken = IsCutReport script before after rose taken
 EndsRun (ends.Damaged damage) script before after rose sank taken =
-    IsRefused (refused_damage damage) sank taken × IsDamage before.files damage × (after.files ≡ before.files) × IsHalfOpened before after
+    IsRefused (refused_damage damage) sank taken × IsStoreDamage before.files damage × (after.files ≡ before.files) × IsHalfOpened before after
 EndsRun (ends.NumbersSpent region last) script before after rose sank taken = IsSpentReport script before after (record { region = region; last = last }) taken
 EndsRun _ script before after rose sank taken = ⊥
 

@@ -13,7 +13,7 @@ ghost use Rattle.command_ends.specs.Invocation.{invocation, taken_of, IsUnchange
 ghost use Rattle.command_ends.specs.Prints.{Prints};
 ghost use Rattle.command_ends.specs.Status.{refusal_line, IfDamaged, IsDamageOf, IsOrEarlier, IsScriptAt, IsScriptFault};
 ghost use Rattle.run_model.specs.Headline.{MayKeep};
-ghost use Rattle.recover_command.specs.Recovered.{AreSized};
+ghost use Rattle.recover_command.specs.Recovered.{IsStoreDamage};
 ghost use Rattle.run_command.specs.Ends.{EndsRun, RunEnds, LeavesStore, IsParsedEnd, IsRunComplete, IsRunEnd, IsRunRefusal, IsStatusOf};
 
 use crate::carrying::{Ran, carry_out};
@@ -49,7 +49,7 @@ pub fn run_script<R: Threads + Wait + Sync, D: Disk + Send, S: Source, K: Sink, 
     ensures script { IsTrue S.told → IsScriptFault result.status (λ line why. script_fault Run (S.left source.old) ≡ Some (line, why)) }
     ensures wrong { IsTrue S.told → (line : ℕ) (why : Why) → script_fault Run (S.left source.old) ≡ Some (line, why) → IsScriptAt result.status line why
         ⊎ Contains (Status.Memory ∷ Status.SourceFault ∷ []) result.status }
-    ensures damage { IsTrue D.told → IsDamageOf result.status (IsDamage (D.view disk).files) }
+    ensures damage { IsTrue D.told → IsDamageOf result.status (IsStoreDamage (D.view disk).files) }
     ensures damaged { IsTrue S.told → IsTrue D.told → (damage : TheDamage) → script_fault Run (S.left source.old) ≡ None
         → (¬ IsSound (D.view disk).files) → IsDamage (D.view disk).files damage
         → IsOrEarlier result.status (Status.Damaged damage) (Status.SourceFault ∷ Status.DiskFault ∷ []) }
@@ -59,7 +59,7 @@ pub fn run_script<R: Threads + Wait + Sync, D: Disk + Send, S: Source, K: Sink, 
     ensures later { (S.faults source.old ≤ S.faults source.new) × (D.faults disk ≤ D.faults result.disk) × (K.faults out.old ≤ K.faults out.new) }
     // With a right script, a sound store and no fault it is done, or memory or a region's sequence ids were spent.
     ensures complete { IsTrue S.told → IsTrue D.told → script_fault Run (S.left source.old) ≡ None
-        → IsSound (D.view disk).files → AreSized (D.view disk).files
+        → IsSound (D.view disk).files
         → (Rose (S.faults source.old) (S.faults source.new) → ⊥) → (Rose (D.faults disk) (D.faults result.disk) → ⊥)
         → (Rose (K.faults out.old) (K.faults out.new) → ⊥) → IsRunComplete result.status }
 {
@@ -90,13 +90,13 @@ pub fn run_parsed<R: Threads + Wait + Sync, D: Disk + Send, K: Sink, G: Gate + S
     ensures damage_leaves { IsTrue D.told → IfDamaged result.status ((D.view result.disk).files ≡ (D.view disk).files) }
     ensures any_moment { IsTrue D.told → AtEachMoment (MayKeep (D.view disk)) (D.view disk) (D.view result.disk) }
     ensures status { IsParsedEnd result.status }
-    ensures damage { IsTrue D.told → IsDamageOf result.status (IsDamage (D.view disk).files) }
+    ensures damage { IsTrue D.told → IsDamageOf result.status (IsStoreDamage (D.view disk).files) }
     ensures damaged { IsTrue D.told → (damage : TheDamage) → (¬ IsSound (D.view disk).files) → IsDamage (D.view disk).files damage
         → IsOrEarlier result.status (Status.Damaged damage) (Status.DiskFault ∷ []) }
     ensures disk_cause { result.status ≡ Status.DiskFault → Rose (D.faults disk) (D.faults result.disk) }
     ensures sink_cause { result.status ≡ Status.SinkFault → Rose (K.faults out.old) (K.faults out.new) }
     ensures later { (D.faults disk ≤ D.faults result.disk) × (K.faults out.old ≤ K.faults out.new) }
-    ensures complete { IsTrue D.told → IsSound (D.view disk).files → AreSized (D.view disk).files
+    ensures complete { IsTrue D.told → IsSound (D.view disk).files
         → (Rose (D.faults disk) (D.faults result.disk) → ⊥) → (Rose (K.faults out.old) (K.faults out.new) → ⊥) → IsRunComplete result.status }
 {
     match carry_out(rt, alloc, script, disk, gate) {

@@ -8,7 +8,7 @@ use Rattle.command_ends.specs.declared.status.Status.TheVariants.{NotEmpty, Disk
 use Rattle.run_model.specs.Headline.{MayKeep}
 use Rattle.command_ends.proofs.Endings.{time_of, unchanged}
 use Rattle.load_command.specs.Statuses.{IsLoadEnd}
-use Rattle.log_model.specs.Damage.{IsDamage}
+use Rattle.recover_command.specs.Recovered.{IsStoreDamage}
 use Rattle.load_command.proofs.Damages.{other_status, first_damage}
 use Rattle.load_command.proofs.Running.{rose_then, ends_before, looked_only, moments_before, closed_load, closed_not_empty, closed_leaves, refused_first, refusal_end, refusal_sink, refusal_first, refusal_complete}
 use Rattle.load_command.proofs.command.load.Goals as goal
@@ -48,7 +48,7 @@ pub returns-in-Ok-clause-disk_cause : goal.returns-in-Ok-clause-disk_cause
 returns-in-Ok-clause-disk_cause g c is = rose_then _ _ _ c.check_empty.ensures.cause.later (c.load_empty.ensures.disk_cause is)
 
 pub returns-in-Ok-clause-complete : goal.returns-in-Ok-clause-complete
-returns-in-Ok-clause-complete g c told none sized disk sink = c.load_empty.ensures.complete told sized (λ rose. disk (rose_then _ _ _ c.check_empty.ensures.cause.later rose)) sink
+returns-in-Ok-clause-complete g c told none disk sink = c.load_empty.ensures.complete told (λ rose. disk (rose_then _ _ _ c.check_empty.ensures.cause.later rose)) sink
 
 pub returns-in-Err-clause-any_moment : goal.returns-in-Err-clause-any_moment
 returns-in-Err-clause-any_moment g c told = looked_only (g.D.Disk.view c.args.disk) (g.D.Disk.view c.check_empty.new.disk) (c.check_empty.ensures.looks told)
@@ -82,7 +82,7 @@ pub returns-in-Err-clause-sink_cause : goal.returns-in-Err-clause-sink_cause
 returns-in-Err-clause-sink_cause g c is = absurd (refusal_sink c.in-Err.status c.in-Err.ensures.refused (sym c.refuse.ensures.status ∙ is))
 
 pub returns-in-Err-clause-complete : goal.returns-in-Err-clause-complete
-returns-in-Err-clause-complete g c told none sized disk sink =
+returns-in-Err-clause-complete g c told none disk sink =
     subst IsComplete (sym c.refuse.ensures.status)
     (refusal_complete c.in-Err.status (g.D.Disk.view c.args.disk).files c.in-Err.ensures.refused (c.in-Err.ensures.not_empty told) none (λ is. disk (c.in-Err.ensures.cause.risen (ap Err is))))
 
@@ -91,5 +91,5 @@ returns-in-Ok-clause-damage g c told = c.load_empty.ensures.damage told
 
 pub returns-in-Err-clause-damage : goal.returns-in-Err-clause-damage
 returns-in-Err-clause-damage g c told =
-    other_status c.refuse.result c.in-Err.status (IsDamage (g.D.Disk.view c.check_empty.new.disk).files) c.refuse.ensures.status
-    (first_damage c.in-Err.status (IsDamage (g.D.Disk.view c.check_empty.new.disk).files) c.in-Err.ensures.refused)
+    other_status c.refuse.result c.in-Err.status (IsStoreDamage (g.D.Disk.view c.check_empty.new.disk).files) c.refuse.ensures.status
+    (first_damage c.in-Err.status (IsStoreDamage (g.D.Disk.view c.check_empty.new.disk).files) c.in-Err.ensures.refused)

@@ -1,5 +1,5 @@
 use Rattle.std.proofs.Common.{refl, sym, ap, ◌∙◌, subst, inl, inr}
-use Rattle.log_model.specs.Damage.{IsDamage}
+use Rattle.recover_command.specs.Recovered.{IsStoreDamage}
 use Rattle.run_model.specs.Headline.{MayKeep}
 use Rattle.command_ends.proofs.Endings.{each_on, no_moment}
 use Rattle.script_model.specs.Outputs.{refused_memory}
@@ -25,7 +25,7 @@ pub returns-in_default-clause-refusal : goal.returns-in_default-clause-refusal
 returns-in_default-clause-refusal g c sink is text line = c.refuse.ensures.prints sink text (ap refusal_line (sym c.refuse.ensures.status) ∙ line)
 
 pub returns-in_default-clause-complete : goal.returns-in_default-clause-complete
-returns-in_default-clause-complete g c told sized disk sink = subst IsComplete (sym c.refuse.ensures.status) tt
+returns-in_default-clause-complete g c told disk sink = subst IsComplete (sym c.refuse.ensures.status) tt
 
 -- ---- closed
 
@@ -53,11 +53,11 @@ returns-in-Closed-clause-disk_cause g c is = elim (fault_cases c.decided_status-
 ]
 
 pub returns-in-Closed-clause-complete : goal.returns-in-Closed-clause-complete
-returns-in-Closed-clause-complete g c told sized disk sink =
+returns-in-Closed-clause-complete g c told disk sink =
     c.end_load-status.ensures.complete told c.args.options c.args.disk
     (ended_from c.args.options _ (g.D.Disk.view c.args.disk) (g.D.Disk.view c.in-Closed.disk) c.in-Closed.regions.items c.in-Closed.replies.items c.in-Closed.spent c.in-Closed.broken c.decided_status-status.result
     c.requires.options (c.requires.empty told) c.in-Ok.ensures.made (c.in-Closed.ensures.ran told) c.decided_status-status.ensures.either)
-    sized (λ is. disk (rose_later _ _ _ (c.in-Closed.ensures.cause (c.decided_status-status.ensures.cause is)) c.end_load-status.ensures.later.0)) (λ rose. disk (rose_then _ _ _ c.in-Closed.ensures.later rose)) sink
+    (λ is. disk (rose_later _ _ _ (c.in-Closed.ensures.cause (c.decided_status-status.ensures.cause is)) c.end_load-status.ensures.later.0)) (λ rose. disk (rose_then _ _ _ c.in-Closed.ensures.later rose)) sink
 
 -- ---- left
 
@@ -70,7 +70,7 @@ pub returns-in-Left-clause-refusal : goal.returns-in-Left-clause-refusal
 returns-in-Left-clause-refusal g c sink is text line = c.refuse-in-Left.ensures.prints sink text (ap refusal_line (sym c.refuse-in-Left.ensures.status) ∙ line)
 
 pub returns-in-Left-clause-complete : goal.returns-in-Left-clause-complete
-returns-in-Left-clause-complete g c told sized disk sink = subst IsComplete (sym c.refuse-in-Left.ensures.status) tt
+returns-in-Left-clause-complete g c told disk sink = subst IsComplete (sym c.refuse-in-Left.ensures.status) tt
 
 -- ---- not opened
 
@@ -92,22 +92,22 @@ pub returns-in-NotOpened-clause-sink_cause : goal.returns-in-NotOpened-clause-si
 returns-in-NotOpened-clause-sink_cause g c is = absurd (opening_sink c.in-NotOpened.why (sym (c.refuse-in-NotOpened.ensures.status ∙ c.status_of.ensures) ∙ is))
 
 pub returns-in-NotOpened-clause-complete : goal.returns-in-NotOpened-clause-complete
-returns-in-NotOpened-clause-complete g c told sized disk sink =
+returns-in-NotOpened-clause-complete g c told disk sink =
     subst IsComplete (sym (c.refuse-in-NotOpened.ensures.status ∙ c.status_of.ensures))
     (opening_complete c.in-NotOpened.why (g.D.Disk.view c.args.disk).files _ (c.requires.empty told) (λ is. disk (c.in-NotOpened.ensures.cause is)) (c.in-NotOpened.ensures.ran told).1)
 
 pub returns-in-NotOpened-clause-damage : goal.returns-in-NotOpened-clause-damage
 returns-in-NotOpened-clause-damage g c told =
-    other_status c.refuse-in-NotOpened.result _ (IsDamage (g.D.Disk.view c.in-NotOpened.disk).files) (c.refuse-in-NotOpened.ensures.status ∙ c.status_of.ensures)
+    other_status c.refuse-in-NotOpened.result _ (IsStoreDamage (g.D.Disk.view c.in-NotOpened.disk).files) (c.refuse-in-NotOpened.ensures.status ∙ c.status_of.ensures)
     (opened_damage c.in-NotOpened.why (g.D.Disk.view c.args.disk).files (g.D.Disk.view c.in-NotOpened.disk).files (c.in-NotOpened.ensures.ran told).1)
 
 -- ---- no damage
 
 pub returns-in_default-clause-damage : goal.returns-in_default-clause-damage
-returns-in_default-clause-damage g c told = other_status c.refuse.result _ (IsDamage (g.D.Disk.view c.args.disk).files) c.refuse.ensures.status tt
+returns-in_default-clause-damage g c told = other_status c.refuse.result _ (IsStoreDamage (g.D.Disk.view c.args.disk).files) c.refuse.ensures.status tt
 
 pub returns-in-Left-clause-damage : goal.returns-in-Left-clause-damage
-returns-in-Left-clause-damage g c told = other_status c.refuse-in-Left.result _ (IsDamage (g.D.Disk.view c.in-Left.disk).files) c.refuse-in-Left.ensures.status tt
+returns-in-Left-clause-damage g c told = other_status c.refuse-in-Left.result _ (IsStoreDamage (g.D.Disk.view c.in-Left.disk).files) c.refuse-in-Left.ensures.status tt
 
 pub returns-in-Closed-clause-damage : goal.returns-in-Closed-clause-damage
 returns-in-Closed-clause-damage g c told = c.end_load-status.ensures.damage told

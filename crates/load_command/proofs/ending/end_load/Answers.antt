@@ -5,7 +5,7 @@ use Rattle.command_ends.specs.Status.{refusal_line, IsComplete}
 use Rattle.command_ends.specs.declared.status.Status.{Status}
 use Rattle.run_model.proofs.KeepsFound.{all_keep}
 use Rattle.load_command.specs.Ends.{HasEnded}
-use Rattle.log_model.specs.Damage.{IsDamage}
+use Rattle.recover_command.specs.Recovered.{IsStoreDamage}
 use Rattle.load_command.proofs.Damages.{other_status, printed_damage}
 use Rattle.load_command.proofs.Kept.{stays_kept}
 use Rattle.load_command.proofs.Telling.{memory_ends, reading_closed, unfinished_ends, unfinished_refusal, unfinished_end, unfinished_fault, unfinished_complete, decided_told}
@@ -23,7 +23,7 @@ pub returns-in-Memory-clause-refusal : goal.returns-in-Memory-clause-refusal
 returns-in-Memory-clause-refusal g c taken is text line = c.refuse.ensures.prints taken text (ap refusal_line (sym c.refuse.ensures.status) ∙ line)
 
 pub returns-in-Memory-clause-complete : goal.returns-in-Memory-clause-complete
-returns-in-Memory-clause-complete g c told options first ended sized unbroken disk sink = subst IsComplete (sym c.refuse.ensures.status) tt
+returns-in-Memory-clause-complete g c told options first ended unbroken disk sink = subst IsComplete (sym c.refuse.ensures.status) tt
 
 pub returns-in-Done-clause-any_moment : goal.returns-in-Done-clause-any_moment
 returns-in-Done-clause-any_moment g c told options first ended =
@@ -40,8 +40,8 @@ pub returns-in-Done-clause-status : goal.returns-in-Done-clause-status
 returns-in-Done-clause-status g c = reading_closed c.recover_load.result c.recover_load.ensures.status
 
 pub returns-in-Done-clause-complete : goal.returns-in-Done-clause-complete
-returns-in-Done-clause-complete g c told options first ended sized unbroken disk sink =
-    c.recover_load.ensures.complete told options first (subst (λ (s : Status). HasEnded options (g.D.Disk.view first) (g.D.Disk.view c.args.disk.now) s) c.in-Done.is ended) sized disk sink
+returns-in-Done-clause-complete g c told options first ended unbroken disk sink =
+    c.recover_load.ensures.complete told options first (subst (λ (s : Status). HasEnded options (g.D.Disk.view first) (g.D.Disk.view c.args.disk.now) s) c.in-Done.is ended) disk sink
 
 pub print_ended-requires-clause-printed : goal.print_ended-requires-clause-printed
 print_ended-requires-clause-printed g c is = decided_told c.args.status c.requires is
@@ -70,14 +70,14 @@ pub returns-in_default-clause-disk_cause : goal.returns-in_default-clause-disk_c
 returns-in_default-clause-disk_cause g c is other = absurd (unfinished_fault c.args.status c.print_ended.result c.print_ended.ensures.status is other)
 
 pub returns-in_default-clause-complete : goal.returns-in_default-clause-complete
-returns-in_default-clause-complete g c told options first ended sized unbroken disk sink =
+returns-in_default-clause-complete g c told options first ended unbroken disk sink =
     unfinished_complete c.args.status c.print_ended.result options (g.D.Disk.view first) (g.D.Disk.view c.args.disk.now) c.print_ended.ensures.status c.requires c.in_default.not-Done c.in_default.not-Memory ended unbroken (λ is. sink (c.print_ended.ensures.cause is))
 
 pub returns-in-Memory-clause-damage : goal.returns-in-Memory-clause-damage
-returns-in-Memory-clause-damage g c told = other_status c.refuse.result _ (IsDamage (g.D.Disk.view c.args.disk.now).files) c.refuse.ensures.status tt
+returns-in-Memory-clause-damage g c told = other_status c.refuse.result _ (IsStoreDamage (g.D.Disk.view c.args.disk.now).files) c.refuse.ensures.status tt
 
 pub returns-in-Done-clause-damage : goal.returns-in-Done-clause-damage
 returns-in-Done-clause-damage g c told = c.recover_load.ensures.damage told
 
 pub returns-in_default-clause-damage : goal.returns-in_default-clause-damage
-returns-in_default-clause-damage g c told = printed_damage c.args.status c.print_ended.result (IsDamage (g.D.Disk.view c.args.disk.now).files) c.requires c.print_ended.ensures.status
+returns-in_default-clause-damage g c told = printed_damage c.args.status c.print_ended.result (IsStoreDamage (g.D.Disk.view c.args.disk.now).files) c.requires c.print_ended.ensures.status

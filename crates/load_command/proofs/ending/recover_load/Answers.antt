@@ -10,8 +10,8 @@ use Rattle.recover_command.proofs.Telling.{reads_refused, fault_refused}
 use Rattle.recover_command.specs.Refusals.{refused_as}
 use Rattle.load_command.specs.Counted.{cells_of}
 use Rattle.load_command.specs.Ends.{EndsLoad}
-use Rattle.log_model.specs.Damage.{IsDamage}
-use Rattle.load_command.proofs.Damages.{other_status, print_damage, refused_damage}
+use Rattle.recover_command.specs.Recovered.{IsStoreDamage}
+use Rattle.load_command.proofs.Damages.{other_status, print_damage, found_damage, refused_damage}
 use Rattle.load_command.proofs.Kept.{opened_keeps, opened_throughout}
 use Rattle.load_command.proofs.Telling.{done, printed_ends, refused_ends, print_complete, refused_complete, undamaged, stopped_at, broken_ends}
 use Rattle.load_command.proofs.Running.{rose_then}
@@ -39,7 +39,7 @@ pub returns-in-Ok-clause-refusal : goal.returns-in-Ok-clause-refusal
 returns-in-Ok-clause-refusal g c taken may = lined c.print_loaded.result _ _ _ c.print_loaded.ensures.status (c.print_loaded.ensures.refusal taken)
 
 pub returns-in-Ok-clause-complete : goal.returns-in-Ok-clause-complete
-returns-in-Ok-clause-complete g c told options first ended sized disk sink = print_complete c.print_loaded.result c.print_loaded.ensures.status (λ is. sink (c.print_loaded.ensures.cause is))
+returns-in-Ok-clause-complete g c told options first ended disk sink = print_complete c.print_loaded.result c.print_loaded.ensures.status (λ is. sink (c.print_loaded.ensures.cause is))
 
 pub returns-in_default-clause-any_moment : goal.returns-in_default-clause-any_moment
 returns-in_default-clause-any_moment g c told options first ended =
@@ -65,21 +65,22 @@ pub returns-in_default-clause-disk_cause : goal.returns-in_default-clause-disk_c
 returns-in_default-clause-disk_cause g c is = c.in-Err.ensures.cause.risen (ap Err (fault_refused c.in-Err.refusal (sym (c.refuse.ensures.status ∙ c.status_of.ensures) ∙ is)))
 
 pub returns-in_default-clause-complete : goal.returns-in_default-clause-complete
-returns-in_default-clause-complete g c told options first ended sized disk sink =
+returns-in_default-clause-complete g c told options first ended disk sink =
     let before = g.D.Disk.view first in
     let left = g.D.Disk.view c.args.disk.now in
     let after = g.D.Disk.view c.recover_all.new.disk in
     let now = (g.met.D.Disk.is_true c.args.disk.now told).reads in
     subst IsComplete (sym (c.refuse.ensures.status ∙ c.status_of.ensures))
-    (refused_complete c.in-Err.refusal _ (λ is. disk (c.in-Err.ensures.cause.risen (ap Err is))) (λ d told_damage. undamaged options before left after d ended now sized told_damage.1 told_damage.0) (c.in-Err.ensures.damaged told))
+    (refused_complete c.in-Err.refusal _ (λ is. disk (c.in-Err.ensures.cause.risen (ap Err is))) (λ d told_damage. undamaged options before left d ended now told_damage.0) (found_damage c.in-Err.refusal left.files after.files (c.in-Err.ensures.damaged told) (c.in-Err.ensures.unsound told)))
 
 pub returns-in-Ok-clause-damage : goal.returns-in-Ok-clause-damage
-returns-in-Ok-clause-damage g c told = print_damage c.print_loaded.result (IsDamage (g.D.Disk.view c.recover_all.new.disk).files) c.print_loaded.ensures.status
+returns-in-Ok-clause-damage g c told = print_damage c.print_loaded.result (IsStoreDamage (g.D.Disk.view c.recover_all.new.disk).files) c.print_loaded.ensures.status
 
 pub returns-in_default-clause-damage : goal.returns-in_default-clause-damage
 returns-in_default-clause-damage g c told =
-    other_status c.refuse.result _ (IsDamage (g.D.Disk.view c.recover_all.new.disk).files) (c.refuse.ensures.status ∙ c.status_of.ensures)
-    (refused_damage c.in-Err.refusal (g.D.Disk.view c.args.disk.now).files (g.D.Disk.view c.recover_all.new.disk).files (c.in-Err.ensures.damaged told))
+    other_status c.refuse.result _ (IsStoreDamage (g.D.Disk.view c.recover_all.new.disk).files) (c.refuse.ensures.status ∙ c.status_of.ensures)
+    (refused_damage c.in-Err.refusal (g.D.Disk.view c.args.disk.now).files (g.D.Disk.view c.recover_all.new.disk).files
+    (found_damage c.in-Err.refusal (g.D.Disk.view c.args.disk.now).files (g.D.Disk.view c.recover_all.new.disk).files (c.in-Err.ensures.damaged told) (c.in-Err.ensures.unsound told)))
 
 pub returns-in-DiskFault-clause-any_moment : goal.returns-in-DiskFault-clause-any_moment
 returns-in-DiskFault-clause-any_moment g c told options first ended =

@@ -21,7 +21,7 @@ returns-in-Some-Show-clause-damage g c told word damage names right damaged =
 pub returns-in-Some-Show-clause-complete : goal.returns-in-Some-Show-clause-complete
 returns-in-Some-Show-clause-complete g c told told_disk word names ready no_source no_disk no_sink =
     let read : c.in-Ok.word ≡ Some Show = search rules in
-    show_complete word c.show.result (g.S.Source.left c.args.script.now) (g.D.Disk.view c.args.disk).files (g.D.Disk.view c.show.new.disk).files
+    show_complete word c.show.result (g.S.Source.left c.args.script.now) (g.D.Disk.view c.args.disk).files
     (Rose (g.D.Disk.faults c.args.disk) (g.D.Disk.faults c.show.new.disk)) (Rose (g.K.Sink.faults c.args.out.now) (g.K.Sink.faults c.show.new.out))
     (word_named c.in-Ok.word Show _ word read c.in-Ok.ensures.named names)
     c.show.ensures.status (c.show.ensures.damage told_disk) c.show.ensures.disk_cause c.show.ensures.sink_cause ready no_disk no_sink
@@ -36,7 +36,7 @@ returns-in-Some-Dump-clause-damage g c told word damage names right damaged =
 pub returns-in-Some-Dump-clause-complete : goal.returns-in-Some-Dump-clause-complete
 returns-in-Some-Dump-clause-complete g c told told_disk word names ready no_source no_disk no_sink =
     let read : c.in-Ok.word ≡ Some (Dump c.in-Some-Dump.number) = search rules in
-    dump_complete word c.in-Some-Dump.number c.dump.result (g.S.Source.left c.args.script.now) (g.D.Disk.view c.args.disk).files (g.D.Disk.view c.dump.new.disk).files
+    dump_complete word c.in-Some-Dump.number c.dump.result (g.S.Source.left c.args.script.now) (g.D.Disk.view c.args.disk).files
     (Rose (g.D.Disk.faults c.args.disk) (g.D.Disk.faults c.dump.new.disk)) (Rose (g.K.Sink.faults c.args.out.now) (g.K.Sink.faults c.dump.new.out))
     (word_named c.in-Ok.word (Dump c.in-Some-Dump.number) _ word read c.in-Ok.ensures.named names)
     c.dump.ensures.status (c.dump.ensures.damage told_disk) c.dump.ensures.disk_cause c.dump.ensures.sink_cause ready no_disk no_sink
@@ -78,7 +78,7 @@ returns-in-Some-Recover-clause-any_moment g c told told_disk =
 pub returns-in-Some-Recover-clause-complete : goal.returns-in-Some-Recover-clause-complete
 returns-in-Some-Recover-clause-complete g c told told_disk word names ready no_source no_disk no_sink =
     let read : c.in-Ok.word ≡ Some Recover = search rules in
-    recover_complete word c.recover.result (g.S.Source.left c.args.script.now) (g.D.Disk.view c.args.disk).files (g.D.Disk.view c.recover.new.disk).files
+    recover_complete word c.recover.result (g.S.Source.left c.args.script.now) (g.D.Disk.view c.args.disk).files
     (Rose (g.D.Disk.faults c.args.disk) (g.D.Disk.faults c.recover.new.disk)) (Rose (g.K.Sink.faults c.args.out.now) (g.K.Sink.faults c.recover.new.out))
     (word_named c.in-Ok.word Recover _ word read c.in-Ok.ensures.named names)
     c.recover.ensures.status (c.recover.ensures.damage told_disk) c.recover.ensures.disk_cause c.recover.ensures.sink_cause ready no_disk no_sink
@@ -110,9 +110,9 @@ returns-in-Some-Run-clause-damage g c told_disk word damage names right damaged 
 pub returns-in-Some-Run-clause-complete : goal.returns-in-Some-Run-clause-complete
 returns-in-Some-Run-clause-complete g c told told_disk word names ready no_source no_disk no_sink =
     let read : c.in-Ok.word ≡ Some Run = search rules in
-    run_complete word c.run_script.result.status (g.S.Source.left c.args.script.now) (g.D.Disk.view c.args.disk).files (g.D.Disk.view c.run_script.result.disk).files
+    run_complete word c.run_script.result.status (g.S.Source.left c.args.script.now) (g.D.Disk.view c.args.disk).files
     (word_named c.in-Ok.word Run _ word read c.in-Ok.ensures.named names) ready
-    (λ right sound sized. c.run_script.ensures.complete told told_disk right sound sized no_source no_disk no_sink)
+    (λ right sound. c.run_script.ensures.complete told told_disk right sound no_source no_disk no_sink)
 
 pub returns-in-None-clause-usage : goal.returns-in-None-clause-usage
 returns-in-None-clause-usage g c none = inl c.refuse-in-None.ensures.status

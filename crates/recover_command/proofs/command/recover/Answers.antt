@@ -11,6 +11,8 @@ use Rattle.recover_command.specs.Lines.{lines_from}
 use Rattle.recover_command.specs.Recovered.{EndsRecover}
 use Rattle.recover_command.proofs.Leaving.{recovered, opens_again}
 use Rattle.recover_command.proofs.Telling.{refused_ends, printed_ends, reads_refused, fault_refused, leaves_refused, damage_refused, damaged_refused, print_leaves}
+use Rattle.log_model.specs.Files.{IsSound}
+use Rattle.recover_command.specs.Recovered.{IsStoreDamage}
 use Rattle.recover_command.proofs.command.recover.Goals as goal
 
 pub returns-in-Ok-clause-ends : goal.returns-in-Ok-clause-ends
@@ -59,7 +61,7 @@ returns-in-Err-clause-status g c = subst IsReadingEnd (sym (c.refuse.ensures.sta
 pub returns-in-Err-clause-damage : goal.returns-in-Err-clause-damage
 returns-in-Err-clause-damage g c told =
     let files = (g.D.Disk.view c.args.disk.now).files in
-    subst (λ (s : Status). IsDamageOf s (IsDamage files)) (sym (c.refuse.ensures.status ∙ c.status_of.ensures)) (damage_refused c.in-Err.refusal _ (IsDamage files) (λ d h. h.0) (c.in-Err.ensures.damaged told))
+    subst (λ (s : Status). IsDamageOf s (IsStoreDamage files)) (sym (c.refuse.ensures.status ∙ c.status_of.ensures)) (damage_refused c.in-Err.refusal _ (λ d. ¬ IsSound files) (IsStoreDamage files) (λ d h u. (u, h.0)) (c.in-Err.ensures.damaged told) (c.in-Err.ensures.unsound told))
 
 pub returns-in-Err-clause-damaged : goal.returns-in-Err-clause-damaged
 returns-in-Err-clause-damaged g c told damage not is =

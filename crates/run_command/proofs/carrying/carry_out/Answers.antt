@@ -47,7 +47,7 @@ returns-in-Left-clause-ran g c told = subst (λ d. KeepsFound (g.D.Disk.view d) 
 
 pub returns-in-Err-clause-ran : goal.returns-in-Err-clause-ran
 returns-in-Err-clause-ran g c told =
-    not_opened c.in-Err.field-0.why (g.D.Disk.view c.args.disk) (g.D.Disk.view c.in-Err.field-0.disk) (c.in-Err.ensures.any_moment told) (λ damage is. c.in-Err.ensures.damaged told damage is)
+    not_opened c.in-Err.field-0.why (g.D.Disk.view c.args.disk) (g.D.Disk.view c.in-Err.field-0.disk) (c.in-Err.ensures.any_moment told) (λ damage is. let found = c.in-Err.ensures.damaged told damage is in ((c.in-Err.ensures.unsound told damage is, found.0), found.1))
 
 pub returns-in_default-clause-any_moment : goal.returns-in_default-clause-any_moment
 returns-in_default-clause-any_moment g c told = stays_throughout (g.D.Disk.view c.args.disk)

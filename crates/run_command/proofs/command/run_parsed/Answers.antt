@@ -1,7 +1,6 @@
 use Rattle.std.proofs.Common.{◌≡◌, [], ◌∷◌, sym, ap, ◌∙◌, subst}
 use Rattle.disk_images.specs.Calls.{Rose}
-use Rattle.log_model.specs.Damage.{IsDamage}
-use Rattle.log_model.proofs.DamageLaws.{sound_undamaged}
+use Rattle.recover_command.specs.Recovered.{IsStoreDamage}
 use Rattle.command_ends.specs.Status.{refusal_line, IfDamaged, IsDamageOf, IsOrEarlier}
 use Rattle.command_ends.specs.declared.status.Status.{Status}
 use Rattle.command_ends.specs.declared.status.Status.TheVariants.{Damaged, DiskFault}
@@ -36,7 +35,7 @@ pub returns-in-Closed-clause-disk_cause : goal.returns-in-Closed-clause-disk_cau
 returns-in-Closed-clause-disk_cause g c is = c.in-Closed.ensures.cause (c.print_report.ensures.broken is)
 
 pub returns-in-Closed-clause-complete : goal.returns-in-Closed-clause-complete
-returns-in-Closed-clause-complete g c told sound sized no_disk no_sink =
+returns-in-Closed-clause-complete g c told sound no_disk no_sink =
     report_complete _ _ no_disk no_sink c.print_report.result c.print_report.ensures.status (λ is. c.in-Closed.ensures.cause (c.print_report.ensures.broken is)) c.print_report.ensures.cause
 
 -- ---- left
@@ -70,7 +69,7 @@ returns-in-NotOpened-clause-status g c = subst IsParsedEnd (sym (c.refuse-in-Not
 
 pub returns-in-NotOpened-clause-damage : goal.returns-in-NotOpened-clause-damage
 returns-in-NotOpened-clause-damage g c told =
-    subst (λ (s : Status). IsDamageOf s (IsDamage (g.D.Disk.view c.args.disk).files)) (sym (c.refuse-in-NotOpened.ensures.status ∙ c.status_of.ensures))
+    subst (λ (s : Status). IsDamageOf s (IsStoreDamage (g.D.Disk.view c.args.disk).files)) (sym (c.refuse-in-NotOpened.ensures.status ∙ c.status_of.ensures))
     (refused_damage c.in-NotOpened.why _ _ (c.in-NotOpened.ensures.ran told).1)
 
 pub returns-in-NotOpened-clause-damaged : goal.returns-in-NotOpened-clause-damaged
@@ -82,6 +81,6 @@ pub returns-in-NotOpened-clause-disk_cause : goal.returns-in-NotOpened-clause-di
 returns-in-NotOpened-clause-disk_cause g c is = c.in-NotOpened.ensures.cause (refused_fault c.in-NotOpened.why (sym (c.refuse-in-NotOpened.ensures.status ∙ c.status_of.ensures) ∙ is))
 
 pub returns-in-NotOpened-clause-complete : goal.returns-in-NotOpened-clause-complete
-returns-in-NotOpened-clause-complete g c told sound sized no_disk no_sink =
+returns-in-NotOpened-clause-complete g c told sound no_disk no_sink =
     subst IsRunComplete (sym (c.refuse-in-NotOpened.ensures.status ∙ c.status_of.ensures))
-    (refused_complete c.in-NotOpened.why (g.D.Disk.view c.args.disk).files _ _ (sound_undamaged (g.D.Disk.view c.args.disk).files sized sound).2 (c.in-NotOpened.ensures.ran told).1 c.in-NotOpened.ensures.cause no_disk)
+    (refused_complete c.in-NotOpened.why (g.D.Disk.view c.args.disk).files _ _ sound (c.in-NotOpened.ensures.ran told).1 c.in-NotOpened.ensures.cause no_disk)

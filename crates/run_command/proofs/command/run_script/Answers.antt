@@ -33,7 +33,7 @@ pub returns-in-Ok-clause-source_cause : goal.returns-in-Ok-clause-source_cause
 returns-in-Ok-clause-source_cause g c is = absurd (run_source c.run_parsed.result.status c.run_parsed.ensures.status is)
 
 pub returns-in-Ok-clause-complete : goal.returns-in-Ok-clause-complete
-returns-in-Ok-clause-complete g c told told_disk right sound sized no_source no_disk no_sink = c.run_parsed.ensures.complete told_disk sound sized no_disk no_sink
+returns-in-Ok-clause-complete g c told told_disk right sound no_source no_disk no_sink = c.run_parsed.ensures.complete told_disk sound no_disk no_sink
 
 pub returns-in-Err-clause-ends : goal.returns-in-Err-clause-ends
 returns-in-Err-clause-ends g c told told_disk told_sink =
@@ -54,7 +54,7 @@ returns-in-Err-clause-damaged g c told told_disk damage right not is =
     (input_first (script_fault Run (g.S.Source.left c.args.source.now)) (Damaged damage) (DiskFault ∷ []) right c.in-Err.status c.in-Err.ensures.refused (c.in-Err.ensures.script told))
 
 pub returns-in-Err-clause-complete : goal.returns-in-Err-clause-complete
-returns-in-Err-clause-complete g c told told_disk right sound sized no_source no_disk no_sink =
+returns-in-Err-clause-complete g c told told_disk right sound no_source no_disk no_sink =
     subst IsRunComplete (sym c.refuse.ensures.status)
     (input_complete (script_fault Run (g.S.Source.left c.args.source.now)) (Rose (g.S.Source.faults c.args.source.now) (g.S.Source.faults c.read_script.new.source)) right no_source c.in-Err.status c.in-Err.ensures.refused (c.in-Err.ensures.script told)
     (λ is. c.in-Err.ensures.cause (ap Err is)))
