@@ -17,6 +17,11 @@ pub has_file : {A : Type 0} (o : Option A) → is_none o ≡ false → o ≡ Non
 has_file None whole = absurd (cc whole)
 has_file (Some a) whole = λ none. cc none
 
+-- what follows from the one that is there
+pub from_some : {A B : Type 0} (o : Option A) → (o ≡ None → ⊥) → ((a : A) → o ≡ Some a → B) → B
+from_some None some f = absurd (some refl)
+from_some (Some a) some f = f a refl
+
 pub not_broken : {A : Type 0} (o : Option A) → (o ≡ None → ⊥) → is_none o ≡ false
 not_broken None some = absurd (some refl)
 not_broken (Some a) some = refl

@@ -17,7 +17,7 @@ give_both-requires-clause-device g c =
 
 pub returns-clause-rolled : goal.returns-clause-rolled
 returns-clause-rolled g c =
-    then_whole c.roll-rolled.result refusals.WriteFault c.roll-rolled.ensures.broken.1 (λ rolled unbroken said. (said.0, (log_of c.roll-rolled.new.committer.device, said.1))) c.roll-rolled.ensures.rolled
+    then_whole c.roll-rolled.result refusals.WriteFault c.roll-rolled.ensures.broken.1 (λ rolled unbroken said. (said.0, log_of c.roll-rolled.new.committer.device, said.1)) c.roll-rolled.ensures.rolled
 
 pub returns-clause-moved : goal.returns-clause-moved
 returns-clause-moved g c whole =
