@@ -1,11 +1,10 @@
-use Rattle.std.proofs.Common.{◌≡◌, ◌≤◌, ◌<◌, ◌-◌, ◌+◌, ℕ, get_or, refl, sym, ap, ◌∙◌, subst, arith}
+use Rattle.std.proofs.Common.{◌≡◌, sym, ap, ◌∙◌}
 use Rattle.crossbeam_queue.specs.Passes.{view}
 use Rattle.log_berth.proofs.Joined.{no_more-trans}
 use Rattle.log_device.specs.declared.error.RollRefusal.TheVariants as refusals
 use Rattle.log_device.specs.Whole.{log_of, books_of}
 use Rattle.log_service.specs.Numbers.{told_numbers}
 use Rattle.log_service.specs.Places.{Place}
-use Rattle.log_service.proofs.Numbers.{synced_low}
 use Rattle.log_service.proofs.Sees.{has_file, not_broken, then_whole, sees_all, closed_over}
 use Rattle.log_service.proofs.service.LogService.roll.Goals as goal
 
