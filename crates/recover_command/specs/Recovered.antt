@@ -1,10 +1,9 @@
 -- The command that recovers a store.
-use Rattle.std.specs.Prelude.{◌≡◌, ℕ, ◌+◌, ◌<◌, ◌^◌, List, [], ◌∷◌, length}
+use Rattle.std.specs.Prelude.{◌≡◌, ℕ, ◌+◌, List, [], ◌∷◌, length}
 use Rattle.std.specs.FinMap.{len}
 use Rattle.cell_model.specs.Order.{Content}
-use Rattle.log_model.specs.declared.name.Name.{Name}
 use Rattle.log_model.specs.declared.damage.Damage.{Damage}
-use Rattle.log_model.specs.Files.{Files, Reads, IsSound}
+use Rattle.log_model.specs.Files.{Files, IsSound}
 use Rattle.log_model.specs.Damage.{IsDamage}
 use Rattle.log_model.specs.Recovered.{IsLast, IsRecovered, IsContent}
 use Rattle.disk_images.specs.Crash.{IsImageNow}

@@ -1,5 +1,4 @@
 use Rattle.std.proofs.Common.{Err, sym, ap, subst, ◌≡◌, ◌∙◌, ◌∷◌, []}
-use Rattle.log_model.specs.Damage.{IsDamage}
 use Rattle.disk_images.specs.Calls.{Rose}
 use Rattle.script_model.specs.Outputs.{recover_text}
 use Rattle.command_ends.specs.Invocation.{invocation}
