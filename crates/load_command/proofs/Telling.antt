@@ -2,7 +2,6 @@
 use Rattle.std.proofs.Common.{Err, ◌≡◌, ◌≢◌, ◌⊎◌, ℕ, ◌-◌, ◌^◌, min, sum_by, List, [], length, Some, inl, inr, refl, sym, ap, ◌∙◌, subst}
 use Rattle.std.proofs.Math.Logic.{∥∥₁_map, ∥∥₁_elim}
 use Rattle.log_model.specs.Files.{Files, IsSound}
-use Rattle.log_model.specs.Damage.{IsDamage}
 use Rattle.log_model.specs.declared.damage.Damage.{Damage}
 use Rattle.disk_images.specs.Crash.{DiskView, IsImageNow}
 use Rattle.recovery.specs.Alike.{AllAlike}
