@@ -74,4 +74,3 @@ fn stopped_at_each_moment_a_prefix_is_there(rt: HostRuntime) -> Result<(), TestF
     }
     Ok(())
 }
-

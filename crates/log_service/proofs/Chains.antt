@@ -1,5 +1,5 @@
 -- Trucks in a row, and what they take of a stage.
-use Rattle.std.proofs.Common.{◌≡◌, ℕ, ◌+◌, ◌≤◌, List, [], ◌∷◌, ◌++◌, length, refl, ◌∙◌, arith}
+use Rattle.std.proofs.Common.{◌≡◌, ℕ, ◌+◌, List, [], ◌∷◌, ◌++◌, length, refl, ◌∙◌, arith}
 use Rattle.log_trucks.specs.Held.{Held}
 use Rattle.log_service.specs.Trucks.{size_of, AreSpelled, FollowOn, onward, come_to}
 

@@ -62,7 +62,7 @@ module _ (N : RattleType) (g : Ghosts N.Denot) where
   mover_send =
       let T = mover.the_type N g in
       recorded_send (Struct (shape T)) T.D T.to T.to_one
-      (struct_send (shape T) (items_send, (load_send, (search (item_send, sendable, crosses) depth 20, (loads_send, (idle_send, (search sendable, (search (sendable, crosses) depth 20, tt))))))))
+      (struct_send (shape T) (items_send, (load_send, (search (item_send, sendable, crosses) depth 20, (loads_send, (idle_send, (search sendable, (search sendable, (search (sendable, crosses) depth 20, tt)))))))))
 
 device_send : (D : RattleType) → IsSend D → IsSend (device.the_field D).row
 device_send D d = search (log_file.the_send, ledger_send, sendable, crosses) fits 5000 depth 30
@@ -86,7 +86,7 @@ module _ (D N : RattleType) (f : DiskGhosts D.Denot) (g : Ghosts N.Denot) where
         search (ring.the_sync, item_send, sendable, crosses) depth 20,
         (
           search (ring.the_sync, load_send, sendable, crosses) depth 20,
-          (search (berth.the_sync, first, sendable, crosses) depth 20, (search (berth.the_sync, second, sendable, crosses) depth 20, (search sendable, (search (sendable, crosses) fits 5000 depth 30, (search (sendable, crosses) fits 5000 depth 30, tt))))),
+          (search (berth.the_sync, first, sendable, crosses) depth 20, (search (berth.the_sync, second, sendable, crosses) depth 20, (search sendable, (search (sendable, crosses) fits 5000 depth 30, (search (sendable, crosses) fits 5000 depth 30, (search (sendable, crosses) fits 5000 depth 30, (search (sendable, crosses) fits 5000 depth 30, tt))))))),
         ),
       ))
 

@@ -1,5 +1,5 @@
 -- What a seat has seen of the words, and the loads that were committed.
-use Rattle.std.proofs.Common.{◌≡◌, ◌≤◌, ◌<◌, ◌+◌, ◌-◌, ◌*◌, ℕ, List, false, length, get_or, refl, sym, ap, ◌∙◌, arith}
+use Rattle.std.proofs.Common.{◌≡◌, ◌≤◌, ◌<◌, ◌+◌, ◌-◌, ◌*◌, ℕ, List, false, length, get_or, refl, ap, ◌∙◌, arith}
 use Rattle.std.specs.Prelude.{Option, Some, None, is_none, Result, Ok, Err, IfOk}
 use Rattle.append_ring.specs.Rules.{base_of}
 use Rattle.log_berth.specs.declared.known.Known.{Known}
@@ -16,6 +16,11 @@ use Rattle.log_service.proofs.Numbers.{told_synced, told_stored, told_closed, sy
 pub has_file : {A : Type 0} (o : Option A) → is_none o ≡ false → o ≡ None → ⊥
 has_file None whole = absurd (cc whole)
 has_file (Some a) whole = λ none. cc none
+
+-- what follows from the one that is there
+pub from_some : {A B : Type 0} (o : Option A) → (o ≡ None → ⊥) → ((a : A) → o ≡ Some a → B) → B
+from_some None some f = absurd (some refl)
+from_some (Some a) some f = f a refl
 
 pub not_broken : {A : Type 0} (o : Option A) → (o ≡ None → ⊥) → is_none o ≡ false
 not_broken None some = absurd (some refl)
@@ -42,7 +47,7 @@ has_seen n k b raised = record {
 
 -- the numbers that a device tells, all of which it has committed, are those that the loads popped come to
 module _ (lasts : List ℕ) (n : ℕ) (b : Books) (loads : List (List Held)) (all : n ≡ length lasts) (synced : b.synced ≡ b.drawn)
-  (drawn : (r : ℕ) → 0 < r → r ≤ length lasts → get_or b.drawn r 0 ≡ come_to (base_of lasts) (all_trucks loads) r) where
+    (drawn : (r : ℕ) → 0 < r → r ≤ length lasts → get_or b.drawn r 0 ≡ come_to (base_of lasts) (all_trucks loads) r) where
   pub saw_at_most : (k : Known) → NoMore k.seen (told_numbers n b) → SawAtMost lasts k loads
   saw_at_most k low r above within =
       let is = ap (λ (l : List ℕ). get_or l r 0) synced ∙ drawn r above within in

@@ -13,9 +13,8 @@ use crate::service::LogService;
 use append_ring::{Full, Ring};
 use disk_images::Disk;
 use log_berth::LogSeat as BerthSeat;
-use std::mem;
 use std::sync::Wait;
-use std::thread;
+use std::{mem, thread};
 
 /// How often a sync turn tries for the consumer's turn.
 const TRIES: u32 = 1000;

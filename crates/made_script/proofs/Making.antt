@@ -40,8 +40,6 @@ one_handler_more lists after next all o count before low pushed is so_far =
 pub all_handlers : (lists all : List (List Call)) (o : LoadOptions) (n h : ℕ) → n ≡ 0 → lists ++ made_handlers o n h ≡ all → lists ≡ all
 all_handlers lists all o n h none is = sym (append-nil lists) ∙ subst (λ k. lists ++ made_handlers o k h ≡ all) none is
 
-}
-
 -- a batch of it alone breaks no limit
 one_cell_fits : (call x : ℕ) → x < 2 ^ 64 → first_batch_limit (made_cell call x ∷ []) ≡ None
 unfolding first_batch_limit

@@ -1,4 +1,4 @@
-use Rattle.std.proofs.Common.{◌≡◌, ◌≤◌, ◌-◌, ◌+◌, ℕ, get_or, refl, sym, ap, ◌∙◌, subst, arith}
+use Rattle.std.proofs.Common.{◌≡◌, ◌≤◌, ◌-◌, ◌+◌, ℕ, get_or, sym, ap, ◌∙◌, subst, arith}
 use Rattle.crossbeam_queue.specs.Passes.{view}
 use Rattle.log_berth.proofs.Joined.{no_more-trans}
 use Rattle.log_device.specs.declared.error.DeviceFlush.TheVariants as refusals

@@ -14,3 +14,9 @@ returns-in-Moved-default-clause-something g c is =
       | inl alone ↦ inl (subst (λ (s : Standing). LastHadTurn old.consumer.knows s.knows) (sym alone) (omega (arith, moved.0), moved.1))
       | inr had ↦ inr (had.0 ∙ same, had.1)
     ]
+
+pub returns-in-Moved-default-4-clause-something : goal.returns-in-Moved-default-4-clause-something
+returns-in-Moved-default-4-clause-something g c is =
+    let both = (c.sync_turn-commit.ensures.synced c.in-Moved-default.field-0-1 c.in-Moved-default.is-1).0 in
+    let same = ap (λ (t : Tally). t.tries + 1) c.consumer_turn-moves.ensures.looked in
+    inr (both.1.0 ∙ same, both.1.1)

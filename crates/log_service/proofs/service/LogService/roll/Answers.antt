@@ -1,11 +1,10 @@
-use Rattle.std.proofs.Common.{◌≡◌, ◌≤◌, ◌<◌, ◌-◌, ◌+◌, ℕ, get_or, refl, sym, ap, ◌∙◌, subst, arith}
+use Rattle.std.proofs.Common.{◌≡◌, sym, ap, ◌∙◌}
 use Rattle.crossbeam_queue.specs.Passes.{view}
 use Rattle.log_berth.proofs.Joined.{no_more-trans}
 use Rattle.log_device.specs.declared.error.RollRefusal.TheVariants as refusals
 use Rattle.log_device.specs.Whole.{log_of, books_of}
 use Rattle.log_service.specs.Numbers.{told_numbers}
 use Rattle.log_service.specs.Places.{Place}
-use Rattle.log_service.proofs.Numbers.{synced_low}
 use Rattle.log_service.proofs.Sees.{has_file, not_broken, then_whole, sees_all, closed_over}
 use Rattle.log_service.proofs.service.LogService.roll.Goals as goal
 
@@ -17,7 +16,7 @@ give_both-requires-clause-device g c =
 
 pub returns-clause-rolled : goal.returns-clause-rolled
 returns-clause-rolled g c =
-    then_whole c.roll-rolled.result refusals.WriteFault c.roll-rolled.ensures.broken.1 (λ rolled unbroken said. (said.0, (log_of c.roll-rolled.new.committer.device, said.1))) c.roll-rolled.ensures.rolled
+    then_whole c.roll-rolled.result refusals.WriteFault c.roll-rolled.ensures.broken.1 (λ rolled unbroken said. (said.0, log_of c.roll-rolled.new.committer.device, said.1)) c.roll-rolled.ensures.rolled
 
 pub returns-clause-moved : goal.returns-clause-moved
 returns-clause-moved g c whole =

@@ -1,4 +1,4 @@
-use Rattle.std.proofs.Common.{◌≡◌, ◌≤◌, ◌-◌, ℕ, List, get_or, Bool, true, false, true≢false, refl, sym, ap, ◌∙◌, subst, arith}
+use Rattle.std.proofs.Common.{true≢false, sym, ◌∙◌}
 use Rattle.log_service.proofs.SeatLaws.{both_since, taken_since, tried_since, synced_since, broken_only, no_both, not_set}
 use Rattle.log_service.proofs.service.LogService.sync_turn.Goals as goal
 
@@ -33,9 +33,9 @@ returns-clause-broken g c =
     let clear = sym c.broken.ensures.broken ∙ c.if-broken.false in (
       (λ is. let said = c.turn_over.ensures.broken is in (said.0, said.1 ∙ c.broken.ensures.same.0)),
       (λ found.
-      broken_only c.turn_over.result c.turn_over.new.seat.device.knows.broken found.0
-      (λ is.
-      no_both c.args.seat.now c.turn_over.new.seat found.1
-      (both_since c.args.seat.now c.broken.new.seat c.turn_over.new.seat c.broken.ensures.same.0 c.broken.ensures.looked (c.turn_over.ensures.fault is).0))
-      (λ other fault. c.turn_over.ensures.whole other fault clear)),
+          broken_only c.turn_over.result c.turn_over.new.seat.device.knows.broken found.0
+          (λ is.
+          no_both c.args.seat.now c.turn_over.new.seat found.1
+          (both_since c.args.seat.now c.broken.new.seat c.turn_over.new.seat c.broken.ensures.same.0 c.broken.ensures.looked (c.turn_over.ensures.fault is).0))
+          (λ other fault. c.turn_over.ensures.whole other fault clear)),
     )

@@ -4,7 +4,6 @@ use Rattle.log_berth.specs.declared.known.Known.{Known}
 use Rattle.log_berth.specs.Words.{NoMore, looked}
 use Rattle.log_berth.proofs.Joined.{no_more-trans}
 use Rattle.log_device.specs.Whole.{log_of, books_of}
-use Rattle.log_trucks.specs.Held.{Held}
 use Rattle.log_service.specs.declared.committing.Commit.TheVariants as commits
 use Rattle.log_service.specs.declared.seats.LogSeat.{LogSeat}
 use Rattle.log_service.specs.Loads.{AreInOrder}
