@@ -3,17 +3,10 @@
 #![tactic(auto)]
 
 #[cfg(test)]
-mod asking;
-mod name;
-#[cfg(test)]
 mod pages;
 #[cfg(test)]
 mod region;
 #[cfg(test)]
-mod serving;
-#[cfg(test)]
 mod telling;
 #[cfg(test)]
 mod viewing;
-
-pub use name::ServerName;

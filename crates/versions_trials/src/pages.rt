@@ -30,7 +30,7 @@ fn three_rows(alloc: Global) -> Result<Arc<Version, Global>, Fail> {
 
 /// The cells of a scan by pages of two, each told by its row and the last digit of its time, with a bar behind each page that isn't
 /// the last and a dot behind those that are done.
-pub(crate) fn read_pages(alloc: Global, scanner: Scanner, pages: u32) -> Result<Vec<u8>, Fail> {
+fn read_pages(alloc: Global, scanner: Scanner, pages: u32) -> Result<Vec<u8>, Fail> {
     let mut scanner = scanner;
     let mut told = Vec::new(alloc);
     for _ in 0..pages {
