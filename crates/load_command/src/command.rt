@@ -96,7 +96,8 @@ fn load_empty<R: Threads + Wait + Sync, D: Disk + Send, K: Sink, G: Gate + Sync>
     ensures disk_cause { result.status ≡ Status.DiskFault → Rose (D.faults disk) (D.faults result.disk) }
     ensures sink_cause { result.status ≡ Status.SinkFault → Rose (K.faults out.old) (K.faults out.new) }
     ensures later { (D.faults disk ≤ D.faults result.disk) × (K.faults out.old ≤ K.faults out.new) }
-    ensures complete { IsTrue D.told → (Rose (D.faults disk) (D.faults result.disk) → ⊥) → (Rose (K.faults out.old) (K.faults out.new) → ⊥) → IsComplete result.status }
+    ensures complete { IsTrue D.told → (Rose (D.faults disk) (D.faults result.disk) → ⊥)
+        → (Rose (K.faults out.old) (K.faults out.new) → ⊥) → IsComplete result.status }
 {
     let Ok(script) = make_script(alloc, options) else {
         return Outcome {
