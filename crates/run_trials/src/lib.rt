@@ -20,8 +20,6 @@ mod many;
 #[cfg(test)]
 mod plans;
 #[cfg(test)]
-mod prefixes;
-#[cfg(test)]
 mod report;
 #[cfg(test)]
 mod stores;

@@ -7,6 +7,4 @@ mod pages;
 #[cfg(test)]
 mod region;
 #[cfg(test)]
-mod telling;
-#[cfg(test)]
 mod viewing;
