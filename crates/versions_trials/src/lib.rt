@@ -7,4 +7,6 @@ mod pages;
 #[cfg(test)]
 mod region;
 #[cfg(test)]
+mod telling;
+#[cfg(test)]
 mod viewing;

@@ -8,7 +8,7 @@ ghost use Rattle.versions_trials.specs.AllShown.{IsOneMore};
 use kv_cell::{Batch, Cell, NoMemory};
 use mem_segments::{Base, Draft, Segment};
 use region_state::{Caller, Ended, RegionState};
-use region_versions::{History, Naming, Opened, Shower, VersionParts, Viewer, versions};
+use region_versions::{History, Naming, Opened, Shower, Told, VersionParts, Viewer, versions};
 use std::alloc::Global;
 use std::marker::Model;
 use std::sync::{Arc, Wait};
@@ -83,7 +83,9 @@ fn put(
 pub(crate) fn show_next<N: Naming, W: Wait + Drop>(
     region: Region<N, W>,
     call: u32,
-) -> Result<Region<N, W>, NoMemory> {
+) -> Result<Region<N, W>, NoMemory>
+    ensures region { IfOk result (λ r. r.region ≡ region.region) }
+{
     let Region {
         mut state,
         mut history,
@@ -110,6 +112,16 @@ pub(crate) fn show_next<N: Naming, W: Wait + Drop>(
     })
 }
 
+impl<N: Naming, W: Wait + Drop> Region<N, W> {
+    /// Tells what is shown.
+    pub(crate) fn tell(&mut self) -> Told<N>
+        ensures told { result.sight ≡ self.old }
+        ensures same { self.new ≡ self.old }
+    {
+        self.shower.tell()
+    }
+}
+
 /// A region that shows its first version, and three that view it.
 #[derive(Drop)]
 pub(crate) struct Beginners<N: Naming, W: Wait + Drop> {
@@ -129,6 +141,8 @@ pub(crate) fn begin<N: Naming, W: Wait + Drop>(
     requires book { opened.seen.book ≡ N.book 1 }
     requires base { state.base ≡ N.base 1 }
     requires lines { state.lines ≡ [] }
+    ensures region { IfOk result (λ b. b.region.region ≡ 1) }
+    ensures viewers { IfOk result (λ b. (b.one.region ≡ 1) × (b.two.region ≡ 1) × (b.idle.region ≡ 1)) }
 {
     let batch = one_cell(alloc)?;
     let history = opened.named::<N>(1);
