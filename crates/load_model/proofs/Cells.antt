@@ -55,26 +55,26 @@ one_more last m k w low next =
     ∙ ap (λ b. cond b (len m) (len m + 1)) (not_some (get m k) (λ p is. omega (arith, low k p is, next)))
 
 -- edits of one cell each, numbered without gaps
-edits_counted : (last : ℕ) (m : Content) (es : List Edit) → Follows last es → ((e : Edit) → Contains es e → length e.entry.cells ≡ 1) → AreUpTo last m
+edits_counted : (last : ℕ) (m : Content) (es : List Edit) → Follows last es → ((e : Edit) → Contains es e → length e.entry.batch.cells ≡ 1) → AreUpTo last m
     → len (put_edits m es) ≡ len m + length es
 edits_counted last m [] follows one low = omega arith
 edits_counted last m (e ∷ es) follows one low =
-    go e.entry.cells (one e (0, omega arith, refl)) refl (λ grown up. edits_counted (last + 1) grown es follows.1 (λ d there. one d (contains_cons e es d there)) up)
+    go e.entry.batch.cells (one e (0, omega arith, refl)) refl (λ grown up. edits_counted (last + 1) grown es follows.1 (λ d there. one d (contains_cons e es d there)) up)
   where
-    go : (cells : List Cell) → length cells ≡ 1 → cells ≡ e.entry.cells → ((grown : Content) → AreUpTo (last + 1) grown → len (put_edits grown es) ≡ len grown + length es)
-        → len (put_edits (put_cells m e.entry.number e.entry.cells) es) ≡ len m + suc (length es)
+    go : (cells : List Cell) → length cells ≡ 1 → cells ≡ e.entry.batch.cells → ((grown : Content) → AreUpTo (last + 1) grown → len (put_edits grown es) ≡ len grown + length es)
+        → len (put_edits (put_cells m e.entry.number e.entry.batch.cells) es) ≡ len m + suc (length es)
     go [] single is rest = absurd (omega (arith, single))
     go (c ∷ []) single is rest =
         let k : VersionKey = record { key = key_of c; number = e.entry.number } in
         let next : k.number ≡ last + 1 = follows.0 in
         let grown : Content = insert m k (payload_of c) in
         let counted : len (put_edits grown es) ≡ len grown + length es = rest grown (put_up_to last m k (payload_of c) low next) in
-        let here : len (put_edits (put_cells m e.entry.number e.entry.cells) es) ≡ len (put_edits grown es) = ap (λ cs. len (put_edits (put_cells m e.entry.number cs) es)) (sym is) in
+        let here : len (put_edits (put_cells m e.entry.number e.entry.batch.cells) es) ≡ len (put_edits grown es) = ap (λ cs. len (put_edits (put_cells m e.entry.number cs) es)) (sym is) in
         let more : len grown ≡ len m + 1 = one_more last m k (payload_of c) low next in
         omega (arith, here, counted, more)
     go (c ∷ d ∷ cs) single is rest = absurd (omega (arith, single))
 
-pub cells_counted : (es : List Edit) → Follows 0 es → ((e : Edit) → Contains es e → length e.entry.cells ≡ 1) → len (put_edits empty es) ≡ length es
+pub cells_counted : (es : List Edit) → Follows 0 es → ((e : Edit) → Contains es e → length e.entry.batch.cells ≡ 1) → len (put_edits empty es) ≡ length es
 cells_counted es follows one =
     let whole : len (put_edits empty es) ≡ len (empty {X = Payload} {R = version_cmp}) + length es =
     edits_counted 0 empty es follows one (λ v p is. let no : None ≡ Some p = sym (get-empty version_cmp v) ∙ is in absurd cc) in

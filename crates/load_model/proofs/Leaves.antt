@@ -2,7 +2,7 @@
 use Rattle.std.proofs.Common.{inl, inr, ◌≡◌, ◌⊎◌, ℕ, zero, suc, ◌+◌, ◌-◌, ◌*◌, ◌^◌, ◌≤◌, min, Bool, List, [], ◌∷◌, length, Contains, refl, sym, ap, ◌∙◌, subst, arith}
 use Rattle.std.specs.FinMap.{empty, len, keys}
 use Rattle.std.proofs.lemmas.List.{length-append, length-map}
-use Rattle.cell_model.specs.Cell.{Cell}
+use Rattle.cell_model.specs.Batch.{Batch}
 use Rattle.cell_model.specs.Order.{Content}
 use Rattle.log_model.specs.Files.{Files, IsSound}
 use Rattle.log_model.specs.Recovered.{IsRecovered, IsContent}
@@ -59,8 +59,8 @@ among_regions o right a is = asked_among (made_script o) a (made_right o right).
 
 -- ---- no put finds the numbers spent
 
-spent_put : (call : Call) (answer : Answer) → IsAnswerTo call answer → IsSpent answer → (r : ℕ) × (sync : Bool) × (cells : List Cell) × (n : ℕ) × (call ≡ Put r sync cells) × (answer ≡ PutSpent n)
-spent_put (Put r sync cells) (PutSpent n) fits spent = (r, sync, cells, n, refl, refl)
+spent_put : (call : Call) (answer : Answer) → IsAnswerTo call answer → IsSpent answer → (r : ℕ) × (sync : Bool) × (batch : Batch) × (n : ℕ) × (call ≡ Put r sync batch) × (answer ≡ PutSpent n)
+spent_put (Put r sync batch) (PutSpent n) fits spent = (r, sync, batch, n, refl, refl)
 spent_put (Scan r from to) (PutSpent n) fits spent = absurd cc
 spent_put (Flush r) (PutSpent n) fits spent = absurd cc
 spent_put Roll (PutSpent n) fits spent = absurd cc

@@ -2,7 +2,7 @@
 use Rattle.std.proofs.Common.{◌≡◌, ◌≢◌, ℕ, zero, suc, ◌<◌, ◌≤◌, ◌==◌, Bool, if◌then◌else◌, List, [], ◌∷◌, Contains, refl, sym, ap, ◌∙◌, subst, arith, inl, inr, append-nil}
 use Rattle.std.specs.FinMap.{empty, keys}
 use Rattle.std.proofs.lemmas.Bool.{cases_eq, cases_lt, eq-eqb, ne_eqb}
-use Rattle.cell_model.specs.Cell.{Cell}
+use Rattle.cell_model.specs.Batch.{Batch}
 use Rattle.cell_model.specs.Order.{Content}
 use Rattle.log_model.specs.Files.{Files}
 use Rattle.log_model.specs.Recovered.{IsRecovered, IsContent}
@@ -45,20 +45,20 @@ no_edits_there (h ∷ hs) r none =
 
 -- ---- answers without want, fault and end
 
-clean_put : (answer : Answer) (r : ℕ) (sync : Bool) (cells : List Cell) → IsAnswerTo (Put r sync cells) answer → IsClean answer → (n : ℕ) × (answer ≡ PutOk n)
-clean_put (PutOk n) r sync cells fits clean = (n, refl)
-clean_put (PutMemory n) r sync cells fits clean = absurd clean
-clean_put (PutFault n) r sync cells fits clean = absurd clean
-clean_put (PutSpent n) r sync cells fits clean = absurd clean
-clean_put answer r sync cells fits clean = absurd cc
+clean_put : (answer : Answer) (r : ℕ) (sync : Bool) (batch : Batch) → IsAnswerTo (Put r sync batch) answer → IsClean answer → (n : ℕ) × (answer ≡ PutOk n)
+clean_put (PutOk n) r sync batch fits clean = (n, refl)
+clean_put (PutMemory n) r sync batch fits clean = absurd clean
+clean_put (PutFault n) r sync batch fits clean = absurd clean
+clean_put (PutSpent n) r sync batch fits clean = absurd clean
+clean_put answer r sync batch fits clean = absurd cc
 
 same_caller : (c : Caller) (a : Asked) → c.handler ≡ a.handler → c.call ≡ a.number → c ≡ caller_of a
 same_caller c a handlers numbers = λ i. record { handler = handlers i; call = numbers i }
 
 -- the edit of a put that was asked
-own_put : (e : Edit) (y : Reply) (a : Asked) (r : ℕ) (sync : Bool) (cells : List Cell) → IsEditOf y e → asked_by y ≡ a → y.call ≡ Put r sync cells → (e.caller ≡ caller_of a) × (e.entry.cells ≡ cells)
-own_put e y a r sync cells is asks put =
-    let own : Put e.entry.region is.sync e.entry.cells ≡ Put r sync cells = sym is.put ∙ put in
+own_put : (e : Edit) (y : Reply) (a : Asked) (r : ℕ) (sync : Bool) (batch : Batch) → IsEditOf y e → asked_by y ≡ a → y.call ≡ Put r sync batch → (e.caller ≡ caller_of a) × (e.entry.batch ≡ batch)
+own_put e y a r sync batch is asks put =
+    let own : Put e.entry.region is.sync e.entry.batch ≡ Put r sync batch = sym is.put ∙ put in
     (same_caller e.caller a (is.handler ∙ ap (λ (b : Asked). b.handler) asks) (is.call ∙ ap (λ (b : Asked). b.number) asks), cc)
 
 -- ---- a store without files
@@ -88,29 +88,29 @@ module _ (script : Script) (before after : DiskView) (status : ℕ) (text : List
   history_puts well x is = record {
     numbers = subst (λ n. Follows n x.edits) (base_last x is) (h.journals x is).journal.numbers;
     puts = (h.journals x is).asked;
-    all = λ a sync cells asks call. put_there a sync cells asks call (asked_of_reply a asks);
+    all = λ a sync batch asks call. put_there a sync batch asks call (asked_of_reply a asks);
     once = (h.journals x is).journal.callers;
     time = (h.journals x is).time;
   }
     where
-      on_it : (c : Call) (sync : Bool) (cells : List Cell) → c ≡ Put x.region sync cells → IsOn x.region c
-      on_it c sync cells call = subst (IsOn x.region) (sym call) refl
+      on_it : (c : Call) (sync : Bool) (batch : Batch) → c ≡ Put x.region sync batch → IsOn x.region c
+      on_it c sync batch call = subst (IsOn x.region) (sym call) refl
 
-      put_there : (a : Asked) (sync : Bool) (cells : List Cell) → Contains (asked script) a → a.call ≡ Put x.region sync cells → (y : Reply) × Contains h.replies y × (asked_by y ≡ a)
-          → (e : Edit) × Contains x.edits e × (e.caller ≡ caller_of a) × (e.entry.cells ≡ cells)
-      put_there a sync cells asks call y =
-          let put : y.0.call ≡ Put x.region sync cells = ap (λ (b : Asked). b.call) y.2 ∙ call in
+      put_there : (a : Asked) (sync : Bool) (batch : Batch) → Contains (asked script) a → a.call ≡ Put x.region sync batch → (y : Reply) × Contains h.replies y × (asked_by y ≡ a)
+          → (e : Edit) × Contains x.edits e × (e.caller ≡ caller_of a) × (e.entry.batch ≡ batch)
+      put_there a sync batch asks call y =
+          let put : y.0.call ≡ Put x.region sync batch = ap (λ (b : Asked). b.call) y.2 ∙ call in
           let lawful = h.lawful x is in
-          let ok = clean_put y.0.answer x.region sync cells (subst (λ c. IsAnswerTo c y.0.answer) put (lawful.answers y.0 y.1)) (h.statuses.clean well y.0 y.1) in
-          let e = lawful.puts y.0 ok.0 y.1 (on_it y.0.call sync cells put) (ap number_of ok.1) in
-          let own = own_put e.0 y.0 a x.region sync cells e.3 y.2 put in
+          let ok = clean_put y.0.answer x.region sync batch (subst (λ c. IsAnswerTo c y.0.answer) put (lawful.answers y.0 y.1)) (h.statuses.clean well y.0 y.1) in
+          let e = lawful.puts y.0 ok.0 y.1 (on_it y.0.call sync batch put) (ap number_of ok.1) in
+          let own = own_put e.0 y.0 a x.region sync batch e.3 y.2 put in
           (e.0, e.1, own.0, own.1)
 
   none_asked : (r : ℕ) → script.regions < r → ((a : Asked) → Contains (asked script) a → IsAmong script.regions a.call) → ArePuts script r []
   none_asked r above among = record {
     numbers = tt;
     puts = λ e is. absurd (omega (arith, is.1));
-    all = λ a sync cells asks call. absurd (let w = subst (IsAmong script.regions) call (among a asks) in omega (arith, w.1, above));
+    all = λ a sync batch asks call. absurd (let w = subst (IsAmong script.regions) call (among a asks) in omega (arith, w.1, above));
     once = λ i j d lt low. absurd (omega (arith, low));
     time = λ e is. absurd (omega (arith, is.1));
   }

@@ -23,7 +23,7 @@ use Rattle.load_model.proofs.Cells.{cells_counted}
 -- ---- a put of a load has one cell
 
 abbrev pub HasOneCell : Call → Type 0
-HasOneCell (Put region sync cells) = length cells ≡ 1
+HasOneCell (Put region sync batch) = length batch.cells ≡ 1
 HasOneCell (Scan region from to) = Unit {0}
 HasOneCell (Flush region) = Unit {0}
 HasOneCell Roll = Unit {0}
@@ -49,7 +49,7 @@ handlers_one o (suc k) h g a is same = elim (Contains-append_cases (asked_of g 1
   | inr later ↦ handlers_one o k (h + 1) (g + 1) a later (omega (arith, same))
 ]
 
-one_cell : (o : LoadOptions) (e : Edit) (r : ℕ) (edits : List Edit) → ArePuts (made_script o) r edits → Contains edits e → length e.entry.cells ≡ 1
+one_cell : (o : LoadOptions) (e : Edit) (r : ℕ) (edits : List Edit) → ArePuts (made_script o) r edits → Contains edits e → length e.entry.batch.cells ≡ 1
 one_cell o e r edits puts is = let p = puts.puts e is in handlers_one o o.handlers 1 1 _ p.1 refl
 
 -- ---- xs many edits xs puts
@@ -77,8 +77,8 @@ module _ (script : Script) (r : ℕ) (edits : List Edit) (are : ArePuts script r
       each : (e : Edit) → Contains edits e → (a : Asked) × Contains (filter (λ (a : Asked). puts_on r a.call) (asked script)) a × (e.caller ≡ caller_of a)
       each e is =
           let p = are.puts e is in
-          let a : Asked = record { handler = e.caller.handler; number = e.caller.call; call = Put r p.0 e.entry.cells } in
-          (a, filter_has (λ (b : Asked). puts_on r b.call) (asked script) a p.1 (put_passes r p.0 e.entry.cells a.call refl), refl)
+          let a : Asked = record { handler = e.caller.handler; number = e.caller.call; call = Put r p.0 e.entry.batch } in
+          (a, filter_has (λ (b : Asked). puts_on r b.call) (asked script) a p.1 (put_passes r p.0 e.entry.batch a.call refl), refl)
 
       apart : (d e : Edit) → InCallOrder d e → (a : Asked) → d.caller ≡ caller_of a → e.caller ≡ caller_of a → ⊥
       apart d e order a one two =

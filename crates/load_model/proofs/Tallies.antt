@@ -3,7 +3,7 @@ use Rattle.std.proofs.Common.{◌≡◌, ℕ, zero, suc, ◌+◌, ◌<◌, ◌�
 use Rattle.std.specs.List.{flat_map}
 use Rattle.std.proofs.lemmas.Bool.{cases_eq, eq-eqb, ne_eqb}
 use Rattle.std.proofs.lemmas.List.Sums.{sum_by-cons, sum_by-append}
-use Rattle.cell_model.specs.Cell.{Cell}
+use Rattle.cell_model.specs.Batch.{Batch}
 use Rattle.region_model.specs.Calls.{Call, Put, Scan, Flush, Roll}
 use Rattle.script_model.specs.Calls.{Asked, asked_of, asked_from, IsAmong}
 use Rattle.server_model.proofs.JournalLaws.{contains_cons}
@@ -99,13 +99,13 @@ tally_length p (a ∷ xs) = elim (p a.call) as (λ b. cond b 1 0 + tally p xs �
 
 -- the call is a put into the region
 abbrev pub puts_on : ℕ → Call → Bool
-puts_on r (Put region sync cells) = region == r
+puts_on r (Put region sync batch) = region == r
 puts_on r (Scan region from to) = false
 puts_on r (Flush region) = false
 puts_on r Roll = false
 
 one_call : (n : ℕ) (c : Call) → IsAmong n c → sum_over (λ r. cond (puts_on r c) 1 0) 1 n ≡ cond (is_put c) 1 0
-one_call n (Put region sync cells) among = sum_one region 1 n among.0 (omega (arith, among.1))
+one_call n (Put region sync batch) among = sum_one region 1 n among.0 (omega (arith, among.1))
 one_call n (Scan region from to) among = sum_zeros 1 n
 one_call n (Flush region) among = sum_zeros 1 n
 one_call n Roll among = sum_zeros 1 n
@@ -125,21 +125,21 @@ none_above n r (a ∷ xs) above among =
     omega (arith, not_here a.call (among a (0, omega arith, refl)), none_above n r xs above (λ b is. among b (contains_cons a xs b is)))
   where
     not_here : (c : Call) → IsAmong n c → ◌≡◌ {A = ℕ} (cond (puts_on r c) 1 0) 0
-    not_here (Put region sync cells) within = ap (λ b. cond b 1 0) (ne_eqb region r (λ is. omega (arith, is, within.1, above)))
+    not_here (Put region sync batch) within = ap (λ b. cond b 1 0) (ne_eqb region r (λ is. omega (arith, is, within.1, above)))
     not_here (Scan region from to) within = refl
     not_here (Flush region) within = refl
     not_here Roll within = refl
 
 -- ---- calls that pass
 
-pub puts_there : (r : ℕ) (c : Call) → puts_on r c ≡ true → (sync : Bool) × (cells : List Cell) × (c ≡ Put r sync cells)
-puts_there r (Put region sync cells) is = elim (cases_eq region r) [
-  | inl same ↦ (sync, cells, ap (λ q. Put q sync cells) same)
+pub puts_there : (r : ℕ) (c : Call) → puts_on r c ≡ true → (sync : Bool) × (batch : Batch) × (c ≡ Put r sync batch)
+puts_there r (Put region sync batch) is = elim (cases_eq region r) [
+  | inl same ↦ (sync, batch, ap (λ q. Put q sync batch) same)
   | inr other ↦ let no : true ≡ false = sym is ∙ ne_eqb region r other in absurd cc
 ]
 puts_there r (Scan region from to) is = absurd cc
 puts_there r (Flush region) is = absurd cc
 puts_there r Roll is = absurd cc
 
-pub put_passes : (r : ℕ) (sync : Bool) (cells : List Cell) (c : Call) → c ≡ Put r sync cells → puts_on r c ≡ true
-put_passes r sync cells c is = ap (puts_on r) is ∙ eq-eqb r r refl
+pub put_passes : (r : ℕ) (sync : Bool) (batch : Batch) (c : Call) → c ≡ Put r sync batch → puts_on r c ≡ true
+put_passes r sync batch c is = ap (puts_on r) is ∙ eq-eqb r r refl

@@ -1,7 +1,7 @@
 -- What a load leaves of the puts that its script asks.
 use Rattle.std.specs.Prelude.{◌≡◌, ℕ, Bool, zero, suc, ◌+◌, ◌≤◌, List, AllPairs, Contains}
 use Rattle.std.specs.FinMap.{empty, len}
-use Rattle.cell_model.specs.Cell.{Cell}
+use Rattle.cell_model.specs.Batch.{Batch}
 use Rattle.log_model.specs.Files.{Files, IsFit}
 use Rattle.log_model.specs.Recovered.{IsRecovered, IsContent}
 use Rattle.region_model.specs.Journal.{Edit, Follows, InCallOrder, put_edits}
@@ -20,9 +20,9 @@ use Rattle.load_model.specs.Text.{load_text, ended_text}
 pub record ArePuts (script : Script) (r : ℕ) (edits : List Edit) : Type 0 where
   pub numbers : Follows 0 edits
   pub puts : (e : Edit) → Contains edits e
-      → (sync : Bool) × Contains (asked script) (record { handler = e.caller.handler; number = e.caller.call; call = Put r sync e.entry.cells })
-  pub all : (a : Asked) (sync : Bool) (cells : List Cell) → Contains (asked script) a → a.call ≡ Put r sync cells
-      → (e : Edit) × Contains edits e × (e.caller ≡ caller_of a) × (e.entry.cells ≡ cells)
+      → (sync : Bool) × Contains (asked script) (record { handler = e.caller.handler; number = e.caller.call; call = Put r sync e.entry.batch })
+  pub all : (a : Asked) (sync : Bool) (batch : Batch) → Contains (asked script) a → a.call ≡ Put r sync batch
+      → (e : Edit) × Contains edits e × (e.caller ≡ caller_of a) × (e.entry.batch ≡ batch)
   pub once : AllPairs InCallOrder edits
   pub time : (e : Edit) → Contains edits e → e.entry.time ≡ script.time
 

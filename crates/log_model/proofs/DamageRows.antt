@@ -9,7 +9,7 @@ use Rattle.log_model.specs.declared.name.NameKind.TheVariants as kinds
 use Rattle.log_model.specs.declared.damage.Damage.TheVariants as damages
 use Rattle.log_model.specs.Entry.{Entry}
 use Rattle.log_model.specs.LogText.{IsLogText}
-use Rattle.log_model.specs.StoreText.{IsThere, field_fault}
+use Rattle.log_model.specs.StoreText.{IsThere, form_at, field_fault}
 use Rattle.log_model.specs.StoreText.IsStoreDamaged.{Field}
 use Rattle.log_model.specs.Files.{Files, Reads, rank_of, name_cmp, key_of, IsLogFile, IsPresent}
 use Rattle.log_model.specs.Damage.{IsBadName, HasDamage, IsDamagedFile, Disagreement, IsDisagreement, disagreement_cmp, IsDamage}
@@ -86,7 +86,7 @@ abbrev from_zero : List ℕ
 from_zero = 165 ∷ 72 ∷ 87 ∷ 83 ∷ 49 ∷ 0 ∷ 0 ∷ 0 ∷ 1 ∷ 0 ∷ 0 ∷ 0 ∷ 0 ∷ 0 ∷ 0 ∷ 0 ∷ 0 ∷ []
 
 damaged_store : (files : Files) → Reads files (store 1 7) from_zero → HasDamage files (store 1 7) 9
-unfolding field_fault number_at
+unfolding field_fault form_at number_at
 damaged_store files there = Stored from_zero there refl (Field (omega arith, refl) refl)
 
 -- behind a closed gate it isn't there, and not damaged

@@ -35,7 +35,7 @@ pub record IsStored (files : Files) (r : ℕ) (v : VersionKey) (p : Payload) : T
 
 -- the entry puts this payload at this version, the last of its cells with that key
 abbrev pub Puts : Entry → VersionKey → Payload → Type 0
-Puts e v p = get (put_cells empty e.number e.cells) v ≡ Some p
+Puts e v p = get (put_cells empty e.number e.batch.cells) v ≡ Some p
 
 -- a logged entry that isn't flushed puts it
 pub record IsUnflushed (files : Files) (r : ℕ) (v : VersionKey) (p : Payload) : Type 0 where
@@ -70,7 +70,7 @@ IsWhollyFlushed flushed entries = (e : Entry) → Contains entries e → e.numbe
 -- the content with these entries put in, one after the other
 abbrev pub put_entries : Content → List Entry → Content
 put_entries m [] = m
-put_entries m (e ∷ es) = put_entries (put_cells m e.number e.cells) es
+put_entries m (e ∷ es) = put_entries (put_cells m e.number e.batch.cells) es
 
 -- the entries of one region, in the order of the list
 abbrev pub is_of : ℕ → Entry → Bool

@@ -2,6 +2,7 @@
 use Rattle.std.proofs.Common.{◌≡◌, ℕ, ◌+◌, ◌≤◌, true, List, [], ◌∷◌, Contains, Some, refl, sym, ap, ◌∙◌, arith, inl, inr, length-append}
 use Rattle.std.specs.FinMap.{empty}
 use Rattle.cell_model.specs.Order.{NumberedCell}
+use Rattle.cell_model.specs.Batch.{batch_of}
 use Rattle.cell_model.specs.Cell.{Cell}
 use Rattle.region_model.specs.Journal.{Base, Edit, Done, last_of}
 use Rattle.region_model.specs.Calls.{Put, Scan, PutOk, Scanned, Reply}
@@ -63,13 +64,13 @@ abbrev base : Base
 base = record { content = empty; last = 0 }
 
 abbrev cell : Cell
-cell = record { row = 114 ∷ []; family = 102 ∷ []; qualifier = 113 ∷ []; ts = 1; kind = 4; value = 97 ∷ [] }
+cell = record { row = 114 ∷ []; family = 102 ∷ []; qualifier = 113 ∷ []; ts = 1; kind = 4; value = 97 ∷ []; tags = [] }
 
 abbrev first : Edit
-first = record { entry = record { region = 1; number = 1; time = 1000; cells = cell ∷ [] }; caller = record { handler = 1; call = 1 }; outcome = Done }
+first = record { entry = record { region = 1; number = 1; time = 1000; batch = batch_of (cell ∷ []) }; caller = record { handler = 1; call = 1 }; outcome = Done }
 
 abbrev puts : Reply
-puts = record { handler = 1; number = 1; call = Put 1 true (cell ∷ []); answer = PutOk 1 }
+puts = record { handler = 1; number = 1; call = Put 1 true (batch_of (cell ∷ [])); answer = PutOk 1 }
 
 abbrev sees_nothing : Reply
 sees_nothing = record { handler = 1; number = 2; call = Scan 1 [] []; answer = Scanned 0 [] }

@@ -1,6 +1,7 @@
 -- A worked example: two handlers, three edits of which the last failed, and two scans.
 use Rattle.std.proofs.Common.{◌≡◌, ℕ, true, List, [], ◌∷◌, Some, refl, sym, ap, filter, ◌+◌, ◌++◌}
 use Rattle.std.specs.FinMap.{empty}
+use Rattle.cell_model.specs.Batch.{batch_of}
 use Rattle.cell_model.specs.Cell.{Cell}
 use Rattle.cell_model.specs.Order.{NumberedCell}
 use Rattle.region_model.specs.Journal.{Base, Edit, Outcome, Done, Failed, last_of, visible, is_in_range}
@@ -14,10 +15,10 @@ abbrev base : Base
 base = record { content = empty; last = 0 }
 
 abbrev cell : Cell
-cell = record { row = 114 ∷ []; family = 102 ∷ []; qualifier = 113 ∷ []; ts = 1; kind = 4; value = 97 ∷ [] }
+cell = record { row = 114 ∷ []; family = 102 ∷ []; qualifier = 113 ∷ []; ts = 1; kind = 4; value = 97 ∷ []; tags = [] }
 
 abbrev edit : ℕ → ℕ → ℕ → Outcome → Edit
-edit n handler call outcome = record { entry = record { region = 1; number = n; time = 1000; cells = cell ∷ [] }; caller = record { handler = handler; call = call }; outcome = outcome }
+edit n handler call outcome = record { entry = record { region = 1; number = n; time = 1000; batch = batch_of (cell ∷ []) }; caller = record { handler = handler; call = call }; outcome = outcome }
 
 abbrev first : Edit
 first = edit 1 2 1 Done
@@ -35,16 +36,16 @@ both = (2, cell) ∷ (1, cell) ∷ []
 -- ---- the replies by handler and call: the first handler's put drew 2 and its scan read at 2, the second's puts drew 1 and 3
 
 abbrev puts_second : Reply
-puts_second = record { handler = 1; number = 1; call = Put 1 true (cell ∷ []); answer = PutOk 2 }
+puts_second = record { handler = 1; number = 1; call = Put 1 true (batch_of (cell ∷ [])); answer = PutOk 2 }
 
 abbrev sees_second : Reply
 sees_second = record { handler = 1; number = 2; call = Scan 1 [] []; answer = Scanned 2 both }
 
 abbrev puts_first : Reply
-puts_first = record { handler = 2; number = 1; call = Put 1 true (cell ∷ []); answer = PutOk 1 }
+puts_first = record { handler = 2; number = 1; call = Put 1 true (batch_of (cell ∷ [])); answer = PutOk 1 }
 
 abbrev faults_third : Reply
-faults_third = record { handler = 2; number = 2; call = Put 1 true (cell ∷ []); answer = PutFault (Some 3) }
+faults_third = record { handler = 2; number = 2; call = Put 1 true (batch_of (cell ∷ [])); answer = PutFault (Some 3) }
 
 abbrev sees_third : Reply
 sees_third = record { handler = 2; number = 3; call = Scan 1 [] []; answer = Scanned 3 both }

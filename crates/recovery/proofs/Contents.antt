@@ -43,7 +43,7 @@ same_cells (c ∷ cs) m k n v same =
 pub puts_number : (e : Entry) (v : VersionKey) (p : Payload) → Puts e v p → v.number ≡ e.number
 puts_number e v p puts = elim (cases_eq v.number e.number) [
   | inl same ↦ same
-  | inr differ ↦ (let none : None ≡ Some p = sym (other_cells e.cells empty e.number v differ ∙ get-empty version_cmp v) ∙ puts in absurd cc)
+  | inr differ ↦ (let none : None ≡ Some p = sym (other_cells e.batch.cells empty e.number v differ ∙ get-empty version_cmp v) ∙ puts in absurd cc)
 ]
 
 -- no version of the content has the entry's number
@@ -54,14 +54,14 @@ option_cases : (o : Option Payload) → (o ≡ None) ⊎ ((p : Payload) × (o �
 option_cases None = inl refl
 option_cases (Some p) = inr (p, refl)
 
-pub puts_one : (c : Content) (e : Entry) → IsNew c e → (v : VersionKey) (p : Payload) → (get (put_cells c e.number e.cells) v ≡ Some p) ↔ ((get c v ≡ Some p) ⊎ Puts e v p)
+pub puts_one : (c : Content) (e : Entry) → IsNew c e → (v : VersionKey) (p : Payload) → (get (put_cells c e.number e.batch.cells) v ≡ Some p) ↔ ((get c v ≡ Some p) ⊎ Puts e v p)
 puts_one c e fresh v p = elim (cases_eq v.number e.number) [
   | inl same ↦ (elim (option_cases (get c v)) [
-    | inl none ↦ (let alike : get (put_cells c e.number e.cells) v ≡ get (put_cells empty e.number e.cells) v = same_cells e.cells c empty e.number v (none ∙ sym (get-empty version_cmp v)) in
+    | inl none ↦ (let alike : get (put_cells c e.number e.batch.cells) v ≡ get (put_cells empty e.number e.batch.cells) v = same_cells e.batch.cells c empty e.number v (none ∙ sym (get-empty version_cmp v)) in
         ((λ is. inr (sym alike ∙ is)), (λ is. elim is [ inl before ↦ absurd (fresh v p before same) | inr puts ↦ alike ∙ puts ])))
     | inr some ↦ absurd (fresh v some.0 some.1 same)
   ])
-  | inr differ ↦ (let alike : get (put_cells c e.number e.cells) v ≡ get c v = other_cells e.cells c e.number v differ in
+  | inr differ ↦ (let alike : get (put_cells c e.number e.batch.cells) v ≡ get c v = other_cells e.batch.cells c e.number v differ in
       ((λ is. inl (sym alike ∙ is)), (λ is. elim is [ inl before ↦ alike ∙ before | inr puts ↦ absurd (differ (puts_number e v p puts)) ])))
 ]
 
@@ -70,7 +70,7 @@ abbrev pub AreNew : Content → List Entry → Type 0
 AreNew c [] = Unit {0}
 AreNew c (e ∷ es) = IsNew c e × ((d : Entry) → Contains es d → d.number ≡ e.number → ⊥) × AreNew c es
 
-new_behind : (c : Content) (e : Entry) (es : List Entry) → IsNew c e → ((d : Entry) → Contains es d → d.number ≡ e.number → ⊥) → AreNew c es → AreNew (put_cells c e.number e.cells) es
+new_behind : (c : Content) (e : Entry) (es : List Entry) → IsNew c e → ((d : Entry) → Contains es d → d.number ≡ e.number → ⊥) → AreNew c es → AreNew (put_cells c e.number e.batch.cells) es
 new_behind c e [] fresh apart each = tt
 new_behind c e (d ∷ es) fresh apart each = (
   (λ v p is same. elim ((puts_one c e fresh v p).0 is) [
@@ -84,7 +84,7 @@ new_behind c e (d ∷ es) fresh apart each = (
 pub puts_all : (es : List Entry) (c : Content) → AreNew c es → (v : VersionKey) (p : Payload) → (get (put_entries c es) v ≡ Some p) ↔ ((get c v ≡ Some p) ⊎ ((e : Entry) × Contains es e × Puts e v p))
 puts_all [] c fresh v p = ((λ is. inl is), (λ is. elim is [ inl before ↦ before | inr none ↦ absurd (none_in none.0 none.1) ]))
 puts_all (e ∷ es) c fresh v p =
-    let more = puts_all es (put_cells c e.number e.cells) (new_behind c e es fresh.0 fresh.1 fresh.2) v p in
+    let more = puts_all es (put_cells c e.number e.batch.cells) (new_behind c e es fresh.0 fresh.1 fresh.2) v p in
     let one = puts_one c e fresh.0 v p in (
       (λ is. elim (more.0 is) [
         | inl before ↦ (elim (one.0 before) [ inl old ↦ inl old | inr puts ↦ inr (e, is_first e es, puts) ])
@@ -114,7 +114,7 @@ cut_has es v p apart =
 -- one list after the other
 pub put_entries-append : (m : Content) (xs ys : List Entry) → put_entries m (xs ++ ys) ≡ put_entries (put_entries m xs) ys
 put_entries-append m [] ys = refl
-put_entries-append m (x ∷ xs) ys = put_entries-append (put_cells m x.number x.cells) xs ys
+put_entries-append m (x ∷ xs) ys = put_entries-append (put_cells m x.number x.batch.cells) xs ys
 
 -- entries that rise from a number on are new to a content up to it
 new_more : (b : Bool) (c : Content) (last : ℕ → ℕ) (r : ℕ) (e : Entry) (es : List Entry) → is_of r e ≡ b → ((v : VersionKey) (p : Payload) → get c v ≡ Some p → v.number ≤ last r) → AreRising last (e ∷ es) → AreNew c (entries_of r es)

@@ -4,7 +4,8 @@ use Rattle.std.proofs.lemmas.List.Elements.{All-contains, All-from_recursion}
 use Rattle.cell_model.specs.Order.{VersionKey, Payload}
 use Rattle.log_model.specs.Entry.{Entry}
 use Rattle.log_model.specs.StoreText.{Store, IsStoredCell, IsStoreText}
-use Rattle.log_model.specs.LogText.{IsEntryOf}
+use Rattle.log_model.proofs.TextLaws.{with_version}
+use Rattle.log_model.specs.LogText.{IsEntryOf, in_version}
 use Rattle.log_model.specs.Files.{Files, key_of as file_key, IsLogged}
 use Rattle.log_model.specs.Recovered.{IsGreatest, Holds, IsRecovered, IsStored, FlushesTo, IsLast}
 use Rattle.recovery.specs.Kept.{Kept, IsLike}
@@ -33,9 +34,9 @@ one_last files r m n a b = let le : m ≤ n = below a.reached b in let ge : n �
 
 -- a logged entry has a number
 pub logged_given : (J : Files) (e : Entry) → IsLogged J e → 1 ≤ e.number
-logged_given J e h = elim h.file.text as (λ _. 1 ≤ e.number) [
+logged_given J e h = let text = with_version (file_key h.name) h.file.bytes h.entries h.file.ended h.file.text in elim text.2 as (λ _. 1 ≤ e.number) [
   | inl short ↦ absurd (none_in e (subst (λ (l : List Entry). Contains l e) short.1 h.member))
-  | inr long ↦ (entries_in (IsEntryOf (file_key h.name)) h.entries e long.1.each h.member).entry.number_given
+  | inr long ↦ (entries_in (IsEntryOf (in_version text.0 (file_key h.name))) h.entries e long.1.each h.member).entry.number_given
 ]
 
 -- what recovers up to the flushed number is stored

@@ -3,6 +3,7 @@ use Rattle.std.proofs.Common.{◌≡◌, ℕ, zero, suc, ◌+◌, ◌<◌, ◌�
 use Rattle.std.proofs.lemmas.List.{get_or_append_left}
 use Rattle.std.proofs.Math.Seq.{get_or-append_seam}
 use Rattle.std.proofs.lemmas.List.Elements.{Contains-push_cases, Contains-get_or}
+use Rattle.cell_model.specs.Batch.{Batch}
 use Rattle.cell_model.specs.Cell.{Cell}
 use Rattle.region_model.specs.Journal.{Base, Caller, Outcome, Edit, Follows, InCallOrder, IsJournal}
 use Rattle.region_model.specs.Lines.{Line, edit_in, edits_in, with_outcome, IsNextCall}
@@ -38,7 +39,7 @@ pairs_end es e pairs last i j d lt within = ⊎_elim
     (place j (length es) (let long = length-append es (e ∷ []) in omega arith))
 
 -- a line is added
-pub journal_begun : (r : ℕ) (base : Base) (xs : List Line) (x : Line) → IsJournal r base (edits_in r xs) → x.number ≡ base.last + length xs + 1 → 1 ≤ length x.cells → IsNextCall x.caller xs
+pub journal_begun : (r : ℕ) (base : Base) (xs : List Line) (x : Line) → IsJournal r base (edits_in r xs) → x.number ≡ base.last + length xs + 1 → 1 ≤ length x.batch.cells → IsNextCall x.caller xs
     → IsJournal r base (edits_in r (xs ++ x ∷ []))
 journal_begun r base xs x journal number given next =
     subst (IsJournal r base) (sym (edits_in-append r xs (x ∷ []))) record {
@@ -48,7 +49,7 @@ journal_begun r base xs x journal number given next =
           let before = next t.0 t.1 (sym (ap (λ (e : Edit). e.caller.handler) t.2) ∙ same) in
           subst (λ (e : Edit). e.caller.call < x.caller.call) (sym t.2) before);
       regions = λ e c. ⊎_elim (λ (was : Contains (edits_in r xs) e). journal.regions e was) (λ (new : edit_in r x ≡ e). sym (ap (λ (d : Edit). d.entry.region) new)) (Contains-push_cases (edits_in r xs) (edit_in r x) e c);
-      given = λ e c. ⊎_elim (λ (was : Contains (edits_in r xs) e). journal.given e was) (λ (new : edit_in r x ≡ e). subst (λ (d : Edit). 1 ≤ length d.entry.cells) new given) (Contains-push_cases (edits_in r xs) (edit_in r x) e c);
+      given = λ e c. ⊎_elim (λ (was : Contains (edits_in r xs) e). journal.given e was) (λ (new : edit_in r x ≡ e). subst (λ (d : Edit). 1 ≤ length d.entry.batch.cells) new given) (Contains-push_cases (edits_in r xs) (edit_in r x) e c);
       upto = journal.upto;
     }
 
@@ -65,11 +66,11 @@ alike_caller r (x ∷ xs) [] k d alike = absurd alike
 alike_caller r (x ∷ xs) (y ∷ ys) zero d alike = sym alike.1
 alike_caller r (x ∷ xs) (y ∷ ys) (suc k) d alike = alike_caller r xs ys k d alike.3
 
-alike_cells : (r : ℕ) (xs ys : List Line) (k : ℕ) (d : Edit) → AreAlike xs ys → (get_or (edits_in r ys) k d).entry.cells ≡ (get_or (edits_in r xs) k d).entry.cells
+alike_cells : (r : ℕ) (xs ys : List Line) (k : ℕ) (d : Edit) → AreAlike xs ys → (get_or (edits_in r ys) k d).entry.batch.cells ≡ (get_or (edits_in r xs) k d).entry.batch.cells
 alike_cells r [] [] k d alike = refl
 alike_cells r [] (y ∷ ys) k d alike = absurd alike
 alike_cells r (x ∷ xs) [] k d alike = absurd alike
-alike_cells r (x ∷ xs) (y ∷ ys) zero d alike = sym alike.2
+alike_cells r (x ∷ xs) (y ∷ ys) zero d alike = ap (λ (b : Batch). b.cells) (sym alike.2)
 alike_cells r (x ∷ xs) (y ∷ ys) (suc k) d alike = alike_cells r xs ys k d alike.3
 
 regions_in : (r : ℕ) (xs : List Line) (e : Edit) → Contains (edits_in r xs) e → e.entry.region ≡ r
@@ -88,7 +89,7 @@ journal_alike r base xs ys alike long journal =
       regions = regions_in r ys;
       given = λ e c.
           let within : c.0 < length (edits_in r xs) = let lt = c.1 in omega arith in
-          let cells = ap (λ (d : Edit). d.entry.cells) (sym c.2) ∙ alike_cells r xs ys c.0 e alike in
+          let cells = ap (λ (d : Edit). d.entry.batch.cells) (sym c.2) ∙ alike_cells r xs ys c.0 e alike in
           subst (λ (cs : List Cell). 1 ≤ length cs) (sym cells) (journal.given (get_or (edits_in r xs) c.0 e) (Contains-get_or (edits_in r xs) c.0 e within));
       upto = journal.upto;
     }

@@ -3,6 +3,7 @@ use Rattle.std.proofs.Common.{◌≡◌, ℕ, ◌≤◌, true, List, [], ◌∷�
 use Rattle.std.specs.FinMap.{empty, get-empty}
 use Rattle.std.proofs.lemmas.List.Elements.{All-from_recursion, All-contains}
 use Rattle.std.proofs.lemmas.List.Kept.{AllPairs-cons}
+use Rattle.cell_model.specs.Batch.{batch_of}
 use Rattle.cell_model.specs.Cell.{Cell}
 use Rattle.cell_model.specs.Order.{version_cmp}
 use Rattle.region_model.specs.Journal.{Base, Edit, Outcome, Done, Failed, InCallOrder, IsJournal, visible, is_in_range}
@@ -14,11 +15,11 @@ abbrev base : Base
 base = record { content = empty; last = 0 }
 
 abbrev cell : Cell
-cell = record { row = 114 ∷ []; family = 102 ∷ []; qualifier = 113 ∷ []; ts = 1; kind = 4; value = 97 ∷ [] }
+cell = record { row = 114 ∷ []; family = 102 ∷ []; qualifier = 113 ∷ []; ts = 1; kind = 4; value = 97 ∷ []; tags = [] }
 
 -- the edit numbered n of a handler's call
 abbrev edit : ℕ → ℕ → ℕ → Outcome → Edit
-edit n handler call outcome = record { entry = record { region = 1; number = n; time = 1000; cells = cell ∷ [] }; caller = record { handler = handler; call = call }; outcome = outcome }
+edit n handler call outcome = record { entry = record { region = 1; number = n; time = 1000; batch = batch_of (cell ∷ []) }; caller = record { handler = handler; call = call }; outcome = outcome }
 
 -- ---- what holds of each of three replies, and of each two of them
 
@@ -41,13 +42,13 @@ told_both x y z d e r s in_r of_d in_s of_e f is =
 -- ---- a put is done, the next one fails in the log, and behind it none draws a number
 
 abbrev puts_first : Reply
-puts_first = record { handler = 1; number = 1; call = Put 1 true (cell ∷ []); answer = PutOk 1 }
+puts_first = record { handler = 1; number = 1; call = Put 1 true (batch_of (cell ∷ [])); answer = PutOk 1 }
 
 abbrev faults : Reply
-faults = record { handler = 1; number = 2; call = Put 1 true (cell ∷ []); answer = PutFault (Some 2) }
+faults = record { handler = 1; number = 2; call = Put 1 true (batch_of (cell ∷ [])); answer = PutFault (Some 2) }
 
 abbrev refused : Reply
-refused = record { handler = 1; number = 3; call = Put 1 true (cell ∷ []); answer = PutFault None }
+refused = record { handler = 1; number = 3; call = Put 1 true (batch_of (cell ∷ [])); answer = PutFault None }
 
 pub with_a_fault : IsLawful 1 base (edit 1 1 1 Done ∷ edit 2 1 2 Failed ∷ []) (puts_first ∷ faults ∷ refused ∷ [])
 with_a_fault = record {
@@ -79,10 +80,10 @@ with_a_fault = record {
 -- ---- two handlers put to one region, and the second then sees both edits, the later one first
 
 abbrev puts_second : Reply
-puts_second = record { handler = 1; number = 1; call = Put 1 true (cell ∷ []); answer = PutOk 2 }
+puts_second = record { handler = 1; number = 1; call = Put 1 true (batch_of (cell ∷ [])); answer = PutOk 2 }
 
 abbrev puts_before : Reply
-puts_before = record { handler = 2; number = 1; call = Put 1 true (cell ∷ []); answer = PutOk 1 }
+puts_before = record { handler = 2; number = 1; call = Put 1 true (batch_of (cell ∷ [])); answer = PutOk 1 }
 
 abbrev sees_both : Reply
 sees_both = record { handler = 2; number = 2; call = Scan 1 [] []; answer = Scanned 2 ((2, cell) ∷ (1, cell) ∷ []) }
@@ -129,6 +130,6 @@ two_edits = record {
   callers = AllPairs-cons InCallOrder (edit 1 2 1 Done) (edit 2 1 1 Done ∷ []) (All-from_recursion (InCallOrder (edit 1 2 1 Done)) (edit 2 1 1 Done ∷ []) ((λ e. let never : 2 ≡ 1 = e in absurd (omega (arith, never))), tt))
       (AllPairs-cons InCallOrder (edit 2 1 1 Done) [] (λ k d lt. absurd (omega arith)) (λ i j d lt le. absurd (omega arith)));
   regions = λ e is. All-contains (λ d. d.entry.region ≡ 1) both_edits e (All-from_recursion (λ d. d.entry.region ≡ 1) both_edits (refl, (refl, tt))) is;
-  given = λ e is. All-contains (λ d. 1 ≤ length d.entry.cells) both_edits e (All-from_recursion (λ d. 1 ≤ length d.entry.cells) both_edits (omega arith, (omega arith, tt))) is;
+  given = λ e is. All-contains (λ d. 1 ≤ length d.entry.batch.cells) both_edits e (All-from_recursion (λ d. 1 ≤ length d.entry.batch.cells) both_edits (omega arith, (omega arith, tt))) is;
   upto = λ v p e. let none = sym (get-empty version_cmp v) ∙ e in absurd cc;
 }

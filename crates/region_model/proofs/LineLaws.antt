@@ -14,18 +14,18 @@ length-edits_in r (x ∷ xs) = ap suc (length-edits_in r xs)
 
 pub put_edits-lines : (r : ℕ) (m : Content) (xs : List Line) → put_edits m (edits_in r xs) ≡ put_lines m xs
 put_edits-lines r m [] = refl
-put_edits-lines r m (x ∷ xs) = put_edits-lines r (put_cells m x.number x.cells) xs
+put_edits-lines r m (x ∷ xs) = put_edits-lines r (put_cells m x.number x.batch.cells) xs
 
 pub put_lines-append : (m : Content) (xs ys : List Line) → put_lines m (xs ++ ys) ≡ put_lines (put_lines m xs) ys
 put_lines-append m [] ys = refl
-put_lines-append m (x ∷ xs) ys = put_lines-append (put_cells m x.number x.cells) xs ys
+put_lines-append m (x ∷ xs) ys = put_lines-append (put_cells m x.number x.batch.cells) xs ys
 
 -- the lines of two lists are the same but for their outcomes
 abbrev pub AreAlike : List Line → List Line → Type 0
 AreAlike [] [] = Unit {0}
 AreAlike [] (y ∷ ys) = ⊥
 AreAlike (x ∷ xs) [] = ⊥
-AreAlike (x ∷ xs) (y ∷ ys) = (x.number ≡ y.number) × (x.caller ≡ y.caller) × (x.cells ≡ y.cells) × AreAlike xs ys
+AreAlike (x ∷ xs) (y ∷ ys) = (x.number ≡ y.number) × (x.caller ≡ y.caller) × (x.batch ≡ y.batch) × AreAlike xs ys
 
 ended_number : (b : Bool) (x y : Line) → x.number ≡ y.number → (cond b y x).number ≡ x.number
 ended_number true x y e = sym e
@@ -35,7 +35,7 @@ ended_caller : (b : Bool) (x y : Line) → x.caller ≡ y.caller → (cond b y x
 ended_caller true x y e = sym e
 ended_caller false x y e = refl
 
-ended_cells : (b : Bool) (x y : Line) → x.cells ≡ y.cells → (cond b y x).cells ≡ x.cells
+ended_cells : (b : Bool) (x y : Line) → x.batch ≡ y.batch → (cond b y x).batch ≡ x.batch
 ended_cells true x y e = sym e
 ended_cells false x y e = refl
 

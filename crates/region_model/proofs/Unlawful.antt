@@ -1,6 +1,7 @@
 -- Replies and journals that are not lawful.
 use Rattle.std.proofs.Common.{◌≡◌, ℕ, ◌<◌, ◌≤◌, true, false, [], ◌∷◌, Some, None, refl, arith}
 use Rattle.std.specs.FinMap.{empty}
+use Rattle.cell_model.specs.Batch.{batch_of}
 use Rattle.cell_model.specs.Cell.{Cell}
 use Rattle.region_model.specs.Journal.{Base, Edit, Outcome, Done, Failed, IsJournal, is_in_range}
 use Rattle.region_model.specs.Calls.{Put, Scan, Flush, PutOk, PutFault, PutSpent, Scanned, FlushOk, FlushBusy, Reply}
@@ -10,14 +11,14 @@ abbrev base : Base
 base = record { content = empty; last = 0 }
 
 abbrev cell : Cell
-cell = record { row = 114 ∷ []; family = 102 ∷ []; qualifier = 113 ∷ []; ts = 1; kind = 4; value = 97 ∷ [] }
+cell = record { row = 114 ∷ []; family = 102 ∷ []; qualifier = 113 ∷ []; ts = 1; kind = 4; value = 97 ∷ []; tags = [] }
 
 -- the edit numbered n of a call of handler 1
 abbrev edit : ℕ → ℕ → Outcome → Edit
-edit n call outcome = record { entry = record { region = 1; number = n; time = 1000; cells = cell ∷ [] }; caller = record { handler = 1; call = call }; outcome = outcome }
+edit n call outcome = record { entry = record { region = 1; number = n; time = 1000; batch = batch_of (cell ∷ []) }; caller = record { handler = 1; call = call }; outcome = outcome }
 
 abbrev puts_ok : ℕ → ℕ → Reply
-puts_ok call n = record { handler = 1; number = call; call = Put 1 true (cell ∷ []); answer = PutOk n }
+puts_ok call n = record { handler = 1; number = call; call = Put 1 true (batch_of (cell ∷ [])); answer = PutOk n }
 
 abbrev scans_at : ℕ → ℕ → Reply
 scans_at call p = record { handler = 1; number = call; call = Scan 1 [] []; answer = Scanned p [] }
@@ -42,7 +43,7 @@ flushed_too_little law = let p : 1 ≤ 0 = (law.places 0 1 (puts_ok 1 1) (omega 
 
 -- a put draws a number behind a fault of its handler
 abbrev faults : Reply
-faults = record { handler = 1; number = 1; call = Put 1 true (cell ∷ []); answer = PutFault (Some 1) }
+faults = record { handler = 1; number = 1; call = Put 1 true (batch_of (cell ∷ [])); answer = PutFault (Some 1) }
 
 pub drawn_behind_a_fault : IsLawful 1 base (edit 1 1 Failed ∷ edit 2 2 Done ∷ []) (faults ∷ puts_ok 2 2 ∷ []) → ⊥
 drawn_behind_a_fault law = some_none 2 (law.faults 0 1 faults (omega arith) (omega arith) refl tt)
@@ -60,7 +61,7 @@ busy_by_itself law = (law.busy busy_itself 1 1 (0, omega arith, refl) refl refl)
 
 -- numbers are spent too early
 abbrev spent_early : Reply
-spent_early = record { handler = 1; number = 1; call = Put 1 true (cell ∷ []); answer = PutSpent 0 }
+spent_early = record { handler = 1; number = 1; call = Put 1 true (batch_of (cell ∷ [])); answer = PutSpent 0 }
 
 pub spent_too_early : IsLawful 1 base [] (spent_early ∷ []) → ⊥
 spent_too_early law = let p = (law.spent spent_early 0 (0, omega arith, refl) refl refl).0 in absurd (omega (arith, p))

@@ -1,6 +1,6 @@
 -- A region's journal as its lines, which don't name the region.
 use Rattle.std.specs.Prelude.{◌≡◌, ℕ, ◌+◌, ◌<◌, ◌==◌, if◌then◌else◌, Bool, List, [], ◌∷◌, length, map, filter, Contains}
-use Rattle.cell_model.specs.Cell.{Cell}
+use Rattle.cell_model.specs.Batch.{Batch}
 use Rattle.cell_model.specs.Order.{Content, put_cells}
 use Rattle.region_model.specs.Journal.{Base, Caller, Outcome, Pending, Edit, is_completed, is_done}
 
@@ -9,12 +9,12 @@ pub record Line : Type 0 where
   pub number : ℕ
   pub caller : Caller
   pub time : ℕ
-  pub cells : List Cell
+  pub batch : Batch
   pub outcome : Outcome
 
 -- the line as an edit of this region
 abbrev pub edit_in : ℕ → Line → Edit
-edit_in r x = record { entry = record { region = r; number = x.number; time = x.time; cells = x.cells }; caller = x.caller; outcome = x.outcome }
+edit_in r x = record { entry = record { region = r; number = x.number; time = x.time; batch = x.batch }; caller = x.caller; outcome = x.outcome }
 
 abbrev pub edits_in : ℕ → List Line → List Edit
 edits_in r xs = map (edit_in r) xs
@@ -26,8 +26,8 @@ abbrev pub last_in : Base → List Line → ℕ
 last_in base xs = base.last + length xs
 
 -- a line that is begun
-abbrev pub pending : ℕ → Caller → ℕ → List Cell → Line
-pending n caller time cells = record { number = n; caller = caller; time = time; cells = cells; outcome = Pending }
+abbrev pub pending : ℕ → Caller → ℕ → Batch → Line
+pending n caller time batch = record { number = n; caller = caller; time = time; batch = batch; outcome = Pending }
 
 abbrev pub is_completed_line : Line → Bool
 is_completed_line x = is_completed x.outcome
@@ -64,4 +64,4 @@ IsNextCall caller xs = (x : Line) → Contains xs x → x.caller.handler ≡ cal
 -- the content with the cells of these lines put in, one line after the other
 abbrev pub put_lines : Content → List Line → Content
 put_lines m [] = m
-put_lines m (x ∷ xs) = put_lines (put_cells m x.number x.cells) xs
+put_lines m (x ∷ xs) = put_lines (put_cells m x.number x.batch.cells) xs

@@ -48,7 +48,7 @@ replies_order script replies calls =
 
 flush_is : (r : ℕ) (call : Call) → is_flush_of r call ≡ true → call ≡ Flush r
 flush_is r (Flush region) is = elim (cases_eq region r) [ inl same ↦ ap Flush same | inr other ↦ absurd (true≢false (sym is ∙ ne_eqb region r other)) ]
-flush_is r (Put region sync cells) is = absurd (true≢false (sym is))
+flush_is r (Put region sync batch) is = absurd (true≢false (sym is))
 flush_is r (Scan region from to) is = absurd (true≢false (sym is))
 flush_is r Roll is = absurd (true≢false (sym is))
 

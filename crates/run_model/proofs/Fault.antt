@@ -4,6 +4,7 @@ use Rattle.std.proofs.Common.{◌≡◌, ◌≢◌, ℕ, subst, All, ◌<◌, �
 use Rattle.std.specs.FinMap.{empty, get, get-empty}
 use Rattle.std.proofs.lemmas.Bool.{ne_eqb}
 use Rattle.std.proofs.lemmas.List.Elements.{All-from_recursion, All-contains}
+use Rattle.cell_model.specs.Batch.{batch_of}
 use Rattle.cell_model.specs.Cell.{Cell}
 use Rattle.cell_model.specs.Order.{cell_of, NumberedCell, VersionKey, Payload, version_cmp}
 use Rattle.cell_model.specs.Lists.{IsPrefix}
@@ -86,10 +87,10 @@ abbrev naming : Naming
 naming = record { regions = 1; handlers = 1; bases = λ r. record { content = empty; last = 0 }; flushes = λ r. [] }
 
 abbrev cells : List Cell
-cells = record { row = 114 ∷ []; family = 102 ∷ []; qualifier = 113 ∷ []; ts = 1; kind = 4; value = 118 ∷ [] } ∷ []
+cells = record { row = 114 ∷ []; family = 102 ∷ []; qualifier = 113 ∷ []; ts = 1; kind = 4; value = 118 ∷ []; tags = [] } ∷ []
 
 abbrev ones : List Edit
-ones = edit_of 1 1 1000 cells (record { handler = 1; call = 1 }) Done ∷ []
+ones = edit_of 1 1 1000 (batch_of cells) (record { handler = 1; call = 1 }) Done ∷ []
 
 abbrev known : List Edit → Known
 known edits = record { own = edits; shown = edits; spent = []; synced = 0; stored = 0; closed = 0 }
@@ -120,7 +121,7 @@ elsewhere old new r other = record {
 abbrev reply : ℕ → Call → Answer → Reply
 reply n call answer = record { handler = 1; number = n; call = call; answer = answer }
 
-puts : Step naming 1000 (pass 0 [] false) (reply 1 (Put 1 false cells) (PutOk 1)) (pass 1 ones false)
+puts : Step naming 1000 (pass 0 [] false) (reply 1 (Put 1 false (batch_of cells)) (PutOk 1)) (pass 1 ones false)
 puts = record {
   handler = refl;
   does = record {
@@ -132,6 +133,7 @@ puts = record {
     above = λ k is. let same : 1 ≡ k = cc in omega (arith, same);
     above_own = λ k x is member. absurd (omega (arith, member.1));
     seen = λ k is. let same : 1 ≡ k = cc in omega (arith, same);
+    place = λ k is. let same : 1 ≡ k = cc in subst (λ j. Contains ones (edit_of 1 j 1000 (batch_of cells) (record { handler = 1; call = 1 }) Done)) same (0, omega arith, refl);
     synced = λ k sync is done. absurd cc;
     fault = λ f. absurd f;
     stops = λ b. absurd cc;
@@ -142,7 +144,7 @@ puts = record {
 }
 
 abbrev seen_cells : List NumberedCell
-seen_cells = (1, record { row = 114 ∷ []; family = 102 ∷ []; qualifier = 113 ∷ []; ts = 1; kind = 4; value = 118 ∷ [] }) ∷ []
+seen_cells = (1, record { row = 114 ∷ []; family = 102 ∷ []; qualifier = 113 ∷ []; ts = 1; kind = 4; value = 118 ∷ []; tags = [] }) ∷ []
 
 -- a scan at point 1 has the put's cell
 scanned : visible empty ones 1 [] [] ≡ seen_cells
@@ -174,7 +176,7 @@ rolls = record {
 }
 
 abbrev replies : List Reply
-replies = reply 1 (Put 1 false cells) (PutOk 1) ∷ reply 2 (Scan 1 [] []) (Scanned 1 seen_cells) ∷ reply 3 Roll RollFault ∷ []
+replies = reply 1 (Put 1 false (batch_of cells)) (PutOk 1) ∷ reply 2 (Scan 1 [] []) (Scanned 1 seen_cells) ∷ reply 3 Roll RollFault ∷ []
 
 runs : Runs naming 1000 (pass 0 [] false) replies (pass 1 ones true)
 runs = (pass 1 ones false, puts, (pass 1 ones false, scans, (pass 1 ones true, rolls, refl)))
@@ -214,14 +216,14 @@ closed_region = record {
   journal = record {
     numbers = (refl, tt);
     callers = pairs_all InCallOrder ones ((λ y is. absurd (omega (arith, is.1))), tt);
-    regions = only (λ (e : Edit). e.entry.region ≡ 1) (edit_of 1 1 1000 cells (record { handler = 1; call = 1 }) Done) refl;
-    given = only (λ (e : Edit). 1 ≤ length e.entry.cells) (edit_of 1 1 1000 cells (record { handler = 1; call = 1 }) Done) (omega arith);
+    regions = only (λ (e : Edit). e.entry.region ≡ 1) (edit_of 1 1 1000 (batch_of cells) (record { handler = 1; call = 1 }) Done) refl;
+    given = only (λ (e : Edit). 1 ≤ length e.entry.batch.cells) (edit_of 1 1 1000 (batch_of cells) (record { handler = 1; call = 1 }) Done) (omega arith);
     upto = λ v p is. let no : None ≡ Some p = sym (get-empty version_cmp v) ∙ is in absurd cc;
   };
   limit = omega arith;
   shown = only (λ (p : Pass). IsPrefix (p.known 1).shown ones) (pass 1 ones true) (prefix_here ones);
   own = only (λ (p : Pass). (p.known 1).own ≡ handled p.handler ones) (pass 1 ones true) refl;
-  owners = only (λ (e : Edit). (p : Pass) × Contains (passes_of handlers) p × (p.handler ≡ e.caller.handler)) (edit_of 1 1 1000 cells (record { handler = 1; call = 1 }) Done) (pass 1 ones true, (0, omega arith, refl), refl);
+  owners = only (λ (e : Edit). (p : Pass) × Contains (passes_of handlers) p × (p.handler ≡ e.caller.handler)) (edit_of 1 1 1000 (batch_of cells) (record { handler = 1; call = 1 }) Done) (pass 1 ones true, (0, omega arith, refl), refl);
   synced_seen = only (λ (p : Pass). (p.known 1).synced ≤ 0) (pass 1 ones true) (omega arith);
   stored_seen = only (λ (p : Pass). (p.known 1).stored ≤ 0) (pass 1 ones true) (omega arith);
   closed_seen = only (λ (p : Pass). (p.known 1).closed ≤ 0) (pass 1 ones true) (omega arith);
@@ -248,7 +250,7 @@ leaves = record {
 }
 
 abbrev script : Script
-script = record { time = 1000; regions = 1; handlers = (Put 1 false cells ∷ Scan 1 [] [] ∷ Roll ∷ []) ∷ [] }
+script = record { time = 1000; regions = 1; handlers = (Put 1 false (batch_of cells) ∷ Scan 1 [] [] ∷ Roll ∷ []) ∷ [] }
 
 is_script : IsScript script
 is_script = record {
@@ -257,7 +259,7 @@ is_script = record {
   regions_below = omega arith;
   some_handler = omega arith;
   handlers_below = omega arith;
-  calls_among = All-from_recursion (All (IsAmong 1)) script.handlers (All-from_recursion (IsAmong 1) (Put 1 false cells ∷ Scan 1 [] [] ∷ Roll ∷ []) ((omega arith, omega arith), ((omega arith, omega arith), (tt, tt))), tt);
+  calls_among = All-from_recursion (All (IsAmong 1)) script.handlers (All-from_recursion (IsAmong 1) (Put 1 false (batch_of cells) ∷ Scan 1 [] [] ∷ Roll ∷ []) ((omega arith, omega arith), ((omega arith, omega arith), (tt, tt))), tt);
   calls_few = All-from_recursion (λ (calls : List Call). length calls ≤ 16777216) script.handlers (omega arith, tt);
 }
 

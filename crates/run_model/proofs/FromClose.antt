@@ -1,6 +1,6 @@
 -- What close hands on gives the headline.
 use Rattle.std.proofs.Common.{◌≡◌, ℕ, ◌≤◌, ◌⊎◌, Bool, true, IsTrue, List, [], ◌∷◌, map, Contains, refl, sym, ap, ◌∙◌, subst, arith, inl, inr}
-use Rattle.cell_model.specs.Cell.{Cell}
+use Rattle.cell_model.specs.Batch.{Batch}
 use Rattle.log_model.specs.Files.{Files}
 use Rattle.region_model.specs.Journal.{Edit, is_completed}
 use Rattle.region_model.specs.Calls.{Put, Flush, Answer, PutFault, Reply}
@@ -73,15 +73,15 @@ module _ {script : Script} {found : Files} {left : DiskView} {name : Naming} {hs
   }
     where
       asked_here : (r : ℕ) (e : Edit) (y : Reply) → Contains (replies_of hs) y → (o : IsEditOf y e) → e.entry.region ≡ r
-          → Contains (asked script) (record { handler = e.caller.handler; number = e.caller.call; call = Put r o.sync e.entry.cells })
+          → Contains (asked script) (record { handler = e.caller.handler; number = e.caller.call; call = Put r o.sync e.entry.batch })
       asked_here r e y is o on =
           let there : Contains (asked script) (asked_by y) = subst (λ l. Contains l (asked_by y)) c.calls (map_contains asked_by (replies_of hs) y is) in
-          subst (Contains (asked script)) (λ i. record { handler = (sym o.handler) i; number = (sym o.call) i; call = (o.put ∙ ap (λ r. Put r o.sync e.entry.cells) on) i }) there
+          subst (Contains (asked script)) (λ i. record { handler = (sym o.handler) i; number = (sym o.call) i; call = (o.put ∙ ap (λ r. Put r o.sync e.entry.batch) on) i }) there
 
   -- the region of a put or a flush that was replied
-  pub on_region : (y : Reply) → Contains (replies_of hs) y → (r : ℕ) → (y.call ≡ Flush r) ⊎ ((sync : Bool) × (cells : List Cell) × (y.call ≡ Put r sync cells)) → (x : ClosedAt) × Contains xs x × (x.region ≡ r)
+  pub on_region : (y : Reply) → Contains (replies_of hs) y → (r : ℕ) → (y.call ≡ Flush r) ⊎ ((sync : Bool) × (batch : Batch) × (y.call ≡ Put r sync batch)) → (x : ClosedAt) × Contains xs x × (x.region ≡ r)
   on_region y is r (inl call) = let a = subst (IsAmong script.regions) call (among y is) in region_there r a.0 a.1
-  on_region y is r (inr (sync, cells, call)) = let a = subst (IsAmong script.regions) call (among y is) in region_there r a.0 a.1
+  on_region y is r (inr (sync, batch, call)) = let a = subst (IsAmong script.regions) call (among y is) in region_there r a.0 a.1
 
   -- a fault among the replies is told by the status
   pub fault_is_told : (x : Reply) → Contains (replies_of hs) x → IsFault x.answer → broken ≡ true

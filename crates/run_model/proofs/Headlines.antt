@@ -2,7 +2,7 @@
 use Rattle.std.specs.List.{AllByRecursion}
 use Rattle.std.proofs.lemmas.List.Elements.{Contains-append_cases}
 use Rattle.std.proofs.Common.{◌≡◌, ◌≢◌, ℕ, zero, suc, ◌^◌, ◌<◌, ◌≤◌, Bool, true, false, List, [], ◌∷◌, map, Contains, refl, sym, ◌∙◌, subst, arith, inl, inr}
-use Rattle.cell_model.specs.Cell.{Cell}
+use Rattle.cell_model.specs.Batch.{Batch}
 use Rattle.log_model.specs.declared.name.Name.{Name}
 use Rattle.log_model.specs.Entry.{Entry}
 use Rattle.log_model.specs.Files.{Files, IsLogFile, IsSound, IsLastLog, IsPresent}
@@ -48,10 +48,10 @@ step_of name time (h ∷ hs) all x is = elim (Contains-append_cases h.replies (r
 ]
 
 fault_asked : {script : Script} {found : Files} {left : DiskView} {name : Naming} {hs : List Handled} {xs : List ClosedAt} {broken : Bool} → Closed script found left name hs xs broken
-    → (reply : Reply) (r n : ℕ) (sync : Bool) (cells : List Cell) → Contains (replies_of hs) reply → reply.call ≡ Put r sync cells → reply.answer ≡ PutFault (Some n) → sync ≡ true
-fault_asked {script} {found} {left} {name} {hs} c reply r n sync cells is put fault =
+    → (reply : Reply) (r n : ℕ) (sync : Bool) (batch : Batch) → Contains (replies_of hs) reply → reply.call ≡ Put r sync batch → reply.answer ≡ PutFault (Some n) → sync ≡ true
+fault_asked {script} {found} {left} {name} {hs} c reply r n sync batch is put fault =
     let step = step_of name script.time hs c.runs.each reply is in
-    let does : Does name script.time (record { handler = reply.handler; call = reply.number }) (Put r sync cells) reply.answer step.0 step.1 =
+    let does : Does name script.time (record { handler = reply.handler; call = reply.number }) (Put r sync batch) reply.answer step.0 step.1 =
     subst (λ (call : Call). Does name script.time (record { handler = reply.handler; call = reply.number }) call reply.answer step.0 step.1) put step.2.does in
     does.fault_sync n fault
 
@@ -78,8 +78,8 @@ module _ {script : Script} {found : Files} {left : DiskView} {name : Naming} {hs
       weaker [] sub p = tt
       weaker (y ∷ ys) sub p = (
         (λ z is r n b J log es e image last file member on.
-            let x = on_region c y (sub y (0, omega arith, refl)) r (inr (true, b.cells, b.put)) in
-            let h = p.0 z is r n b.cells b.handler b.put b.answer b.roll b.rolled in
+            let x = on_region c y (sub y (0, omega arith, refl)) r (inr (true, b.batch, b.put)) in
+            let h = p.0 z is r n b.batch b.handler b.put b.answer b.roll b.rolled in
             let closed = subst (λ k. IsClosedRegion name k (passes_of hs) x.0.it) x.2 (c.regions x.0 x.1) in
             let survives_there = subst (λ k. Survives left broken k x.0.it) x.2 (kept x.0 x.1) in
             omega (arith, h.2, closed.closed_seen h.0.pass (has_pass hs h.0 h.1), survives_there.closed J log es e image last file member on)),
@@ -140,8 +140,8 @@ headline_with {script} {found} {left} {name} {hs} {xs} {broken} c before status 
 only_puts : {script : Script} {found : Files} {left : DiskView} {name : Naming} {hs : List Handled} {xs : List ClosedAt} {broken : Bool} → Closed script found left name hs xs broken → OnlyPuts (replies_of hs)
 only_puts {script} {found} {left} {name} {hs} {xs} {broken} c x is spent = of_put x.call x.answer (kept_of name script.time hs c.runs x is).2.answers spent
   where
-    of_put : (call : Call) (answer : Answer) → IsAnswerTo call answer → IsSpent answer → (region : ℕ) × (sync : Bool) × (cells : List Cell) × (call ≡ Put region sync cells)
-    of_put (Put region sync cells) answer fits told = (region, sync, cells, refl)
+    of_put : (call : Call) (answer : Answer) → IsAnswerTo call answer → IsSpent answer → (region : ℕ) × (sync : Bool) × (batch : Batch) × (call ≡ Put region sync batch)
+    of_put (Put region sync batch) answer fits told = (region, sync, batch, refl)
     of_put (Scan region from to) (PutSpent n) fits told = absurd cc
     of_put (Flush region) (PutSpent n) fits told = absurd cc
     of_put Roll (PutSpent n) fits told = absurd cc

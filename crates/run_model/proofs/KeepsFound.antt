@@ -43,8 +43,8 @@ other_cells (c ∷ cs) m n v differ = other_cells cs (insert m (record { key = k
 pub later_edits : (last : ℕ) (es : List Edit) (m : Content) (p : ℕ) (v : VersionKey) → Follows last es → v.number ≤ last → get (put_edits m (cut_at p es)) v ≡ get m v
 later_edits last [] m p v f low = refl
 later_edits last (e ∷ es) m p v f low = elim (cases_Bool (leb e.entry.number p)) [
-  | inl is_so ↦ ap (λ b. get (put_edits m (cond b (e ∷ cut_at p es) (cut_at p es))) v) is_so ∙ later_edits (last + 1) es (put_cells m e.entry.number e.entry.cells) p v f.1 (omega (arith, low))
-      ∙ other_cells e.entry.cells m e.entry.number v (λ same. omega (arith, same, f.0, low))
+  | inl is_so ↦ ap (λ b. get (put_edits m (cond b (e ∷ cut_at p es) (cut_at p es))) v) is_so ∙ later_edits (last + 1) es (put_cells m e.entry.number e.entry.batch.cells) p v f.1 (omega (arith, low))
+      ∙ other_cells e.entry.batch.cells m e.entry.number v (λ same. omega (arith, same, f.0, low))
   | inr not_so ↦ ap (λ b. get (put_edits m (cond b (e ∷ cut_at p es) (cut_at p es))) v) not_so ∙ later_edits (last + 1) es m p v f.1 (omega (arith, low))
 ]
 

@@ -3,6 +3,7 @@ use Rattle.std.proofs.Common.{◌≡◌, ℕ, true, false, List, [], ◌∷◌, 
 use Rattle.std.specs.FinMap.{empty}
 use Rattle.std.specs.Fmt.{digits}
 use Rattle.std.proofs.lemmas.List.Elements.{All-from_recursion, All-contains}
+use Rattle.cell_model.specs.Batch.{batch_of}
 use Rattle.cell_model.specs.Cell.{Cell}
 use Rattle.cell_model.specs.Order.{cells_of, cell_of, VersionKey, Payload}
 use Rattle.cell_model.proofs.OrderLaws.{entries-empty}
@@ -19,13 +20,13 @@ use Rattle.run_model.specs.Headline.{History, report_of, reply_line, FitsStatus,
 use Rattle.std.specs.Prelude.{Some, None}
 
 abbrev name_cell : Cell
-name_cell = record { row = codes "user1"; family = codes "info"; qualifier = codes "name"; ts = 1700000000000; kind = 4; value = codes "Ann" }
+name_cell = record { row = codes "user1"; family = codes "info"; qualifier = codes "name"; ts = 1700000000000; kind = 4; value = codes "Ann"; tags = [] }
 
 abbrev mail_cell : Cell
-mail_cell = record { row = codes "user1"; family = codes "info"; qualifier = codes "mail"; ts = 1700000000000; kind = 4; value = codes "ann@x" }
+mail_cell = record { row = codes "user1"; family = codes "info"; qualifier = codes "mail"; ts = 1700000000000; kind = 4; value = codes "ann@x"; tags = [] }
 
 abbrev key_cell : Cell
-key_cell = record { row = codes "k1"; family = codes "f"; qualifier = codes "q"; ts = 5; kind = 4; value = codes "v" }
+key_cell = record { row = codes "k1"; family = codes "f"; qualifier = codes "q"; ts = 5; kind = 4; value = codes "v"; tags = [] }
 
 abbrev text : List ℕ
 text =
@@ -36,7 +37,7 @@ abbrev script : Script
 script = record {
   time = 1700000000000;
   regions = 2;
-  handlers = (Put 1 true (name_cell ∷ mail_cell ∷ []) ∷ Scan 1 [] [] ∷ Flush 1 ∷ []) ∷ (Put 2 true (key_cell ∷ []) ∷ Roll ∷ Scan 2 (codes "k1") (codes "k2") ∷ []) ∷ [];
+  handlers = (Put 1 true (batch_of (name_cell ∷ mail_cell ∷ [])) ∷ Scan 1 [] [] ∷ Flush 1 ∷ []) ∷ (Put 2 true (batch_of (key_cell ∷ [])) ∷ Roll ∷ Scan 2 (codes "k1") (codes "k2") ∷ []) ∷ [];
 }
 
 two_handlers_say : Says Run text script
@@ -48,11 +49,11 @@ reply h n call answer = record { handler = h; number = n; call = call; answer = 
 
 abbrev replies : List Reply
 replies =
-    reply 1 1 (Put 1 true (name_cell ∷ mail_cell ∷ [])) (PutOk 1) ∷ reply 1 2 (Scan 1 [] []) (Scanned 1 ((1, mail_cell) ∷ (1, name_cell) ∷ [])) ∷ reply 1 3 (Flush 1) (FlushOk 1)
-    ∷ reply 2 1 (Put 2 true (key_cell ∷ [])) (PutOk 1) ∷ reply 2 2 Roll (RollOk 1 2) ∷ reply 2 3 (Scan 2 (codes "k1") (codes "k2")) (Scanned 1 ((1, key_cell) ∷ [])) ∷ []
+    reply 1 1 (Put 1 true (batch_of (name_cell ∷ mail_cell ∷ []))) (PutOk 1) ∷ reply 1 2 (Scan 1 [] []) (Scanned 1 ((1, mail_cell) ∷ (1, name_cell) ∷ [])) ∷ reply 1 3 (Flush 1) (FlushOk 1)
+    ∷ reply 2 1 (Put 2 true (batch_of (key_cell ∷ []))) (PutOk 1) ∷ reply 2 2 Roll (RollOk 1 2) ∷ reply 2 3 (Scan 2 (codes "k1") (codes "k2")) (Scanned 1 ((1, key_cell) ∷ [])) ∷ []
 
 abbrev edit_in : ℕ → ℕ → List Cell → Edit
-edit_in r h cells = record { entry = record { region = r; number = 1; time = 1700000000000; cells = cells }; caller = record { handler = h; call = 1 }; outcome = Done }
+edit_in r h cells = record { entry = record { region = r; number = 1; time = 1700000000000; batch = batch_of cells }; caller = record { handler = h; call = 1 }; outcome = Done }
 
 abbrev no_base : Base
 no_base = record { content = empty; last = 0 }
@@ -90,6 +91,6 @@ its_status = record {
 }
 
 -- of two puts that found the numbers spent the first one is named
-first_of_two : first_spent (reply 1 1 (Put 1 true (key_cell ∷ [])) (PutMemory None) ∷ reply 1 2 (Put 2 false (key_cell ∷ [])) (PutSpent 281474976710655) ∷ reply 2 1 (Put 1 true (key_cell ∷ [])) (PutSpent 281474976710655) ∷ [])
+first_of_two : first_spent (reply 1 1 (Put 1 true (batch_of (key_cell ∷ []))) (PutMemory None) ∷ reply 1 2 (Put 2 false (batch_of (key_cell ∷ []))) (PutSpent 281474976710655) ∷ reply 2 1 (Put 1 true (batch_of (key_cell ∷ []))) (PutSpent 281474976710655) ∷ [])
     ≡ Some (record { region = 2; last = 281474976710655 })
 first_of_two = refl

@@ -24,7 +24,7 @@ here x xs s last only answer same =
       split = refl;
       none_before = λ y is. absurd (omega (arith, is.1));
       sync = put.1;
-      cells = put.2;
+      batch = put.2;
       put = put.3 ∙ ap (λ r. Put r put.1 put.2) (sym (ap region_of put.3) ∙ ap (λ (t : Spent). t.region) same);
       answer = answer ∙ ap PutSpent (ap (λ (t : Spent). t.last) same);
     }
@@ -37,7 +37,7 @@ behind x xs s other r = record {
   split = ap (λ (l : List Reply). x ∷ l) r.split;
   none_before = with_first (λ (y : Reply). IsSpent y.answer → ⊥) x r.before other r.none_before;
   sync = r.sync;
-  cells = r.cells;
+  batch = r.batch;
   put = r.put;
   answer = r.answer;
 }

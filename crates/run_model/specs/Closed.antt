@@ -16,7 +16,7 @@ use Rattle.server_model.specs.Closing.{Region, IsClosedRegion, Survives, Leaves,
 
 abbrev pub is_flush_of : ℕ → Call → Bool
 is_flush_of r (Flush region) = region == r
-is_flush_of r (Put region sync cells) = false
+is_flush_of r (Put region sync batch) = false
 is_flush_of r (Scan region from to) = false
 is_flush_of r Roll = false
 

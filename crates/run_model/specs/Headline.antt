@@ -1,7 +1,7 @@
 -- What the report of a run tells of its handlers' writes, and what any crash leaves of them.
 use Rattle.std.specs.Prelude.{◌≡◌, ◌≢◌, ℕ, ◌^◌, ◌<◌, ◌≤◌, ◌⊎◌, Bool, true, IsTrue, List, length, map, Contains, AllPairs, Some}
 use Rattle.std.specs.List.{range_with_len}
-use Rattle.cell_model.specs.Cell.{Cell}
+use Rattle.cell_model.specs.Batch.{Batch}
 use Rattle.cell_model.specs.Order.{VersionKey, Payload, cells_of}
 use Rattle.log_model.specs.declared.name.Name.{Name}
 use Rattle.log_model.specs.declared.name.NameKind.TheVariants as kinds
@@ -48,7 +48,7 @@ pub record IsOneReport (script : Script) (found : Files) (histories : List Histo
   pub last : (h : History) → Contains histories h → IsLast found h.region h.base.last
   pub content : (h : History) → Contains histories h → IsContent (IsRecovered found h.region) h.base.content
   -- an edit that failed was asked for with `sync`
-  pub fault_sync : (reply : Reply) (r n : ℕ) (sync : Bool) (cells : List Cell) → Contains replies reply → reply.call ≡ Put r sync cells
+  pub fault_sync : (reply : Reply) (r n : ℕ) (sync : Bool) (batch : Batch) → Contains replies reply → reply.call ≡ Put r sync batch
       → reply.answer ≡ PutFault (Some n) → sync ≡ true
 
 -- The edits are one journal of the script's puts, each is completed, and their sequence ids are at most 2^48-1.
@@ -56,7 +56,7 @@ pub record IsOneJournal (script : Script) (h : History) : Type 0 where
   pub journal : IsJournal h.region h.base h.edits
   pub completed : (e : Edit) → Contains h.edits e → IsTrue (is_completed e.outcome)
   pub asked : (e : Edit) → Contains h.edits e
-      → (sync : Bool) × Contains (asked script) (record { handler = e.caller.handler; number = e.caller.call; call = Put h.region sync e.entry.cells })
+      → (sync : Bool) × Contains (asked script) (record { handler = e.caller.handler; number = e.caller.call; call = Put h.region sync e.entry.batch })
   pub time : (e : Edit) → Contains h.edits e → e.entry.time ≡ script.time
   pub limit : last_of h.base.last h.edits < 2 ^ 48
 
@@ -70,8 +70,8 @@ pub record Endures (left : DiskView) (status : ℕ) (replies : List Reply) (h : 
 -- a synced put of a handler, and a later roll of that handler
 pub record IsRolledBehind (r n : ℕ) (a b : Reply) : Type 0 where
   pub handler : a.handler ≡ b.handler
-  pub cells : List Cell
-  pub put : a.call ≡ Put r true cells
+  pub batch : Batch
+  pub put : a.call ≡ Put r true batch
   pub answer : a.answer ≡ PutOk n
   pub roll : b.call ≡ Roll
   pub rolled : IsRolled b.answer

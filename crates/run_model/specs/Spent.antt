@@ -1,6 +1,6 @@
 -- The put that found no sequence id left.
 use Rattle.std.specs.Prelude.{◌≡◌, ℕ, Bool, List, [], ◌∷◌, ◌++◌, Contains, Option, Some, None}
-use Rattle.cell_model.specs.Cell.{Cell}
+use Rattle.cell_model.specs.Batch.{Batch}
 use Rattle.region_model.specs.Calls.{Call, Put, Scan, Flush, Roll, Answer, PutSpent, Reply}
 use Rattle.run_model.specs.declared.spent.Spent.{Spent}
 
@@ -16,14 +16,14 @@ pub record IsFirstSpent (spent : Spent) (replies : List Reply) : Type 0 where
   pub split : replies ≡ before ++ reply ∷ after
   pub none_before : (x : Reply) → Contains before x → IsSpent x.answer → ⊥
   pub sync : Bool
-  pub cells : List Cell
-  pub put : reply.call ≡ Put spent.region sync cells
+  pub batch : Batch
+  pub put : reply.call ≡ Put spent.region sync batch
   pub answer : reply.answer ≡ PutSpent spent.last
 
 -- ---- as it is found
 
 abbrev pub region_of : Call → ℕ
-region_of (Put region sync cells) = region
+region_of (Put region sync batch) = region
 region_of (Scan region from to) = region
 region_of (Flush region) = region
 region_of Roll = 0
@@ -47,7 +47,7 @@ first_spent (x ∷ xs) = first_of (told_spent x.call x.answer) (first_spent xs)
 
 -- only puts are answered spent
 abbrev pub OnlyPuts : List Reply → Type 0
-OnlyPuts replies = (x : Reply) → Contains replies x → IsSpent x.answer → (region : ℕ) × (sync : Bool) × (cells : List Cell) × (x.call ≡ Put region sync cells)
+OnlyPuts replies = (x : Reply) → Contains replies x → IsSpent x.answer → (region : ℕ) × (sync : Bool) × (batch : Batch) × (x.call ≡ Put region sync batch)
 
 abbrev pub FirstSpentIsFirst : Type 0
 FirstSpentIsFirst = (replies : List Reply) → OnlyPuts replies

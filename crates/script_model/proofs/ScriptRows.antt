@@ -1,5 +1,6 @@
 -- Texts that are scripts, each with exactly what it says.
 use Rattle.std.proofs.Common.{ℕ, true, false, List, [], ◌∷◌, codes, refl}
+use Rattle.cell_model.specs.Batch.{batch_of}
 use Rattle.cell_model.specs.Cell.{Cell}
 use Rattle.region_model.specs.Calls.{Put, Scan, Flush, Roll}
 use Rattle.script_model.specs.Calls.{Says}
@@ -9,7 +10,7 @@ use Rattle.script_model.specs.declared.command.Command.TheVariants.{Log, Run}
 
 -- a cell of row r, family f, qualifier q
 abbrev cell_at : (ts kind : ℕ) (value : List ℕ) → Cell
-cell_at ts kind value = record { row = codes "r"; family = codes "f"; qualifier = codes "q"; ts = ts; kind = kind; value = value }
+cell_at ts kind value = record { row = codes "r"; family = codes "f"; qualifier = codes "q"; ts = ts; kind = kind; value = value; tags = [] }
 
 -- the head lines alone
 head_alone : Says Log (codes "time 1000\nregions 1\nhandlers 1\n")
@@ -19,19 +20,19 @@ head_alone = record { right = refl; is = refl }
 
 -- one put, for `log`
 one_put : Says Log (codes "time 1000\nregions 1\nhandlers 1\nput 1 1 sync 1\ncell r f q 1 put v\n")
-    (record { time = 1000; regions = 1; handlers = (Put 1 true (cell_at 1 4 (codes "v") ∷ []) ∷ []) ∷ [] })
+    (record { time = 1000; regions = 1; handlers = (Put 1 true (batch_of (cell_at 1 4 (codes "v") ∷ [])) ∷ []) ∷ [] })
 unfolding script_fault number_fault token_fault sized_fault ts_fault kind_fault room_fault mode_fault here_fault one_here_fault mode_here_fault kind_here_fault
 one_put = record { right = refl; is = refl }
 
 -- `now` and 2 ^ 63 - 1 are the time of the script
 times_of_cells : Says Run (codes "time 1000\nregions 1\nhandlers 1\nput 1 1 async 3\ncell r f q now put v\ncell r f q 9223372036854775807 put v\ncell r f q 9223372036854775806 put v\n")
-    (record { time = 1000; regions = 1; handlers = (Put 1 false (cell_at 1000 4 (codes "v") ∷ cell_at 1000 4 (codes "v") ∷ cell_at 9223372036854775806 4 (codes "v") ∷ []) ∷ []) ∷ [] })
+    (record { time = 1000; regions = 1; handlers = (Put 1 false (batch_of (cell_at 1000 4 (codes "v") ∷ cell_at 1000 4 (codes "v") ∷ cell_at 9223372036854775806 4 (codes "v") ∷ [])) ∷ []) ∷ [] })
 unfolding script_fault number_fault token_fault sized_fault ts_fault kind_fault room_fault mode_fault here_fault one_here_fault mode_here_fault kind_here_fault
 times_of_cells = record { right = refl; is = refl }
 
 -- each type of cell
 types_of_cells : Says Run (codes "time 1000\nregions 1\nhandlers 1\nput 1 1 sync 5\ncell r f q 1 put -\ncell r f q 2 delete -\ncell r f q 3 delete-family-version -\ncell r f q 4 delete-column -\ncell r f q 5 delete-family -\n")
-    (record { time = 1000; regions = 1; handlers = (Put 1 true (cell_at 1 4 [] ∷ cell_at 2 8 [] ∷ cell_at 3 10 [] ∷ cell_at 4 12 [] ∷ cell_at 5 14 [] ∷ []) ∷ []) ∷ [] })
+    (record { time = 1000; regions = 1; handlers = (Put 1 true (batch_of (cell_at 1 4 [] ∷ cell_at 2 8 [] ∷ cell_at 3 10 [] ∷ cell_at 4 12 [] ∷ cell_at 5 14 [] ∷ [])) ∷ []) ∷ [] })
 unfolding script_fault number_fault token_fault sized_fault ts_fault kind_fault room_fault mode_fault here_fault one_here_fault mode_here_fault kind_here_fault
 types_of_cells = record { right = refl; is = refl }
 
@@ -49,7 +50,7 @@ two_handlers = record { right = refl; is = refl }
 
 -- comments, empty lines and lines of spaces say nothing, also where a cell is due
 lines_skipped : Says Run (codes "# a\ntime 5\n\nregions 1\n  \nhandlers 1\nput 1 1 sync 1\n#\ncell r f q 1 put v\n# end")
-    (record { time = 5; regions = 1; handlers = (Put 1 true (cell_at 1 4 (codes "v") ∷ []) ∷ []) ∷ [] })
+    (record { time = 5; regions = 1; handlers = (Put 1 true (batch_of (cell_at 1 4 (codes "v") ∷ [])) ∷ []) ∷ [] })
 unfolding script_fault number_fault token_fault sized_fault ts_fault kind_fault room_fault mode_fault here_fault one_here_fault mode_here_fault kind_here_fault
 lines_skipped = record { right = refl; is = refl }
 
@@ -73,12 +74,12 @@ greatest_head = record { right = refl; is = refl }
 
 -- two puts of one handler
 two_puts : Says Run (codes "time 1000\nregions 1\nhandlers 1\nput 1 1 sync 1\ncell r f q 1 put v\nput 1 1 async 2\ncell r f q 2 put w\ncell r f q 3 put x\n")
-    (record { time = 1000; regions = 1; handlers = (Put 1 true (cell_at 1 4 (codes "v") ∷ []) ∷ Put 1 false (cell_at 2 4 (codes "w") ∷ cell_at 3 4 (codes "x") ∷ []) ∷ []) ∷ [] })
+    (record { time = 1000; regions = 1; handlers = (Put 1 true (batch_of (cell_at 1 4 (codes "v") ∷ [])) ∷ Put 1 false (batch_of (cell_at 2 4 (codes "w") ∷ cell_at 3 4 (codes "x") ∷ [])) ∷ []) ∷ [] })
 unfolding script_fault number_fault token_fault sized_fault ts_fault kind_fault room_fault mode_fault here_fault one_here_fault mode_here_fault kind_here_fault
 two_puts = record { right = refl; is = refl }
 
 -- a put for each of two regions by two handlers, their cells in one order
 two_regions : Says Run (codes "time 1\nregions 2\nhandlers 2\nput 2 1 sync 1\ncell r f q 1 put v\nput 1 2 sync 1\ncell r f q 2 put w\n")
-    (record { time = 1; regions = 2; handlers = (Put 2 true (cell_at 2 4 (codes "w") ∷ []) ∷ []) ∷ (Put 1 true (cell_at 1 4 (codes "v") ∷ []) ∷ []) ∷ [] })
+    (record { time = 1; regions = 2; handlers = (Put 2 true (batch_of (cell_at 2 4 (codes "w") ∷ [])) ∷ []) ∷ (Put 1 true (batch_of (cell_at 1 4 (codes "v") ∷ [])) ∷ []) ∷ [] })
 unfolding script_fault number_fault token_fault sized_fault ts_fault kind_fault room_fault mode_fault here_fault one_here_fault mode_here_fault kind_here_fault
 two_regions = record { right = refl; is = refl }

@@ -1,13 +1,14 @@
 -- The causes for which a script is refused, and the fields of a line with the checks of each.
 use Rattle.std.specs.Prelude.{ℕ, ◌+◌, ◌-◌, ◌^◌, Bool, true, false, ◌&&◌, ◌||◌, ◌==◌, not, nat_lt, nat_le, nat_eq, if◌then◌else◌, List, [], ◌∷◌, ◌++◌, length, Option, Some, None, is_none, unwrap_or, codes}
 use Rattle.std.specs.Cmp.Lexicographic.{pointwise}
-use Rattle.cell_model.specs.Cell.{Cell, is_kind, spelling_length}
+use Rattle.cell_model.specs.Cell.{Cell, is_kind}
+use Rattle.cell_model.specs.Batch.{Batch, body_length}
 use Rattle.script_model.specs.Text.{is_number, number_of, token_of}
 use Rattle.script_model.specs.declared.command.Command.{Command}
 use Rattle.script_model.specs.declared.command.Command.TheVariants.{Log, Run}
 
 -- the causes: word 1, number 2, token 3, region 4, handler 5, count 6, too-long 7, a cell's 8 with its number,
--- not-here 9, entry-length 10
+-- not-here 9, entry-length 10, table-length 12
 pub record Why : Type 0 where
   pub cause : ℕ
   pub limit : ℕ
@@ -24,7 +25,7 @@ why_name y =
     if y.cause == 1 then codes "word" else (if y.cause == 2 then codes "number" else (if y.cause == 3 then codes "token"
     else (if y.cause == 4 then codes "region" else (if y.cause == 5 then codes "handler" else (if y.cause == 6 then codes "count"
     else (if y.cause == 7 then codes "too-long" else (if y.cause == 8 then codes "cell-" ++ (48 + y.limit) ∷ []
-    else (if y.cause == 9 then codes "not-here" else codes "entry-length"))))))))
+    else (if y.cause == 9 then codes "not-here" else (if y.cause == 12 then codes "table-length" else codes "entry-length")))))))))
 
 -- the first line of a table that applies
 abbrev pub first_why : List (Bool × Why) → Option Why
@@ -62,7 +63,10 @@ ts_of time word = if is word (codes "now") then time else (if number_of word == 
 
 abbrev pub cell_of : ℕ → (row family qualifier ts kind value : List ℕ) → Cell
 cell_of time row family qualifier ts kind value =
-    record { row = bytes_of row; family = bytes_of family; qualifier = bytes_of qualifier; ts = ts_of time ts; kind = code_of kind; value = bytes_of value }
+    record { row = bytes_of row; family = bytes_of family; qualifier = bytes_of qualifier; ts = ts_of time ts; kind = code_of kind; value = bytes_of value; tags = [] }
+
+abbrev pub tagged_with : Cell → List ℕ → Cell
+tagged_with cell tags = record cell { tags = bytes_of tags }
 
 -- ---- what is wrong with a field
 
@@ -83,9 +87,16 @@ ts_fault time word = first_why ((not (is word (codes "now") || is_number word), 
 unfoldable pub kind_fault : List ℕ → Option Why
 kind_fault word = first_why ((not (is_kind (code_of word)), cell_why 6) ∷ [])
 
--- with this cell the entry's body is too long
-unfoldable pub room_fault : (body : ℕ) → Cell → Option Why
-room_fault body cell = first_why ((nat_lt 1048576 (body + spelling_length cell), why 10) ∷ [])
+abbrev pub one_more : Batch → Cell → Batch
+one_more batch cell = record batch { cells = batch.cells ++ cell ∷ [] }
+
+-- with this cell behind those so far the entry's body is too long
+unfoldable pub room_fault : Batch → Cell → Option Why
+room_fault batch cell = first_why ((nat_lt 1048576 (body_length (one_more batch cell)), why 10) ∷ [])
+
+-- a name of a table, of 1 to 255 bytes
+unfoldable pub table_name_fault : List ℕ → Option Why
+table_name_fault word = first_why ((has_no_token word, why 3) ∷ (is_out 1 255 (length (bytes_of word)), why 12) ∷ [])
 
 unfoldable pub mode_fault : List ℕ → Option Why
 mode_fault word = first_why ((not (is word (codes "sync") || is word (codes "async")), why 1) ∷ [])
@@ -96,7 +107,7 @@ abbrev pub is_log : Command → Bool
 is_log Log = true
 is_log Run = false
 
--- any call but a put
+-- any call but a put, the name of a table, and tags
 unfoldable pub here_fault : Command → Option Why
 here_fault command = first_why ((is_log command, why 9) ∷ [])
 

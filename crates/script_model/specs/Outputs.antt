@@ -10,6 +10,7 @@ use Rattle.log_model.specs.declared.name.NameKind.TheVariants as kinds
 use Rattle.log_model.specs.Entry.{Entry}
 use Rattle.log_model.specs.Recovered.{put_entries, entries_of}
 use Rattle.script_model.specs.Report.{line, cell_line}
+use Rattle.script_model.specs.Text.{printed}
 use Rattle.script_model.specs.Fields.{Why, why_name}
 pub use Rattle.script_model.specs.Report.{end_line, replies_text}
 
@@ -47,9 +48,15 @@ name_text name = go name.kind
 
 -- ---- dump
 
--- an entry, and its cells as stored
+-- the name of the table, where there is one
+abbrev pub table_line : List ℕ → List ℕ
+table_line [] = []
+table_line (b ∷ bs) = line (codes "table" ∷ printed (b ∷ bs) ∷ [])
+
+-- an entry, the name of its table, and its cells as stored
 unfoldable pub entry_text : Entry → List ℕ
-entry_text e = line (codes "entry" ∷ decimal e.region ∷ decimal e.number ∷ decimal e.time ∷ decimal (length e.cells) ∷ []) ++ flat_map (λ c. cell_line (e.number, c)) e.cells
+entry_text e = line (codes "entry" ∷ decimal e.region ∷ decimal e.number ∷ decimal e.time ∷ decimal (length e.batch.cells) ∷ [])
+    ++ (table_line e.batch.table ++ flat_map (λ c. cell_line (e.number, c)) e.batch.cells)
 
 -- where an end frame was read, its count
 abbrev pub ended_line : Option ℕ → List ℕ

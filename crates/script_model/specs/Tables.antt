@@ -1,10 +1,11 @@
 -- What is wrong with a line, and what a right one says: a field at a time from the left, and behind all others what `log` does not take.
 use Rattle.std.specs.Prelude.{ℕ, Bool, false, if◌then◌else◌, List, [], ◌∷◌, Option, Some, None, codes}
 use Rattle.cell_model.specs.Cell.{Cell}
+use Rattle.cell_model.specs.Batch.{Batch}
 use Rattle.region_model.specs.Calls.{Call, Scan, Flush, Roll}
 use Rattle.script_model.specs.Text.{number_of}
 use Rattle.script_model.specs.declared.command.Command.{Command}
-use Rattle.script_model.specs.Fields.{Why, why, first_of, is, bytes_of, cell_of, number_fault, token_fault, sized_fault, ts_fault, kind_fault, room_fault, mode_fault, here_fault, one_here_fault, mode_here_fault, kind_here_fault}
+use Rattle.script_model.specs.Fields.{Why, why, first_of, is, bytes_of, cell_of, tagged_with, number_fault, token_fault, sized_fault, ts_fault, kind_fault, room_fault, table_name_fault, mode_fault, here_fault, one_here_fault, mode_here_fault, kind_here_fault}
 
 -- a line whose first word is unknown or not allowed here, or that has another number of words
 abbrev pub misplaced : Option Why
@@ -27,6 +28,11 @@ head_fault name low high _ = misplaced
 -- a head line that tells how many there are of something: `log` takes one alone
 abbrev pub counted_fault : Command → (name : List ℕ) (high : ℕ) → List (List ℕ) → Option Why
 counted_fault command name high words = first_of (head_fault name 1 high words) (one_here_fault command (second_number words))
+
+-- the line of the table's name
+abbrev pub table_fault : Command → List (List ℕ) → Option Why
+table_fault command (a ∷ name ∷ []) = first_of (table_name_fault name) (here_fault command)
+table_fault command _ = misplaced
 
 abbrev pub handler_fault : (handlers : ℕ) → List ℕ → Option Why
 handler_fault handlers h = number_fault 1 handlers (why 5) h
@@ -53,19 +59,34 @@ call_fault command handlers regions (a ∷ h ∷ r ∷ x ∷ y ∷ []) =
     else (if is a (codes "scan") then scan_fault command handlers regions h r x y else misplaced)
 call_fault command handlers regions _ = misplaced
 
--- a cell, where the body of its put's entry is so long without it
-abbrev pub cell_fault : Command → (time body : ℕ) (row family qualifier ts kind value : List ℕ) → Option Why
-cell_fault command time body row family qualifier ts kind value =
+-- the six fields that each cell has
+abbrev pub six_fields_fault : (time : ℕ) (row family qualifier ts kind value : List ℕ) → Option Why
+six_fields_fault time row family qualifier ts kind value =
     first_of (sized_fault 1 1 32767 row) (first_of (sized_fault 2 1 127 family) (first_of (sized_fault 3 0 32767 qualifier)
-    (first_of (ts_fault time ts) (first_of (kind_fault kind) (first_of (sized_fault 4 0 65536 value)
-    (first_of (room_fault body (cell_of time row family qualifier ts kind value)) (kind_here_fault command kind)))))))
+    (first_of (ts_fault time ts) (first_of (kind_fault kind) (sized_fault 4 0 65536 value)))))
+
+-- a cell, behind those that its put has so far
+abbrev pub cell_fault : Command → ℕ → Batch → (row family qualifier ts kind value : List ℕ) → Option Why
+cell_fault command time batch row family qualifier ts kind value =
+    first_of (six_fields_fault time row family qualifier ts kind value)
+    (first_of (room_fault batch (cell_of time row family qualifier ts kind value)) (kind_here_fault command kind))
+
+-- and one with tags
+abbrev pub tagged_fault : Command → ℕ → Batch → (row family qualifier ts kind value tags : List ℕ) → Option Why
+tagged_fault command time batch row family qualifier ts kind value tags =
+    first_of (six_fields_fault time row family qualifier ts kind value) (first_of (sized_fault 7 0 4096 tags)
+    (first_of (room_fault batch (tagged_with (cell_of time row family qualifier ts kind value) tags)) (here_fault command)))
+
+-- the fields of a cell, six or seven
+abbrev pub fields_fault : Command → ℕ → Batch → List (List ℕ) → Option Why
+fields_fault command time batch (row ∷ family ∷ qualifier ∷ ts ∷ kind ∷ value ∷ []) = cell_fault command time batch row family qualifier ts kind value
+fields_fault command time batch (row ∷ family ∷ qualifier ∷ ts ∷ kind ∷ value ∷ tags ∷ []) = tagged_fault command time batch row family qualifier ts kind value tags
+fields_fault command time batch _ = misplaced
 
 -- a line where a cell is due
-abbrev pub due_fault : Command → (time body : ℕ) → List (List ℕ) → Option Why
-due_fault command time body (a ∷ row ∷ family ∷ qualifier ∷ ts ∷ kind ∷ value ∷ []) =
-    if is a (codes "cell") then cell_fault command time body row family qualifier ts kind value else undue
-due_fault command time body (a ∷ words) = if is a (codes "cell") then misplaced else undue
-due_fault command time body [] = undue
+abbrev pub due_fault : Command → ℕ → Batch → List (List ℕ) → Option Why
+due_fault command time batch (a ∷ fields) = if is a (codes "cell") then fields_fault command time batch fields else undue
+due_fault command time batch [] = undue
 
 abbrev pub begins_with : List ℕ → List (List ℕ) → Bool
 begins_with name [] = false
@@ -86,6 +107,15 @@ spoken_of (a ∷ h ∷ r ∷ x ∷ y ∷ []) =
     else Some (Calls (number_of h) (Scan (number_of r) (bytes_of x) (bytes_of y)))
 spoken_of _ = None
 
+abbrev pub cell_of_fields : (time : ℕ) → List (List ℕ) → Option Cell
+cell_of_fields time (row ∷ family ∷ qualifier ∷ ts ∷ kind ∷ value ∷ []) = Some (cell_of time row family qualifier ts kind value)
+cell_of_fields time (row ∷ family ∷ qualifier ∷ ts ∷ kind ∷ value ∷ tags ∷ []) = Some (tagged_with (cell_of time row family qualifier ts kind value) tags)
+cell_of_fields time _ = None
+
 abbrev pub cell_in : (time : ℕ) → List (List ℕ) → Option Cell
-cell_in time (a ∷ row ∷ family ∷ qualifier ∷ ts ∷ kind ∷ value ∷ []) = Some (cell_of time row family qualifier ts kind value)
-cell_in time _ = None
+cell_in time (a ∷ fields) = cell_of_fields time fields
+cell_in time [] = None
+
+abbrev pub table_in : List (List ℕ) → List ℕ
+table_in (a ∷ name ∷ words) = bytes_of name
+table_in _ = []

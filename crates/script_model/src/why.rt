@@ -21,6 +21,8 @@ pub enum CellField {
     Timestamp,
     /// None of the five types: `cell-6`.
     Kind,
+    /// More than 4,096 bytes: `cell-7`.
+    Tags,
 }
 
 /// The cause for which a line is refused. It prints as the word in its comment.
@@ -41,12 +43,14 @@ pub enum ScriptWhy {
     Count,
     /// `too-long`: a line of more than 524,288 bytes, or a script of more than 16,777,216.
     TooLong,
-    /// `cell-1` to `cell-6`: a field of a cell is out of its limits.
+    /// `cell-1` to `cell-7`: a field of a cell is out of its limits.
     Cell(CellField),
     /// `not-here`: a right line that the command `log` does not take.
     NotHere,
     /// `entry-length`: with this cell the body of the put's log entry passes 1,048,576 bytes.
     EntryLength,
+    /// `table-length`: a table's name of no bytes or of more than 255.
+    TableLength,
 }
 
 impl ScriptWhy {
@@ -69,8 +73,10 @@ impl ScriptWhy {
             ScriptWhy::Cell(CellField::Value) => "cell-4",
             ScriptWhy::Cell(CellField::Timestamp) => "cell-5",
             ScriptWhy::Cell(CellField::Kind) => "cell-6",
+            ScriptWhy::Cell(CellField::Tags) => "cell-7",
             ScriptWhy::NotHere => "not-here",
             ScriptWhy::EntryLength => "entry-length",
+            ScriptWhy::TableLength => "table-length",
         }
     }
 }

@@ -2,6 +2,7 @@
 use Rattle.std.proofs.Common.{◌≡◌, ◌≢◌, ℕ, zero, suc, ◌-◌, ◌^◌, ◌<◌, ◌≤◌, ◌⊎◌, Bool, true, true≢false, List, [], ◌∷◌, ◌++◌, Contains, Option, Some, None, refl, sym, ap, ◌∙◌, subst, arith, inl, inr}
 use Rattle.std.proofs.lemmas.Bool.{cases_eq}
 use Rattle.std.proofs.lemmas.List.Elements.{Contains-push, Contains-push_cases, Contains-append_cases}
+use Rattle.cell_model.specs.Batch.{Batch}
 use Rattle.cell_model.specs.Cell.{Cell}
 use Rattle.region_model.specs.Journal.{Edit, Done, Caller, last_of, visible}
 use Rattle.region_model.specs.Calls.{Call, Put, Scan, Flush, Roll, Answer, PutOk, PutMemory, PutFault, PutSpent, Scanned, ScanMemory, FlushOk, FlushNothing, FlushBusy, FlushFault, FlushMemory, RollOk, RollNothing, RollFault, RollMemory, Reply, IsAnswerTo}
@@ -53,12 +54,12 @@ same_grows xs ys e = subst (λ l. IsPrefix xs l) (sym e) (prefix_here xs)
 quiet_grows : (old new : Pass) → IsLater old new → IsQuietPass old new → Grows old new
 quiet_grows old new l q = record { later = l; own = λ r. same_grows (old.known r).own (new.known r).own (q r).own; spent = λ r. same_grows (old.known r).spent (new.known r).spent (q r).spent }
 
-put_grows : (name : Naming) (time r : ℕ) (sync : Bool) (cells : List Cell) (caller : Caller) (answer : Answer) (old new : Pass) → Puts name time r sync cells caller answer old new → Grows old new
-put_grows name time r sync cells caller answer old new d = record { later = d.later; own = own; spent = spent }
+put_grows : (name : Naming) (time r : ℕ) (sync : Bool) (batch : Batch) (caller : Caller) (answer : Answer) (old new : Pass) → Puts name time r sync batch caller answer old new → Grows old new
+put_grows name time r sync batch caller answer old new d = record { later = d.later; own = own; spent = spent }
   where
     own : (s : ℕ) → IsPrefix (old.known s).own (new.known s).own
     own s = elim (cases_eq r s) [
-      | inl same ↦ subst (λ s. IsPrefix (old.known s).own (new.known s).own) same (drawn r time cells caller answer (number_of answer), d.own)
+      | inl same ↦ subst (λ s. IsPrefix (old.known s).own (new.known s).own) same (drawn r time batch caller answer (number_of answer), d.own)
       | inr other ↦ same_grows (old.known s).own (new.known s).own (d.elsewhere s (λ e. other (sym e))).own
     ]
 
@@ -69,7 +70,7 @@ put_grows name time r sync cells caller answer old new d = record { later = d.la
     ]
 
 does_grows : (name : Naming) (time : ℕ) (caller : Caller) (call : Call) (answer : Answer) (old new : Pass) → Does name time caller call answer old new → Grows old new
-does_grows name time caller (Put r sync cells) answer old new d = put_grows name time r sync cells caller answer old new d
+does_grows name time caller (Put r sync batch) answer old new d = put_grows name time r sync batch caller answer old new d
 does_grows name time caller (Scan r from to) answer old new d = quiet_grows old new d.later d.own
 does_grows name time caller (Flush r) answer old new d = quiet_grows old new d.later d.own
 does_grows name time caller Roll answer old new d = quiet_grows old new d.later d.own
@@ -171,7 +172,7 @@ pub record Kept (name : Naming) (time : ℕ) (reply : Reply) (p : Pass) : Type 0
   pub busy : (r h c : ℕ) → IsOn r reply.call → reply.answer ≡ FlushBusy h c → (h ≢ reply.handler) × Contains (name.flushes r) (record { handler = h; call = c })
   pub spent : (r n : ℕ) → IsOn r reply.call → reply.answer ≡ PutSpent n → (n ≡ 2 ^ 48 - 1) × Contains (p.known r).spent n
   pub receipts : (r n : ℕ) → IsReceipted r n reply → (n ≤ (p.known r).synced) ⊎ (n ≤ (p.known r).stored)
-  pub durable : (r n : ℕ) (cells : List Cell) → reply.call ≡ Put r true cells → reply.answer ≡ PutOk n → n ≤ (p.known r).synced
+  pub durable : (r n : ℕ) (batch : Batch) → reply.call ≡ Put r true batch → reply.answer ≡ PutOk n → n ≤ (p.known r).synced
   pub fault : IsPutFault reply.answer → p.broken ≡ true
   pub faults : IsFault reply.answer → p.broken ≡ true
   pub answers : IsAnswerTo reply.call reply.answer
@@ -186,7 +187,7 @@ kept_later name time reply p q g k = record {
   busy = k.busy;
   spent = λ r n on is. let h = k.spent r n on is in (h.0, prefix_contains (p.known r).spent (q.known r).spent n (g.spent r) h.1);
   receipts = λ r n is. elim (k.receipts r n is) [ inl s ↦ inl (omega (arith, s, (g.later.known r).synced)) | inr s ↦ inr (omega (arith, s, (g.later.known r).stored)) ];
-  durable = λ r n cells c a. omega (arith, k.durable r n cells c a, (g.later.known r).synced);
+  durable = λ r n batch c a. omega (arith, k.durable r n batch c a, (g.later.known r).synced);
   fault = λ f. g.later.broken (k.fault f);
   faults = λ f. g.later.broken (k.faults f);
   answers = k.answers;
@@ -202,30 +203,30 @@ only : (y x : Reply) → Contains (y ∷ []) x → y ≡ x
 only y x (zero, lt, e) = e
 only y x (suc k, lt, e) = absurd (omega (arith, lt))
 
-told_by_put : (name : Naming) (time r : ℕ) (sync : Bool) (cells : List Cell) (h c : ℕ) (answer : Answer) (old new : Pass)
-    → Puts name time r sync cells (record { handler = h; call = c }) answer old new → (s : ℕ) (e : Edit) → Contains (new.known s).own e
-    → Contains (old.known s).own e ⊎ (IsEditOf (reply_of h c (Put r sync cells) answer) e × (e.entry.region ≡ s) × (e.entry.time ≡ time))
-told_by_put name time r sync cells h c answer old new d s e is = elim (cases_eq r s) [
-  | inl same ↦ subst (λ s. Contains (new.known s).own e → Contains (old.known s).own e ⊎ (IsEditOf (reply_of h c (Put r sync cells) answer) e × (e.entry.region ≡ s) × (e.entry.time ≡ time))) same (here (number_of answer) refl) is
+told_by_put : (name : Naming) (time r : ℕ) (sync : Bool) (batch : Batch) (h c : ℕ) (answer : Answer) (old new : Pass)
+    → Puts name time r sync batch (record { handler = h; call = c }) answer old new → (s : ℕ) (e : Edit) → Contains (new.known s).own e
+    → Contains (old.known s).own e ⊎ (IsEditOf (reply_of h c (Put r sync batch) answer) e × (e.entry.region ≡ s) × (e.entry.time ≡ time))
+told_by_put name time r sync batch h c answer old new d s e is = elim (cases_eq r s) [
+  | inl same ↦ subst (λ s. Contains (new.known s).own e → Contains (old.known s).own e ⊎ (IsEditOf (reply_of h c (Put r sync batch) answer) e × (e.entry.region ≡ s) × (e.entry.time ≡ time))) same (here (number_of answer) refl) is
   | inr other ↦ inl (subst (λ l. Contains l e) (d.elsewhere s (λ e. other (sym e))).own is)
 ]
   where
-    here : (o : Option ℕ) → number_of answer ≡ o → Contains (new.known r).own e → Contains (old.known r).own e ⊎ (IsEditOf (reply_of h c (Put r sync cells) answer) e × (e.entry.region ≡ r) × (e.entry.time ≡ time))
+    here : (o : Option ℕ) → number_of answer ≡ o → Contains (new.known r).own e → Contains (old.known r).own e ⊎ (IsEditOf (reply_of h c (Put r sync batch) answer) e × (e.entry.region ≡ r) × (e.entry.time ≡ time))
     here None number is' =
-        let whole : (new.known r).own ≡ (old.known r).own ++ [] = d.own ∙ ap (λ (o : Option ℕ). (old.known r).own ++ drawn r time cells (caller_of h c) answer o) number in
+        let whole : (new.known r).own ≡ (old.known r).own ++ [] = d.own ∙ ap (λ (o : Option ℕ). (old.known r).own ++ drawn r time batch (caller_of h c) answer o) number in
         elim (Contains-append_cases (old.known r).own [] e (subst (λ l. Contains l e) whole is')) [ inl before ↦ inl before | inr none ↦ absurd (omega (arith, none.1)) ]
     here (Some n) number is' =
-        let whole : (new.known r).own ≡ (old.known r).own ++ edit_of r n time cells (caller_of h c) (outcome_of answer) ∷ [] = d.own ∙ ap (λ (o : Option ℕ). (old.known r).own ++ drawn r time cells (caller_of h c) answer o) number in
-        elim (Contains-push_cases (old.known r).own (edit_of r n time cells (caller_of h c) (outcome_of answer)) e (subst (λ l. Contains l e) whole is')) [
+        let whole : (new.known r).own ≡ (old.known r).own ++ edit_of r n time batch (caller_of h c) (outcome_of answer) ∷ [] = d.own ∙ ap (λ (o : Option ℕ). (old.known r).own ++ drawn r time batch (caller_of h c) answer o) number in
+        elim (Contains-push_cases (old.known r).own (edit_of r n time batch (caller_of h c) (outcome_of answer)) e (subst (λ l. Contains l e) whole is')) [
           | inl before ↦ inl before
-          | inr it ↦ inr (subst (λ e. IsEditOf (reply_of h c (Put r sync cells) answer) e × (e.entry.region ≡ r) × (e.entry.time ≡ time)) it
+          | inr it ↦ inr (subst (λ e. IsEditOf (reply_of h c (Put r sync batch) answer) e × (e.entry.region ≡ r) × (e.entry.time ≡ time)) it
               (record { handler = refl; call = refl; sync = sync; put = refl; number = number; outcome = refl }, refl, refl))
         ]
 
 told_by : (name : Naming) (time h c : ℕ) (call : Call) (answer : Answer) (old new : Pass)
     → Does name time (record { handler = h; call = c }) call answer old new → (s : ℕ) (e : Edit) → Contains (new.known s).own e
     → Contains (old.known s).own e ⊎ (IsEditOf (reply_of h c call answer) e × (e.entry.region ≡ s) × (e.entry.time ≡ time))
-told_by name time h c (Put r sync cells) answer old new d s e is = told_by_put name time r sync cells h c answer old new d s e is
+told_by name time h c (Put r sync batch) answer old new d s e is = told_by_put name time r sync batch h c answer old new d s e is
 told_by name time h c (Scan r from to) answer old new d s e is = inl (subst (λ l. Contains l e) (d.own s).own is)
 told_by name time h c (Flush r) answer old new d s e is = inl (subst (λ l. Contains l e) (d.own s).own is)
 told_by name time h c Roll answer old new d s e is = inl (subst (λ l. Contains l e) (d.own s).own is)
@@ -234,39 +235,39 @@ step_told : (name : Naming) (time : ℕ) (old new : Pass) (reply : Reply) → St
     → Contains (old.known r).own e ⊎ (IsEditOf reply e × (e.entry.region ≡ r) × (e.entry.time ≡ time))
 step_told name time old new reply s r e is = told_by name time reply.handler reply.number reply.call reply.answer old new s.does r e is
 
-kept_put : (name : Naming) (time r : ℕ) (sync : Bool) (cells : List Cell) (h c : ℕ) (answer : Answer) (old new : Pass) → h ≡ new.handler
-    → Puts name time r sync cells (record { handler = h; call = c }) answer old new → Kept name time (reply_of h c (Put r sync cells) answer) new
-kept_put name time r sync cells h c answer old new same d = record {
+kept_put : (name : Naming) (time r : ℕ) (sync : Bool) (batch : Batch) (h c : ℕ) (answer : Answer) (old new : Pass) → h ≡ new.handler
+    → Puts name time r sync batch (record { handler = h; call = c }) answer old new → Kept name time (reply_of h c (Put r sync batch) answer) new
+kept_put name time r sync batch h c answer old new same d = record {
   handler = same;
-  scans = λ s q from to cells' is a. absurd cc;
-  puts = λ s n on is. subst (λ s. (e : Edit) × Contains (new.known s).own e × (e.entry.number ≡ n) × IsEditOf (reply_of h c (Put r sync cells) answer) e) on
-      (edit_of r n time cells (caller_of h c) (outcome_of answer), held n is, refl, record { handler = refl; call = refl; sync = sync; put = refl; number = is; outcome = refl });
+  scans = λ s q from to cells is a. absurd cc;
+  puts = λ s n on is. subst (λ s. (e : Edit) × Contains (new.known s).own e × (e.entry.number ≡ n) × IsEditOf (reply_of h c (Put r sync batch) answer) e) on
+      (edit_of r n time batch (caller_of h c) (outcome_of answer), held n is, refl, record { handler = refl; call = refl; sync = sync; put = refl; number = is; outcome = refl });
   places = λ s q on is. subst (λ s. q ≤ last_of (name.bases s).last (new.known s).shown) on (d.seen q (place_put answer q d.answered is));
   flushes = λ s n on is. absurd (flushed_put answer n d.answered is);
   busy = λ s g b on is. absurd (true≢false (sym (subst IsPutAnswer is d.answered)));
   spent = λ s n on is. (d.limit n is, subst (λ s. Contains (new.known s).spent n) on (told n is));
   receipts = λ s n is. elim is [
-    | Put_ok cells' call ans ↦ inl (here s n call (ap number_of ans) (ap outcome_of ans))
-    | Put_memory cells' call ans ↦ inl (here s n call (ap number_of ans) (ap outcome_of ans))
+    | Put_ok batch' call ans ↦ inl (here s n call (ap number_of ans) (ap outcome_of ans))
+    | Put_memory batch' call ans ↦ inl (here s n call (ap number_of ans) (ap outcome_of ans))
     | Flushed call ans ↦ absurd cc
   ];
-  durable = λ s n cells' call ans. here s n call (ap number_of ans) (ap outcome_of ans);
+  durable = λ s n batch' call ans. here s n call (ap number_of ans) (ap outcome_of ans);
   fault = d.fault;
   faults = λ f. d.fault (fault_put answer d.answered f);
   answers = d.answered;
 }
   where
-    held : (n : ℕ) → number_of answer ≡ Some n → Contains (new.known r).own (edit_of r n time cells (caller_of h c) (outcome_of answer))
+    held : (n : ℕ) → number_of answer ≡ Some n → Contains (new.known r).own (edit_of r n time batch (caller_of h c) (outcome_of answer))
     held n is =
-        let whole : (new.known r).own ≡ (old.known r).own ++ edit_of r n time cells (caller_of h c) (outcome_of answer) ∷ [] = d.own ∙ ap (λ (o : Option ℕ). (old.known r).own ++ drawn r time cells (caller_of h c) answer o) is in
-        subst (λ l. Contains l (edit_of r n time cells (caller_of h c) (outcome_of answer))) (sym whole) (Contains-push (old.known r).own (edit_of r n time cells (caller_of h c) (outcome_of answer)))
+        let whole : (new.known r).own ≡ (old.known r).own ++ edit_of r n time batch (caller_of h c) (outcome_of answer) ∷ [] = d.own ∙ ap (λ (o : Option ℕ). (old.known r).own ++ drawn r time batch (caller_of h c) answer o) is in
+        subst (λ l. Contains l (edit_of r n time batch (caller_of h c) (outcome_of answer))) (sym whole) (Contains-push (old.known r).own (edit_of r n time batch (caller_of h c) (outcome_of answer)))
 
     told : (n : ℕ) → answer ≡ PutSpent n → Contains (new.known r).spent n
     told n is =
         let whole : (new.known r).spent ≡ (old.known r).spent ++ n ∷ [] = d.spent ∙ ap (λ (a : Answer). (old.known r).spent ++ told_last a) is in
         subst (λ l. Contains l n) (sym whole) (Contains-push (old.known r).spent n)
 
-    here : (s n : ℕ) {cells' : List Cell} → Put r sync cells ≡ Put s true cells' → number_of answer ≡ Some n → outcome_of answer ≡ Done → n ≤ (new.known s).synced
+    here : (s n : ℕ) {batch' : Batch} → Put r sync batch ≡ Put s true batch' → number_of answer ≡ Some n → outcome_of answer ≡ Done → n ≤ (new.known s).synced
     here s n call is done =
         let on : r ≡ s = cc in let is_sync : sync ≡ true = cc in
         subst (λ s. n ≤ (new.known s).synced) on (d.synced n is_sync is done)
@@ -286,8 +287,8 @@ kept_scan name time r from to h c answer old new same d = record {
   flushes = λ s n on is. absurd (flushed_scan answer n d.answered is);
   busy = λ s g b on is. absurd (true≢false (sym (subst IsScanAnswer is d.answered)));
   spent = λ s n on is. absurd (true≢false (sym (subst IsScanAnswer is d.answered)));
-  receipts = λ s n is. elim is [ Put_ok cells' call ans ↦ absurd cc | Put_memory cells' call ans ↦ absurd cc | Flushed call ans ↦ absurd cc ];
-  durable = λ s n cells' call ans. absurd cc;
+  receipts = λ s n is. elim is [ Put_ok batch' call ans ↦ absurd cc | Put_memory batch' call ans ↦ absurd cc | Flushed call ans ↦ absurd cc ];
+  durable = λ s n batch' call ans. absurd cc;
   fault = λ f. absurd (no_fault answer d.answered f);
   faults = λ f. absurd (fault_scan answer d.answered f);
   answers = d.answered;
@@ -311,11 +312,11 @@ kept_flush name time r h c answer old new same d = record {
   busy = λ s g b on is. subst (λ s. (g ≢ h) × Contains (name.flushes s) (record { handler = g; call = b })) on (d.busy g b is);
   spent = λ s n on is. absurd (true≢false (sym (subst IsFlushAnswer is d.answered)));
   receipts = λ s n is. elim is [
-    | Put_ok cells' call ans ↦ absurd cc
-    | Put_memory cells' call ans ↦ absurd cc
+    | Put_ok batch' call ans ↦ absurd cc
+    | Put_memory batch' call ans ↦ absurd cc
     | Flushed call ans ↦ let on : r ≡ s = cc in inr (subst (λ s. n ≤ (new.known s).stored) on (d.stored n (ap flushed_of ans)))
   ];
-  durable = λ s n cells' call ans. absurd cc;
+  durable = λ s n batch' call ans. absurd cc;
   fault = λ f. absurd (no_fault answer d.answered f);
   faults = λ f. d.fault (fault_flush answer d.answered f);
   answers = d.answered;
@@ -338,8 +339,8 @@ kept_roll name time h c answer old new same d = record {
   flushes = λ s n on is. absurd on;
   busy = λ s g b on is. absurd on;
   spent = λ s n on is. absurd on;
-  receipts = λ s n is. elim is [ Put_ok cells' call ans ↦ absurd cc | Put_memory cells' call ans ↦ absurd cc | Flushed call ans ↦ absurd cc ];
-  durable = λ s n cells' call ans. absurd cc;
+  receipts = λ s n is. elim is [ Put_ok batch' call ans ↦ absurd cc | Put_memory batch' call ans ↦ absurd cc | Flushed call ans ↦ absurd cc ];
+  durable = λ s n batch' call ans. absurd cc;
   fault = λ f. absurd (no_fault answer d.answered f);
   faults = λ f. d.fault (fault_roll answer d.answered f);
   answers = d.answered;
@@ -351,7 +352,7 @@ kept_roll name time h c answer old new same d = record {
 
 kept_does : (name : Naming) (time h c : ℕ) (call : Call) (answer : Answer) (old new : Pass) → h ≡ new.handler
     → Does name time (record { handler = h; call = c }) call answer old new → Kept name time (reply_of h c call answer) new
-kept_does name time h c (Put r sync cells) answer old new same d = kept_put name time r sync cells h c answer old new same d
+kept_does name time h c (Put r sync batch) answer old new same d = kept_put name time r sync batch h c answer old new same d
 kept_does name time h c (Scan r from to) answer old new same d = kept_scan name time r from to h c answer old new same d
 kept_does name time h c (Flush r) answer old new same d = kept_flush name time r h c answer old new same d
 kept_does name time h c Roll answer old new same d = kept_roll name time h c answer old new same d
@@ -392,7 +393,7 @@ pub record Above (name : Naming) (old : Pass) (x : Reply) (last : Pass) : Type 0
 
 above_does : (name : Naming) (time h c : ℕ) (call : Call) (answer : Answer) (old new : Pass)
     → Does name time (record { handler = h; call = c }) call answer old new → Above name old (reply_of h c call answer) new
-above_does name time h c (Put r sync cells) answer old new d = record {
+above_does name time h c (Put r sync batch) answer old new d = record {
   place = λ s q on is. subst (λ s. last_of (name.bases s).last (old.known s).shown ≤ q) on (let lt : last_of (name.bases r).last (old.known r).shown < q = d.above q (ap number_of (place_put answer q d.answered is)) in omega (arith, lt));
   put = λ s q on is. subst (λ s. last_of (name.bases s).last (old.known s).shown < q) on (d.above q (ap number_of is));
   flush = λ s q on is. absurd (flushed_put answer q d.answered is);
@@ -448,7 +449,7 @@ runs_above name time old new (reply ∷ replies) (mid, s, more) x is = elim (Con
 pub record InTurn (r : ℕ) (last : Pass) (a b : Reply) : Type 0 where
   pub places : KeepsPlaces r a b
   pub faults : StopsAtFault a b
-  pub rolls : (n : ℕ) (cells : List Cell) → a.call ≡ Put r true cells → a.answer ≡ PutOk n → b.call ≡ Roll → IsRolled b.answer → n ≤ (last.known r).closed
+  pub rolls : (n : ℕ) (batch : Batch) → a.call ≡ Put r true batch → a.answer ≡ PutOk n → b.call ≡ Roll → IsRolled b.answer → n ≤ (last.known r).closed
 
 pub runs_order : (name : Naming) (time : ℕ) (old new : Pass) (replies : List Reply) (r : ℕ) → Runs name time old replies new → Pairs (InTurn r new) replies
 runs_order name time old new [] r e = tt
@@ -465,5 +466,5 @@ runs_order name time old new (reply ∷ replies) r (mid, s, more) = (both, runs_
             (λ e. omega (arith, k.places r p on place, a.flush r q on' e)),
           );
           faults = λ same f. a.stops (k.fault f);
-          rolls = λ n cells call ans roll is. omega (arith, k.durable r n cells call ans, a.roll r roll is);
+          rolls = λ n batch call ans roll is. omega (arith, k.durable r n batch call ans, a.roll r roll is);
         }

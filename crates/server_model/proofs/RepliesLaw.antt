@@ -1,7 +1,7 @@
 -- What close hands on makes the replies lawful, and keeps receipts, flushes and rolls in each image.
 use Rattle.std.proofs.Common.{◌≡◌, ℕ, zero, suc, ◌<◌, ◌≤◌, ◌⊎◌, Bool, true, false, List, [], ◌∷◌, ◌++◌, Contains, AllPairs, Some, refl, sym, ap, ◌∙◌, subst, arith, inl, inr}
 use Rattle.std.proofs.lemmas.List.Elements.{All-from_recursion, All-contains, Contains-append_cases, Contains-append_left, Contains-append_right}
-use Rattle.cell_model.specs.Cell.{Cell}
+use Rattle.cell_model.specs.Batch.{Batch}
 use Rattle.cell_model.specs.Order.{VersionKey, Payload}
 use Rattle.log_model.specs.declared.name.Name.{Name}
 use Rattle.log_model.specs.Entry.{Entry}
@@ -166,13 +166,13 @@ flush_was_done name time r hs x disk broken a closed s reply n is call number J 
 -- Behind a roll the log file of the greatest number has none of the entries that were durable before.
 pub roll_was_done : (name : Naming) (time r : ℕ) (hs : List Handled) (x : Region) (disk : DiskView) (broken : Bool) → AllRun name time hs → IsClosedRegion name r (passes_of hs) x → Survives disk broken r x
     → (h : Handled) → Contains hs h → (front mid back : List Reply) (put roll : Reply) → h.replies ≡ front ++ put ∷ (mid ++ roll ∷ back)
-    → (n : ℕ) (cells : List Cell) → put.call ≡ Put r true cells → put.answer ≡ PutOk n → roll.call ≡ Roll → IsRolled roll.answer
+    → (n : ℕ) (batch : Batch) → put.call ≡ Put r true batch → put.answer ≡ PutOk n → roll.call ≡ Roll → IsRolled roll.answer
     → (J : Files) (log : Name) (entries : List Entry) (e : Entry) → IsImageNow disk J → IsLastLog J log → IsLogFile J log entries → Contains entries e → e.region ≡ r → n < e.number
-roll_was_done name time r hs x disk broken a closed s h is front mid back put roll split n cells call ans rolls rolled J log entries e image greatest file member on =
+roll_was_done name time r hs x disk broken a closed s h is front mid back put roll split n batch call ans rolls rolled J log entries e image greatest file member on =
     let run = run_of name time hs h a is in
     let pairs = runs_order name time run.0 h.pass h.replies r run.2 in
     let o = at front (subst (Pairs (InTurn r h.pass)) split pairs) in
-    omega (arith, o.rolls n cells call ans rolls rolled, closed.closed_seen h.pass (has_pass hs h is), s.closed J log entries e image greatest file member on)
+    omega (arith, o.rolls n batch call ans rolls rolled, closed.closed_seen h.pass (has_pass hs h is), s.closed J log entries e image greatest file member on)
   where
     at : (front : List Reply) → Pairs (InTurn r h.pass) (front ++ put ∷ (mid ++ roll ∷ back)) → InTurn r h.pass put roll
     at [] p = p.0 roll (Contains-append_right mid (roll ∷ back) roll (0, omega arith, refl))
@@ -182,7 +182,7 @@ roll_was_done name time r hs x disk broken a closed s h is front mid back put ro
 
 -- of a durable put and a later roll of its handler: the pass has seen a closed word at or above the put's number
 abbrev pub RollCovers : List Handled → Reply → Reply → Type 0
-RollCovers hs a b = (r n : ℕ) (cells : List Cell) → a.handler ≡ b.handler → a.call ≡ Put r true cells → a.answer ≡ PutOk n → b.call ≡ Roll → IsRolled b.answer
+RollCovers hs a b = (r n : ℕ) (batch : Batch) → a.handler ≡ b.handler → a.call ≡ Put r true batch → a.answer ≡ PutOk n → b.call ≡ Roll → IsRolled b.answer
     → (h : Handled) × Contains hs h × (n ≤ (h.pass.known r).closed)
 
 pairs_each : (R : ℕ → Reply → Reply → Type 0) (xs : List Reply) → ((r : ℕ) → Pairs (R r) xs) → Pairs (λ a b. (r : ℕ) → R r a b) xs
@@ -195,11 +195,11 @@ rolls_cover name time all (h ∷ hs) sub a =
     pairs_append (RollCovers all) h.replies (replies_of hs)
     (weaker h.replies (pairs_each (λ r. InTurn r h.pass) h.replies (λ r. runs_order name time a.each.0.0 h.pass h.replies r a.each.0.2)))
     (rolls_cover name time all hs (λ g is. sub g (contains_cons h hs g is)) (record { each = a.each.1; apart = a.apart.1 }))
-    (λ x y is it r n cells same. absurd (other x y is it same))
+    (λ x y is it r n batch same. absurd (other x y is it same))
   where
     weaker : (xs : List Reply) → Pairs (λ a b. (r : ℕ) → InTurn r h.pass a b) xs → Pairs (RollCovers all) xs
     weaker [] p = tt
-    weaker (x ∷ xs) p = ((λ y is r n cells same put ok roll rolled. (h, sub h (0, omega arith, refl), (p.0 y is r).rolls n cells put ok roll rolled)), weaker xs p.1)
+    weaker (x ∷ xs) p = ((λ y is r n batch same put ok roll rolled. (h, sub h (0, omega arith, refl), (p.0 y is r).rolls n batch put ok roll rolled)), weaker xs p.1)
 
     other : (x y : Reply) → Contains h.replies x → Contains (replies_of hs) y → x.handler ≡ y.handler → ⊥
     other x y is it same =

@@ -1,9 +1,10 @@
 -- A worked example: five synced puts of one handler, of which the fourth meets the fault that ends the log, and a scan.
-use Rattle.std.proofs.Common.{◌≡◌, ◌≢◌, ℕ, ◌+◌, ◌-◌, ◌<◌, ◌≤◌, ◌==◌, Bool, true, false, cond, List, [], ◌∷◌, ◌++◌, length, map, filter, Contains, AllPairs, inr, Some, None, refl, sym, ap, ◌∙◌, arith, length-append}
+use Rattle.std.proofs.Common.{◌≡◌, ◌≢◌, ℕ, ◌+◌, ◌-◌, ◌<◌, ◌≤◌, ◌==◌, Bool, true, false, cond, List, [], ◌∷◌, ◌++◌, length, map, filter, Contains, AllPairs, inr, Some, None, refl, sym, ap, subst, ◌∙◌, arith, length-append}
 use Rattle.std.specs.List.{AllByRecursion}
 use Rattle.std.specs.FinMap.{empty, entries, get, get-empty}
 use Rattle.std.proofs.lemmas.Bool.{ne_eqb}
-use Rattle.std.proofs.lemmas.List.Elements.{All-from_recursion, All-contains}
+use Rattle.std.proofs.lemmas.List.Elements.{All-from_recursion, All-contains, Contains-append_right}
+use Rattle.cell_model.specs.Batch.{Batch, batch_of}
 use Rattle.cell_model.specs.Cell.{Cell}
 use Rattle.cell_model.specs.Order.{Content, cell_of, NumberedCell, VersionKey, Payload, put_cells, version_cmp}
 use Rattle.cell_model.proofs.OrderLaws.{put_in, entries-empty, entries-put_cells}
@@ -21,10 +22,13 @@ abbrev naming : Naming
 naming = record { regions = 1; handlers = 1; bases = λ r. record { content = empty; last = 0 }; flushes = λ r. [] }
 
 abbrev cells : ℕ → List Cell
-cells n = record { row = 114 ∷ []; family = 102 ∷ []; qualifier = 113 ∷ []; ts = n; kind = 4; value = 118 ∷ [] } ∷ []
+cells n = record { row = 114 ∷ []; family = 102 ∷ []; qualifier = 113 ∷ []; ts = n; kind = 4; value = 118 ∷ []; tags = [] } ∷ []
+
+abbrev batch : ℕ → Batch
+batch n = batch_of (cells n)
 
 abbrev edit : ℕ → Outcome → Edit
-edit n outcome = edit_of 1 n 1000 (cells n) (record { handler = 1; call = n }) outcome
+edit n outcome = edit_of 1 n 1000 (batch n) (record { handler = 1; call = n }) outcome
 
 abbrev ones : List Edit
 ones = edit 1 Done ∷ []
@@ -79,7 +83,7 @@ reply n call answer = record { handler = 1; number = n; call = call; answer = an
 
 -- a put that is shown and durable at once
 puts_ok : (n calls : ℕ) (before : List Edit) → length before + 1 ≡ n → calls ≤ n → ((x : Edit) → Contains before x → x.entry.number < n)
-    → Step naming 1000 (pass calls (known before before (n - 1)) false) (reply n (Put 1 true (cells n)) (PutOk n)) (pass n (known (before ++ edit n Done ∷ []) (before ++ edit n Done ∷ []) n) false)
+    → Step naming 1000 (pass calls (known before before (n - 1)) false) (reply n (Put 1 true (batch n)) (PutOk n)) (pass n (known (before ++ edit n Done ∷ []) (before ++ edit n Done ∷ []) n) false)
 puts_ok n calls before len le lower = record {
   handler = refl;
   does = record {
@@ -91,6 +95,8 @@ puts_ok n calls before len le lower = record {
     above = λ k is. let same : n ≡ k = cc in omega (arith, len, same);
     above_own = λ k x is member. let same : n ≡ k = cc in omega (arith, same, lower x member);
     seen = λ k is. let same : n ≡ k = cc in omega (arith, same, len, length-append before (edit n Done ∷ []));
+    place = λ k is. let same : n ≡ k = cc in
+        subst (λ j. Contains (before ++ edit n Done ∷ []) (edit_of 1 j 1000 (batch n) (record { handler = 1; call = n }) Done)) same (Contains-append_right before (edit n Done ∷ []) (edit n Done) (0, omega arith, refl));
     synced = λ k sync is done. let same : n ≡ k = cc in omega (arith, same);
     fault = λ f. absurd f;
     stops = λ b. absurd cc;
@@ -116,7 +122,7 @@ abbrev after_6 : Pass
 after_6 = pass 5 (known fours fours 3) true
 
 -- the put in work when the fault came has a number, and its edit is Failed
-puts_fault : Step naming 1000 after_3 (reply 4 (Put 1 true (cells 4)) (PutFault (Some 4))) after_4
+puts_fault : Step naming 1000 after_3 (reply 4 (Put 1 true (batch 4)) (PutFault (Some 4))) after_4
 puts_fault = record {
   handler = refl;
   does = record {
@@ -128,6 +134,7 @@ puts_fault = record {
     above = λ k is. let same : 4 ≡ k = cc in omega (arith, same);
     above_own = λ k x is member. let same : 4 ≡ k = cc in omega (arith, same, lower_than 4 threes (omega arith, (omega arith, (omega arith, tt))) x member);
     seen = λ k is. absurd cc;
+    place = λ k is. absurd cc;
     synced = λ k sync is done. absurd cc;
     fault = λ f. refl;
     stops = λ b. absurd cc;
@@ -138,7 +145,7 @@ puts_fault = record {
 }
 
 -- later puts have none
-puts_none : Step naming 1000 after_4 (reply 5 (Put 1 true (cells 5)) (PutFault None)) after_5
+puts_none : Step naming 1000 after_4 (reply 5 (Put 1 true (batch 5)) (PutFault None)) after_5
 puts_none = record {
   handler = refl;
   does = record {
@@ -150,6 +157,7 @@ puts_none = record {
     above = λ k is. absurd cc;
     above_own = λ k x is member. absurd cc;
     seen = λ k is. absurd cc;
+    place = λ k is. absurd cc;
     synced = λ k sync is done. absurd cc;
     fault = λ f. refl;
     stops = λ b. refl;
@@ -161,14 +169,14 @@ puts_none = record {
 
 abbrev put_all : List Edit → List (VersionKey × Payload) → List (VersionKey × Payload)
 put_all [] es = es
-put_all (e ∷ edits) es = put_all edits (put_in es e.entry.number e.entry.cells)
+put_all (e ∷ edits) es = put_all edits (put_in es e.entry.number e.entry.batch.cells)
 
 entries-put_edits : (edits : List Edit) (m : Content) → entries (put_edits m edits) ≡ put_all edits (entries m)
 entries-put_edits [] m = refl
-entries-put_edits (e ∷ edits) m = entries-put_edits edits (put_cells m e.entry.number e.entry.cells) ∙ ap (put_all edits) (entries-put_cells m e.entry.number e.entry.cells)
+entries-put_edits (e ∷ edits) m = entries-put_edits edits (put_cells m e.entry.number e.entry.batch.cells) ∙ ap (put_all edits) (entries-put_cells m e.entry.number e.entry.batch.cells)
 
 abbrev cell_at : ℕ → NumberedCell
-cell_at n = (n, record { row = 114 ∷ []; family = 102 ∷ []; qualifier = 113 ∷ []; ts = n; kind = 4; value = 118 ∷ [] })
+cell_at n = (n, record { row = 114 ∷ []; family = 102 ∷ []; qualifier = 113 ∷ []; ts = n; kind = 4; value = 118 ∷ []; tags = [] })
 
 abbrev seen_cells : List NumberedCell
 seen_cells = cell_at 3 ∷ cell_at 2 ∷ cell_at 1 ∷ []
@@ -191,8 +199,8 @@ scans = record {
 
 abbrev replies : List Reply
 replies =
-    reply 1 (Put 1 true (cells 1)) (PutOk 1) ∷ reply 2 (Put 1 true (cells 2)) (PutOk 2) ∷ reply 3 (Put 1 true (cells 3)) (PutOk 3)
-    ∷ reply 4 (Put 1 true (cells 4)) (PutFault (Some 4)) ∷ reply 5 (Put 1 true (cells 5)) (PutFault None) ∷ reply 6 (Scan 1 [] []) (Scanned 4 seen_cells) ∷ []
+    reply 1 (Put 1 true (batch 1)) (PutOk 1) ∷ reply 2 (Put 1 true (batch 2)) (PutOk 2) ∷ reply 3 (Put 1 true (batch 3)) (PutOk 3)
+    ∷ reply 4 (Put 1 true (batch 4)) (PutFault (Some 4)) ∷ reply 5 (Put 1 true (batch 5)) (PutFault None) ∷ reply 6 (Scan 1 [] []) (Scanned 4 seen_cells) ∷ []
 
 runs : Runs naming 1000 (pass 0 (known [] [] 0) false) replies after_6
 runs = (
@@ -257,7 +265,7 @@ closed = record {
       ),
     );
     regions = one_edit (λ e. e.entry.region ≡ 1) refl refl refl refl;
-    given = one_edit (λ e. 1 ≤ length e.entry.cells) (omega arith) (omega arith) (omega arith) (omega arith);
+    given = one_edit (λ e. 1 ≤ length e.entry.batch.cells) (omega arith) (omega arith) (omega arith) (omega arith);
     upto = λ v p is. absurd (nothing v p is);
   };
   limit = omega arith;

@@ -1,18 +1,19 @@
 -- What each call does to what its pass knows, by its answer.
 use Rattle.std.specs.Prelude.{◌≡◌, ◌≢◌, ℕ, ◌-◌, ◌^◌, ◌<◌, ◌≤◌, Bool, true, IsTrue, List, [], ◌∷◌, ◌++◌, Contains, Option, Some, None}
+use Rattle.cell_model.specs.Batch.{Batch}
 use Rattle.cell_model.specs.Cell.{Cell}
-use Rattle.region_model.specs.Journal.{Edit, Outcome, Caller, last_of, visible}
+use Rattle.region_model.specs.Journal.{Edit, Outcome, Done, Caller, last_of, visible}
 use Rattle.region_model.specs.Calls.{Call, Put, Scan, Flush, Roll, Answer, PutOk, PutFault, PutSpent, Scanned, FlushOk, FlushNothing, FlushBusy, FlushFault, RollOk, RollNothing, RollFault, Reply, is_put, is_scan, is_flush, is_roll}
 use Rattle.region_model.specs.Lawful.{number_of, outcome_of, flushed_of, IsPutFault}
 use Rattle.server_model.specs.Pass.{Known, Pass, Naming, IsLater, IsQuiet}
 
 -- the edit of a put that drew this number
-abbrev pub edit_of : (r n time : ℕ) → List Cell → Caller → Outcome → Edit
-edit_of r n time cells caller outcome = record { entry = record { region = r; number = n; time = time; cells = cells }; caller = caller; outcome = outcome }
+abbrev pub edit_of : (r n time : ℕ) → Batch → Caller → Outcome → Edit
+edit_of r n time batch caller outcome = record { entry = record { region = r; number = n; time = time; batch = batch }; caller = caller; outcome = outcome }
 
-abbrev pub drawn : (r time : ℕ) → List Cell → Caller → Answer → Option ℕ → List Edit
-drawn r time cells caller answer None = []
-drawn r time cells caller answer (Some n) = edit_of r n time cells caller (outcome_of answer) ∷ []
+abbrev pub drawn : (r time : ℕ) → Batch → Caller → Answer → Option ℕ → List Edit
+drawn r time batch caller answer None = []
+drawn r time batch caller answer (Some n) = edit_of r n time batch caller (outcome_of answer) ∷ []
 
 abbrev pub told_last : Answer → List ℕ
 told_last (PutSpent last) = last ∷ []
@@ -45,18 +46,19 @@ IsFault _ = ⊥
 abbrev pub IsQuietPass : Pass → Pass → Type 0
 IsQuietPass old new = (r : ℕ) → IsQuiet (old.known r) (new.known r)
 
--- A put of these cells into r. Its own list grows by one edit exactly where a number was drawn.
-pub record Puts (name : Naming) (time r : ℕ) (sync : Bool) (cells : List Cell) (caller : Caller) (answer : Answer) (old new : Pass) : Type 0 where
+-- A put of this batch into r. Its own list grows by one edit exactly where a number was drawn.
+pub record Puts (name : Naming) (time r : ℕ) (sync : Bool) (batch : Batch) (caller : Caller) (answer : Answer) (old new : Pass) : Type 0 where
   pub answered : IsPutAnswer answer
   pub later : IsLater old new
-  pub own : (new.known r).own ≡ (old.known r).own ++ drawn r time cells caller answer (number_of answer)
+  pub own : (new.known r).own ≡ (old.known r).own ++ drawn r time batch caller answer (number_of answer)
   pub spent : (new.known r).spent ≡ (old.known r).spent ++ told_last answer
   pub elsewhere : (s : ℕ) → s ≢ r → IsQuiet (old.known s) (new.known s)
   -- the number is above all that the pass had seen, shown or its own
   pub above : (n : ℕ) → number_of answer ≡ Some n → last_of (name.bases r).last (old.known r).shown < n
   pub above_own : (n : ℕ) (e : Edit) → number_of answer ≡ Some n → Contains (old.known r).own e → e.entry.number < n
-  -- a put that answered ok is shown, and durable where that was asked for
+  -- a put that answered ok is shown: the shown list has its own edit; and it is durable where that was asked for
   pub seen : (n : ℕ) → answer ≡ PutOk n → n ≤ last_of (name.bases r).last (new.known r).shown
+  pub place : (n : ℕ) → answer ≡ PutOk n → Contains (new.known r).shown (edit_of r n time batch caller Done)
   pub synced : (n : ℕ) → sync ≡ true → number_of answer ≡ Some n → outcome_of answer ≡ outcome_of (PutOk n) → n ≤ (new.known r).synced
   -- a fault was seen before it is told, and no number is drawn once it was seen
   pub fault : IsPutFault answer → new.broken ≡ true
@@ -109,7 +111,7 @@ pub record Rolls (answer : Answer) (old new : Pass) : Type 0 where
   pub used : new.calls ≡ old.calls
 
 abbrev pub Does : Naming → ℕ → Caller → Call → Answer → Pass → Pass → Type 0
-Does name time caller (Put r sync cells) answer old new = Puts name time r sync cells caller answer old new
+Does name time caller (Put r sync batch) answer old new = Puts name time r sync batch caller answer old new
 Does name time caller (Scan r from to) answer old new = Scans name r from to answer old new
 Does name time caller (Flush r) answer old new = Flushes name r caller answer old new
 Does name time caller Roll answer old new = Rolls answer old new

@@ -1,0 +1,10 @@
+//! How cells are written.
+
+/// Which of a cell's two spellings bytes are written in.
+#[derive(Clone, Copy, Debug, PartialEq, Eq)]
+pub enum Form {
+    /// Without tags: HBase's KeyValue.
+    Plain,
+    /// With tags behind the value.
+    Tagged,
+}
