@@ -4,14 +4,13 @@ use Rattle.std.proofs.lemmas.List.{take_at, drop_at, append_assoc, length-take, 
 use Rattle.std.proofs.lemmas.Slice.{between_to_end}
 use Rattle.std.specs.Coded.{le_prop}
 use Rattle.std.proofs.Math.Logic.{∥∥₁_map, ∥∥₁_elim}
-use Rattle.std.specs.List.{flat_map}
 use Rattle.byteorder.specs.Endian.{big_bytes}
-use Rattle.cell_model.specs.Cell.{spelling}
-use Rattle.log_model.specs.Entry.{Entry, IsEntry, body, entry_frame}
+use Rattle.log_model.specs.Entry.{Entry, IsEntry, kind_of, entry_form, batch_text, body_as, body, entry_frame}
 use Rattle.log_model.specs.LogText.{opened}
 use Rattle.log_model.specs.Frame.{IsEntryAt}
 use Rattle.log_model.proofs.FrameLaws.{length-body, same_entry}
 use Rattle.cell_model.proofs.CellLaws.{after}
+use Rattle.cell_model.proofs.BatchLaws.{head_bounds}
 use Rattle.entry_frame.specs.Spelling.{IsSpelling, renumbered}
 
 pub one_entry : (d e : Entry) → IsEntry d → IsEntry e → entry_frame d ≡ entry_frame e → d ≡ e
@@ -26,7 +25,7 @@ pub record Bounds (bytes : List ℕ) : Type 0 where
   pub most : length bytes ≤ 1048581
 
 frame_bounds : (e : Entry) → IsEntry e → Bounds (entry_frame e)
-frame_bounds e is = record { least = omega (arith, length-body e); most = omega (arith, length-body e, is.batch.body) }
+frame_bounds e is = record { least = omega (arith, length-body e, (head_bounds (entry_form e) e.batch is.batch.table).0); most = omega (arith, length-body e, is.batch.body) }
 
 pub spelling_bounds : (bytes : List ℕ) → IsSpelling bytes → Bounds bytes
 spelling_bounds bytes h = record {
@@ -36,13 +35,13 @@ spelling_bounds bytes h = record {
 
 -- the head of a body, and what stands behind the number
 head_of : Entry → List ℕ
-head_of e = 1 ∷ (big_bytes 4 (length (body e)) ++ big_bytes 4 e.region)
+head_of e = kind_of (entry_form e) ∷ (big_bytes 4 (length (body e)) ++ big_bytes 4 e.region)
 
 behind_number : Entry → List ℕ
-behind_number e = big_bytes 8 e.time ++ (big_bytes 4 (length e.cells) ++ flat_map spelling e.cells)
+behind_number e = big_bytes 8 e.time ++ batch_text (entry_form e) e.batch
 
 parts_of_frame : (e : Entry) → entry_frame e ≡ head_of e ++ (big_bytes 8 e.number ++ behind_number e)
-unfolding body head_of behind_number
+unfolding body_as head_of behind_number
 parts_of_frame e = simp append_assoc
 
 pub renumbered_frame : (e : Entry) (bytes : List ℕ) (n : ℕ) → bytes ≡ entry_frame e → renumbered bytes n ≡ entry_frame (record e { number = n })
@@ -54,12 +53,12 @@ renumbered_frame e bytes n is =
     let back : drop 17 bytes ≡ behind_number e =
     after 9 8 17 bytes (big_bytes 8 e.number) (behind_number e) (ap (drop 9) whole ∙ drop_at (head_of e) (big_bytes 8 e.number ++ behind_number e) 9 (omega arith)) (omega arith) refl in
     let len : length (body e) ≡ length (body d) = length-body e ∙ sym (length-body d) in
-    (λ i. front i ++ (big_bytes 8 n ++ back i)) ∙ ap (λ (k : ℕ). (1 ∷ (big_bytes 4 k ++ big_bytes 4 e.region)) ++ (big_bytes 8 n ++ behind_number e)) len ∙ sym (parts_of_frame d)
+    (λ i. front i ++ (big_bytes 8 n ++ back i)) ∙ ap (λ (k : ℕ). (kind_of (entry_form e) ∷ (big_bytes 4 k ++ big_bytes 4 e.region)) ++ (big_bytes 8 n ++ behind_number e)) len ∙ sym (parts_of_frame d)
 
 -- what stands behind kind and length of a frame is the body
 pub body_behind : (bytes : List ℕ) (e : Entry) → bytes ≡ entry_frame e → take (length bytes - 5) (drop 5 bytes) ≡ body e
 body_behind bytes e is =
-    between_to_end bytes 5 (length bytes) (omega arith) ∙ (ap (drop 5) is ∙ drop_at (1 ∷ big_bytes 4 (length (body e))) (body e) 5 (omega arith))
+    between_to_end bytes 5 (length bytes) (omega arith) ∙ (ap (drop 5) is ∙ drop_at (kind_of (entry_form e) ∷ big_bytes 4 (length (body e))) (body e) 5 (omega arith))
 
 pub renumbered_spelling : (bytes : List ℕ) (n : ℕ) → 1 ≤ n → n < 2 ^ 48 → IsSpelling bytes → IsSpelling (renumbered bytes n)
 renumbered_spelling bytes n given within h = ∥∥₁_map h (λ x. (

@@ -2,7 +2,7 @@
 use Rattle.std.specs.Prelude.{◌≡◌, ℕ, ◌+◌, ◌<◌, ◌≤◌, ◌^◌, List, [], ◌∷◌, ◌++◌, length, Option, Some, None, Result, Ok, Err}
 use Rattle.std.specs.List.{flat_map, AllByRecursion}
 use Rattle.log_model.specs.Entry.{Entry, entry_frame}
-use Rattle.log_model.specs.LogText.{FileKey, IsEntryOf, header, opened, Begins, IsLogText, IsDamaged}
+use Rattle.log_model.specs.LogText.{FileKey, TextKey, in_version, IsVersion, IsEntryOf, header, opened, Begins, IsLogText, IsDamaged}
 use Rattle.entry_frame.specs.declared.phase.FileKey.{FileKey as NameKey}
 use Rattle.entry_frame.specs.declared.phase.Phase.{Phase}
 use Rattle.entry_frame.specs.declared.phase.Phase.TheVariants.{Open, Ended, Damaged}
@@ -12,10 +12,11 @@ use Rattle.entry_frame.specs.declared.phase.FeedRefusal.TheVariants as refusals
 abbrev pub key_of : NameKey → FileKey
 key_of file = record { region = file.region; number = file.number }
 
--- the file that a feed reads, how it goes on, how many entries were taken, the offset of the first byte not read,
--- and the bytes from there on
+-- the file that a feed reads, the version of its text once an entry was taken, how it goes on, how many entries were taken,
+-- the offset of the first byte not read, and the bytes from there on
 pub record Feeding : Type 0 where
   pub key : FileKey
+  pub version : ℕ
   pub phase : Phase
   pub count : ℕ
   pub at : ℕ
@@ -23,22 +24,24 @@ pub record Feeding : Type 0 where
 
 -- one more whole entry of the file, with its next gate, stands behind these
 abbrev pub HasNext : FileKey → List ℕ → List Entry → Entry → Type 0
-HasNext key given taken e = (rest : List ℕ) × (0 < length rest) × Begins key given (taken ++ e ∷ []) rest
+HasNext key given taken e =
+    (version : ℕ) × IsVersion version × (rest : List ℕ) × (0 < length rest) × Begins (in_version version key) given (taken ++ e ∷ []) rest
 
 abbrev pub HasNoNext : FileKey → List ℕ → List Entry → Type 0
 HasNoNext key given taken = (e : Entry) → HasNext key given taken e → ⊥
 
 -- what entries leave behind them when they are taken: the header goes with the first
-abbrev pub passed : FileKey → List Entry → List ℕ
+abbrev pub passed : TextKey → List Entry → List ℕ
 passed key [] = []
-passed key (e ∷ es) = header 1 key.number ++ flat_map (λ d. opened (entry_frame d)) (e ∷ es)
+passed key (e ∷ es) = header key.version key.number ++ flat_map (λ d. opened (entry_frame d)) (e ∷ es)
 
-abbrev pub Stands : Phase → FileKey → ℕ → List ℕ → List ℕ → List Entry → Type 0
-Stands Open key at unread given taken = (given ≡ passed key taken ++ unread) × (at ≡ length (passed key taken))
+abbrev pub Stands : Phase → FileKey → (version at : ℕ) → List ℕ → List ℕ → List Entry → Type 0
+Stands Open key version at unread given taken =
+    (given ≡ passed (in_version version key) taken ++ unread) × (at ≡ length (passed (in_version version key) taken))
 -- however the bytes go on, they are this text
-Stands (Ended told) key at unread given taken = (more : List ℕ) → IsLogText key (given ++ more) taken told
+Stands (Ended told) key version at unread given taken = (more : List ℕ) → IsLogText key (given ++ more) taken told
 -- however the bytes go on, they are damaged here
-Stands (Damaged place) key at unread given taken = HasNoNext key given taken × ((more : List ℕ) → IsDamaged key (given ++ more) place)
+Stands (Damaged place) key version at unread given taken = HasNoNext key given taken × ((more : List ℕ) → IsDamaged key (given ++ more) place)
 
 abbrev pub HasEnded : Phase → Type 0
 HasEnded Open = ⊥
@@ -48,9 +51,10 @@ HasEnded (Damaged place) = ⊥
 -- the feed was given these bytes so far, and these entries were taken from it
 pub record IsFed (feed : Feeding) (given : List ℕ) (taken : List Entry) : Type 0 where
   pub count : feed.count ≡ length taken
-  pub each : AllByRecursion (IsEntryOf feed.key) taken
+  pub known : IsVersion feed.version
+  pub each : AllByRecursion (IsEntryOf (in_version feed.version feed.key)) taken
   pub within : feed.at + length feed.unread ≤ length given
-  pub stands : Stands feed.phase feed.key feed.at feed.unread given taken
+  pub stands : Stands feed.phase feed.key feed.version feed.at feed.unread given taken
 
 -- whatever it was given and what was taken, no further whole entry is there
 abbrev pub IsDrained : Feeding → Type 0

@@ -5,7 +5,7 @@ ghost use Rattle.log_model.specs.Entry.{Entry as TheEntry, IsEntry, entry_frame}
 ghost use Rattle.entry_frame.specs.Spelling.{IsSpelling, renumbered};
 
 use crate::owning::own_batch;
-use crate::reading::entry_in;
+use crate::reading::{entry_in, form_of_kind};
 use byteorder::{BigEndian, ByteOrder};
 use kv_cell::{Batch, NoMemory};
 use std::alloc::Global;
@@ -54,11 +54,12 @@ impl EntryBytes {
         self.bytes.as_slice()
     }
 
-    /// The cells of the entry that these bytes spell, copied.
+    /// The cells and the table's name of the entry that these bytes spell, copied.
     pub fn to_batch(&self, alloc: Global) -> Result<Batch, NoMemory>
-        ensures { (e : TheEntry) → IsEntry e → self.now ≡ entry_frame e → IfOk result (λ own. own ≡ e.cells) }
+        ensures { (e : TheEntry) → IsEntry e → self.now ≡ entry_frame e → IfOk result (λ own. own ≡ e.batch) }
     {
-        match entry_in(&self.bytes[5..]) {
+        let form = form_of_kind(self.bytes[0]);
+        match entry_in(form, &self.bytes[5..]) {
             Some(entry) => own_batch(alloc, &entry),
             None => unreachable!(),
         }

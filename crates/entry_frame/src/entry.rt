@@ -25,10 +25,10 @@ impl Model for Entry {
 
     ghost Value = { TheEntry };
 
-    ghost view = { λ e. record { region = e.region; number = e.number; time = e.time; cells = e.batch } };
+    ghost view = { λ e. record { region = e.region; number = e.number; time = e.time; batch = e.batch } };
 
-    ghost invariant = { λ e. IsEntry (record { region = e.region; number = e.number; time = e.time; cells = e.batch })
-        × (e.bytes ≡ entry_frame (record { region = e.region; number = e.number; time = e.time; cells = e.batch })) };
+    ghost invariant = { λ e. IsEntry (record { region = e.region; number = e.number; time = e.time; batch = e.batch })
+        × (e.bytes ≡ entry_frame (record { region = e.region; number = e.number; time = e.time; batch = e.batch })) };
 }
 
 impl Entry {

@@ -19,6 +19,8 @@ use std::marker::Model;
 #[derive(Debug, Drop)]
 pub struct Feed {
     file: FileKey,
+    /// The version of the text, 1 or 2, once an entry was taken, and any of the two before that.
+    version: u32,
     phase: Phase,
     count: u64,
     /// The offset in the file of the first byte not read.
@@ -31,12 +33,13 @@ pub struct Feed {
 impl Model for Feed {
     ghost use Rattle.std.specs.Prelude.{length, drop};
     ghost use Rattle.entry_frame.specs.Feed.{Feeding, IsWithin, key_of};
+    ghost use Rattle.log_model.specs.LogText.{IsVersion};
 
     ghost Value = { Feeding };
 
-    ghost view = { λ f. record { key = key_of f.file; phase = f.phase; count = f.count; at = f.at; unread = drop f.read f.bytes.items } };
+    ghost view = { λ f. record { key = key_of f.file; version = f.version; phase = f.phase; count = f.count; at = f.at; unread = drop f.read f.bytes.items } };
 
-    ghost invariant = { λ f. IsWithin f.count f.at f.read (length f.bytes.items) };
+    ghost invariant = { λ f. IsWithin f.count f.at f.read (length f.bytes.items) × IsVersion f.version };
 }
 
 impl Feed {
@@ -47,6 +50,7 @@ impl Feed {
     {
         Feed {
             file,
+            version: 2,
             phase: Phase::Open,
             count: 0,
             at: 0,
@@ -97,13 +101,18 @@ impl Feed {
             Phase::Ended(_) => return Ok(None),
             Phase::Open => {}
         }
-        let (entry, used) = match next_step(
+        let (version, entry, used) = match next_step(
             self.file,
+            self.version,
             self.count,
             self.at,
             &self.bytes[self.read..],
         ) {
-            Step::Entry { entry, used } => (own_entry(alloc, &entry)?, used),
+            Step::Entry {
+                version,
+                entry,
+                used,
+            } => (version, own_entry(alloc, &entry)?, used),
             Step::Wait(_) => return Ok(None),
             Step::Ended(told) => {
                 self.phase = Phase::Ended(told);
@@ -114,6 +123,7 @@ impl Feed {
                 return Err(FeedRefusal::Damaged { at });
             }
         };
+        self.version = version;
         self.count += 1;
         self.at += used as u64;
         self.read += used;
@@ -140,7 +150,13 @@ impl Feed {
             Phase::Ended(told) => return Ok(told),
             Phase::Open => {}
         }
-        match next_step(self.file, self.count, self.at, &self.bytes[self.read..]) {
+        match next_step(
+            self.file,
+            self.version,
+            self.count,
+            self.at,
+            &self.bytes[self.read..],
+        ) {
             Step::Entry { .. } => Ok(None),
             Step::Ended(told) => Ok(told),
             Step::Damaged(at) => Err(FeedRefusal::Damaged { at }),

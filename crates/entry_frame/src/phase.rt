@@ -28,7 +28,7 @@ pub(crate) enum Phase {
 /// Why a feed gives no entry.
 #[derive(Clone, Copy, Debug, PartialEq, Eq, Error)]
 pub enum FeedRefusal {
-    /// Want of memory. The feed is as it was.
+    /// Out of memory. The feed is as it was.
     #[error("no memory")]
     Memory,
     /// The file is no log text, which shows at this offset. The feed answers the same from then on.

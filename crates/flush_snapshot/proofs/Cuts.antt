@@ -1,5 +1,5 @@
 -- A cut's cells in order are cells of the cut, so they make a store.
-use Rattle.std.proofs.Common.{◌≡◌, ℕ, ◌≤◌, ◌<◌, ◌^◌, List, [], ◌∷◌, map, refl, sym, subst}
+use Rattle.std.proofs.Common.{◌≡◌, ◌≢◌, ℕ, ◌≤◌, ◌<◌, ◌^◌, List, [], ◌∷◌, length, map, refl, sym, subst}
 use Rattle.std.specs.declared.cmp.Ordering.TheVariants.{Less, Equal, Greater}
 use Rattle.std.specs.List.{AllByRecursion}
 use Rattle.std.specs.FinMap.{put, insert, empty, entries, entries-insert}
@@ -11,7 +11,7 @@ use Rattle.cell_model.proofs.OrderLaws.{version_cmp_total, version_cmp_exact, en
 use Rattle.log_model.specs.declared.name.Name.{Name}
 use Rattle.log_model.specs.StoreText.{Store, IsStoredCell, IsStore}
 use Rattle.mem_segments.proofs.Contents.{rising-cells_of}
-use Rattle.flush_snapshot.specs.Cut.{ordered_cells, cut_store, IsWithin}
+use Rattle.flush_snapshot.specs.Cut.{ordered_cells, cut_store, IsWithin, AreOf}
 
 module _ (P : NumberedCell → Type 0) where
   abbrev EachEntry : List (VersionKey × Payload) → Type 0
@@ -43,17 +43,19 @@ module _ (P : NumberedCell → Type 0) where
   pub each_ordered : (cut : List NumberedCell) → AllByRecursion P cut → AllByRecursion P (ordered_cells cut)
   each_ordered cut each = each_cell (entries (put_numbered empty cut)) (each_numbered empty cut (subst EachEntry (sym entries-empty) tt) each)
 
-each_stored : (s : Store) (xs : List NumberedCell) → AllByRecursion (λ x. IsCell x.1) xs → IsWithin s.from s.to xs → AllByRecursion (IsStoredCell s) xs
-each_stored s [] cells range = tt
-each_stored s (x ∷ xs) cells range = (record { cell = cells.0; from = range.0.0; to = range.0.1 }, each_stored s xs cells.1 range.1)
+each_stored : (s : Store) (xs : List NumberedCell) → AllByRecursion (λ x. IsCell x.1) xs → IsWithin s.from s.to xs → AreOf s.family xs → AllByRecursion (IsStoredCell s) xs
+each_stored s [] cells range of = tt
+each_stored s (x ∷ xs) cells range of = (record { cell = cells.0; family = of.0; from = range.0.0; to = range.0.1 }, each_stored s xs cells.1 range.1 of.1)
 
-pub cut_is_store : (name : Name) (from to : ℕ) (cut : List NumberedCell) → name.region < 2 ^ 32 → (1 ≤ from) × (from ≤ to) × (to < 2 ^ 48) → IsWithin from to cut → AllByRecursion (λ x. IsCell x.1) cut
-    → IsStore (cut_store name from to cut)
-cut_is_store name from to cut region range within cells = record {
+pub cut_is_store : (name : Name) (family : List ℕ) (from to : ℕ) (cut : List NumberedCell) → name.region < 2 ^ 32 → length family ≤ 127 → AreOf family cut → (1 ≤ from) × (from ≤ to) × (to < 2 ^ 48) → IsWithin from to cut → AllByRecursion (λ x. IsCell x.1) cut
+    → IsStore (cut_store name family from to cut)
+cut_is_store name family from to cut region short of range within cells = record {
   region = region;
+  scope = refl;
+  family = short;
   from = range.0;
   to = range.1;
   limit = range.2;
-  each = each_stored (cut_store name from to cut) (ordered_cells cut) (each_ordered (λ x. IsCell x.1) cut cells) (each_ordered (λ x. (from ≤ x.0) × (x.0 ≤ to)) cut within);
+  each = each_stored (cut_store name family from to cut) (ordered_cells cut) (each_ordered (λ x. IsCell x.1) cut cells) (each_ordered (λ x. (from ≤ x.0) × (x.0 ≤ to)) cut within) (each_ordered (λ x. family ≢ [] → x.1.family ≡ family) cut of);
   rising = rising-cells_of (put_numbered empty cut);
 }

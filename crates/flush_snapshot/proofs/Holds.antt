@@ -87,7 +87,7 @@ get_found : (m : Content) (v : VersionKey) → get m v ≡ found v (cells_of m)
 get_found m v = ap (λ (c : Content). get c v) (sym (content_of-cells_of m)) ∙ get-from_sorted version_cmp (map entry_of (cells_of m)) v (rising-cells_of m)
 
 pub cut_holds : CutHoldsItsContent
-cut_holds name from to cut v p =
+cut_holds name family from to cut v p =
     let m : Content = put_numbered empty cut in (
       (λ has. get_found m v ∙ in_found (cells_of m) v p (rising-cells_of m) has),
       (λ is. found_in (cells_of m) v p (sym (get_found m v) ∙ is)),

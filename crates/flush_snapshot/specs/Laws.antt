@@ -9,4 +9,5 @@ use Rattle.flush_snapshot.specs.Cut.{cut_store}
 
 -- it holds what the cut's cells put, one after the other
 abbrev pub CutHoldsItsContent : Type 0
-CutHoldsItsContent = (name : Name) (from to : ℕ) (cut : List NumberedCell) (v : VersionKey) (p : Payload) → Holds (cut_store name from to cut) v p ↔ (get (put_numbered empty cut) v ≡ Some p)
+CutHoldsItsContent = (name : Name) (family : List ℕ) (from to : ℕ) (cut : List NumberedCell) (v : VersionKey) (p : Payload)
+    → Holds (cut_store name family from to cut) v p ↔ (get (put_numbered empty cut) v ≡ Some p)

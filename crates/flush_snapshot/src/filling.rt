@@ -2,6 +2,7 @@
 
 ghost use Rattle.std.specs.Prelude.{◌≡◌, ◌≤◌, ◌<◌, ◌+◌, ◌^◌, ℕ, [], ◌++◌, List, length, IsTrue, IfOk, OnOk, IsErr};
 ghost use Rattle.cell_model.specs.Order.{NumberedCell};
+ghost use Rattle.cell_model.specs.declared.form.Form.TheVariants.{Tagged};
 ghost use Rattle.log_model.specs.StoreText.{IsStore, store_text};
 ghost use Rattle.disk_images.specs.Crash.{Throughout, OnlyAt};
 ghost use Rattle.disk_images.specs.OneFile.{Touches, IsDurableFile};
@@ -25,9 +26,9 @@ pub(crate) fn write_rows<D: Disk>(
     requires whole { IsStore (store_of store rows.now) }
     requires count { store.count ≡ length rows.now }
 
-    ensures stored { IsTrue D.told → OnOk result (IsDurableFile (D.view disk.new) store.name (store_text (store_of store rows.now))) }
+    ensures stored { IsTrue D.told → OnOk result (IsDurableFile (D.view disk.new) store.name (store_text Tagged (store_of store rows.now))) }
     ensures any_moment { IsTrue D.told
-        → Throughout (OnlyAt store.name (IsWholeOrNot (store_text (store_of store rows.now))) (D.view disk.old)) (length rows.now + 4)
+        → Throughout (OnlyAt store.name (IsWholeOrNot (store_text Tagged (store_of store rows.now))) (D.view disk.old)) (length rows.now + 4)
         (D.view disk.old) (D.view disk.new) }
     ensures touches { IsTrue D.told → Touches store.name (D.view disk.old) (D.view disk.new) }
     ensures cause { HasCause (D.faults disk.old) (D.faults disk.new) (IsErr result) }

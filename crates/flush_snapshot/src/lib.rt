@@ -1,7 +1,8 @@
 //! A region's cut of cells, written as one store file.
 //!
-//! `store_cut` and `write_cut` put the cells in order, and `write_segment` writes cells that are in order: at each moment a crash leaves the whole store, or a file that
-//! isn't there. Which cells a cut has, and what the store file is called, is decided above.
+//! `store_cut` and `write_cut` put the cells in order, and `write_segment` writes cells that are in order: at each moment a
+//! crash leaves the whole store, or a file that isn't there. Each cell is stored with its tags. Which cells a cut has, of
+//! which family they are, and what the store file is called, is decided above.
 #![tactic(auto)]
 
 mod cut;

@@ -1,19 +1,21 @@
 -- What the definitions of spellings promise.
 use Rattle.std.specs.Prelude.{◌≡◌, ℕ, ◌<◌, ◌≤◌, List, ◌++◌, length, take, slice_index, None}
 use Rattle.byteorder.specs.Endian.{big_bytes, big_number}
-use Rattle.cell_model.specs.Cell.{Cell, IsCell, spelling, Fronts, fault_at}
+use Rattle.cell_model.specs.Cell.{Cell, HasForm, spelled, Fronts, fault_of}
+use Rattle.cell_model.specs.declared.form.Form.{Form}
 use Rattle.cell_model.specs.Lists.{IsPrefix}
 
--- two cells that bytes front are one
+-- two cells that bytes front in one form are one
 abbrev pub OneCellAtAFront : Type 0
-OneCellAtAFront = (bytes : List ℕ) (c d : Cell) → Fronts bytes c → Fronts bytes d → c ≡ d
+OneCellAtAFront = (form : Form) (bytes : List ℕ) (c d : Cell) → Fronts form bytes c → Fronts form bytes d → c ≡ d
 
 abbrev pub NoSpellingBeginsAnother : Type 0
-NoSpellingBeginsAnother = (c d : Cell) → IsCell c → IsCell d → IsPrefix (spelling c) (spelling d) → c ≡ d
+NoSpellingBeginsAnother = (form : Form) (c d : Cell) → HasForm form c → HasForm form d → IsPrefix (spelled form c) (spelled form d) → c ≡ d
 
 -- whatever follows a spelling, nothing is wrong, and no other cell is read
 abbrev pub IsReadAgain : Type 0
-IsReadAgain = (c : Cell) (rest : List ℕ) → IsCell c → (fault_at (spelling c ++ rest) ≡ None) × ((d : Cell) → Fronts (spelling c ++ rest) d → d ≡ c)
+IsReadAgain = (form : Form) (c : Cell) (rest : List ℕ) → HasForm form c
+    → (fault_of form (spelled form c ++ rest) ≡ None) × ((d : Cell) → Fronts form (spelled form c ++ rest) d → d ≡ c)
 
 -- each is a byte
 abbrev pub AreBytes : List ℕ → Type 0

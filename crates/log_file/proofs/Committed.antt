@@ -57,7 +57,7 @@ ending name es bytes m v w each are over =
 
 -- nothing is written yet
 none_yet : (name : Name) (image : Option (List ℕ)) → IsShort 17 image → HasEntries name [] image
-none_yet name image is_short = ⊎_elim (λ none. inr (none, refl)) (λ some. inl (None, record { bytes = some.0; there = some.1; text = inl (some.2, refl, refl) })) is_short
+none_yet name image is_short = ⊎_elim (λ none. inr (none, refl)) (λ some. inl (None, record { bytes = some.0; there = some.1; text = inr (inl (some.2, refl, refl)) })) is_short
 
 length_new : (number : ℕ) (text : List ℕ) → text ≡ at_rest number [] → length text ≡ 17
 length_new number text is = omega (arith, ap length is, length-append (front number []) (0 ∷ []), length-front-nil number)

@@ -18,7 +18,7 @@ read_behind given piece c m n had read = ap (λ (l : List ℕ). l ++ piece) had 
 
 -- a damaged feed tells the file's damage
 damaged_feed : (feed : Feeding) (given : List ℕ) (taken : List Entry) (at : ℕ) → IsFed feed given taken → feed.phase ≡ phases.Damaged at → (more : List ℕ) → IsDamaged feed.key (given ++ more) at
-damaged_feed feed given taken at fed is = (subst (λ (p : Phase). Stands p feed.key feed.at feed.unread given taken) is fed.stands).1
+damaged_feed feed given taken at fed is = (subst (λ (p : Phase). Stands p feed.key feed.version feed.at feed.unread given taken) is fed.stands).1
 
 pub refused : (T : Type 0) (feed : Feeding) (key : FileKey) (given : List ℕ) (taken : List Entry) (e : FeedRefusal) → feed.key ≡ key → IsFed feed given taken → IsOfPhase e feed.phase
     → IfDamaged {T = T} (Err (read_refusal_of e)) (λ at. (more : List ℕ) → IsDamaged key (given ++ more) at)

@@ -4,7 +4,7 @@ use Rattle.std.proofs.lemmas.List.{append-nil}
 use Rattle.std.specs.List.{flat_map}
 use Rattle.log_model.specs.declared.name.Name.{Name}
 use Rattle.log_model.specs.Entry.{Entry, IsEntry, entry_frame}
-use Rattle.log_model.specs.LogText.{IsEntryOf, Ends, IsLogText, header, opened}
+use Rattle.log_model.specs.LogText.{IsEntryOf, in_version, Ends, IsLogText, header, opened}
 use Rattle.log_model.specs.Files.{key_of}
 use Rattle.log_file.specs.LogText.{front, behind_gate, behind_end, at_rest, ended_text}
 use Rattle.log_file.specs.Open.{AreEntriesOf}
@@ -27,7 +27,7 @@ behind_none = refl
 
 text_with : (name : Name) (es : List Entry) (rest : List ℕ) (ended : Option ℕ) → AreEntriesOf name es → Ends (length es) rest ended → IsLogText (key_of name) (front name.number es ++ rest) es ended
 unfolding front
-text_with name es rest ended each ends = inr (rest, record { is = append_assoc (header 1 name.number) (frames es) rest; each = each }, ends)
+text_with name es rest ended each ends = inr (inr (rest, record { is = append_assoc (header 2 name.number) (frames es) rest; each = each }, ends))
 
 -- behind a closed gate anything may stand
 pub text_closed : (name : Name) (es : List Entry) (gate : ℕ) (rest : List ℕ) → AreEntriesOf name es → gate ≢ 165 → IsLogText (key_of name) (front name.number es ++ gate ∷ rest) es None
@@ -51,8 +51,8 @@ pub opened_batch : (number : ℕ) (es batch : List Entry) → 0 < length batch �
 unfolding front behind_gate
 opened_batch number es [] some = absurd (omega (arith, some))
 opened_batch number es (b ∷ batch) some =
-    sym (append_assoc (header 1 number ++ frames es) (frames (b ∷ batch)) (0 ∷ []))
-    ∙ ap (λ (l : List ℕ). l ++ 0 ∷ []) (append_assoc (header 1 number) (frames es) (frames (b ∷ batch)) ∙ ap (λ (l : List ℕ). header 1 number ++ l) (sym (frames-append es (b ∷ batch))))
+    sym (append_assoc (header 2 number ++ frames es) (frames (b ∷ batch)) (0 ∷ []))
+    ∙ ap (λ (l : List ℕ). l ++ 0 ∷ []) (append_assoc (header 2 number) (frames es) (frames (b ∷ batch)) ∙ ap (λ (l : List ℕ). header 2 number ++ l) (sym (frames-append es (b ∷ batch))))
 
 -- one more frame behind a gate
 pub one_staged : (batch : List Entry) (e : Entry) (frame old new : List ℕ) → frame ≡ entry_frame e → old ≡ behind_gate batch
@@ -71,5 +71,5 @@ each_append name [] ys hx hy = hy
 each_append name (x ∷ xs) ys hx hy = (hx.0, each_append name xs ys hx.1 hy)
 
 -- any entry may stand in a log
-pub log_entry : (name : Name) (e : Entry) → name.region ≡ 0 → IsEntry e → IsEntryOf (key_of name) e
-log_entry name e is entry = record { entry = entry; region = λ other. absurd (other is) }
+pub log_entry : (name : Name) (e : Entry) → name.region ≡ 0 → IsEntry e → IsEntryOf (in_version 2 (key_of name)) e
+log_entry name e is entry = record { entry = entry; region = λ other. absurd (other is); form = λ first. absurd (omega (arith, first)) }

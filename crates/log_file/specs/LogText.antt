@@ -7,7 +7,7 @@ use Rattle.log_model.specs.LogText.{header, opened}
 
 -- the header and these entries, up to the next gate
 unfoldable pub front : ℕ → List Entry → List ℕ
-front number entries = header 1 number ++ flat_map (λ e. opened (entry_frame e)) entries
+front number entries = header 2 number ++ flat_map (λ e. opened (entry_frame e)) entries
 
 -- what is written behind a closed gate to add these entries: the first one's frame, the others behind open gates, and a
 -- closed gate

@@ -5,7 +5,7 @@ use Rattle.disk_images.specs.Crash.{DiskView}
 use Rattle.disk_images.specs.OneFile.{IsDurableFile}
 use Rattle.log_model.specs.declared.name.Name.{Name}
 use Rattle.log_model.specs.Entry.{Entry}
-use Rattle.log_model.specs.LogText.{IsEntryOf}
+use Rattle.log_model.specs.LogText.{IsEntryOf, in_version}
 use Rattle.log_model.specs.Files.{key_of}
 use Rattle.recovery.specs.Change.{HasText}
 use Rattle.log_file.specs.LogText.{front, behind_gate, at_rest}
@@ -28,7 +28,7 @@ pub record IsBounded (log : OpenLog) : Type 0 where
 
 -- entries that may stand in the file of this name
 abbrev pub AreEntriesOf : Name → List Entry → Type 0
-AreEntriesOf name entries = AllByRecursion (IsEntryOf (key_of name)) entries
+AreEntriesOf name entries = AllByRecursion (IsEntryOf (in_version 2 (key_of name))) entries
 
 -- the file has these entries and a closed gate, and every crash leaves it so
 pub record IsOpen (log : OpenLog) (disk : DiskView) (entries : List Entry) : Type 0 where

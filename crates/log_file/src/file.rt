@@ -2,7 +2,7 @@
 
 ghost use Rattle.std.specs.Prelude.{◌≡◌, ◌≤◌, ◌<◌, ◌+◌, ◌^◌, ℕ, [], ◌∷◌, ◌++◌, List, length, IsTrue, IfOk, OnOk, OnErr, IsErr, IsErrOf, ◌↔◌};
 ghost use Rattle.log_model.specs.Entry.{Entry, entry_frame};
-ghost use Rattle.log_model.specs.LogText.{IsEntryOf};
+ghost use Rattle.log_model.specs.LogText.{IsEntryOf, in_version};
 ghost use Rattle.log_model.specs.Files.{IsAbsent, IsName, HoldsEntries, key_of};
 ghost use Rattle.disk_images.specs.OneFile.{Touches};
 ghost use Rattle.disk_images.specs.Calls.{HasCause};
@@ -94,10 +94,10 @@ impl LogFile {
     /// Stages an entry that may stand in this file. It is refused exactly where the staged bytes, these and one gate byte
     /// pass 4,194,304; then nothing changes. It takes no memory, and makes no disk call.
     pub fn stage(&mut self, bytes: &EntryBytes) -> Result<(), StageFull>
-        requires { ∥ ((e : Entry) × (bytes.now ≡ entry_frame e) × IsEntryOf (key_of self.old.name) e) ∥₁ }
+        requires { ∥ ((e : Entry) × (bytes.now ≡ entry_frame e) × IsEntryOf (in_version 2 (key_of self.old.name)) e) ∥₁ }
 
         ensures staged { (batch : List Entry) (e : Entry) → IsStaged self.old batch → bytes.now ≡ entry_frame e
-            → IsEntryOf (key_of self.old.name) e → OnOk result (IsStaged self.new (batch ++ e ∷ [])) }
+            → IsEntryOf (in_version 2 (key_of self.old.name)) e → OnOk result (IsStaged self.new (batch ++ e ∷ [])) }
         ensures counted { OnOk result (self.new.staged ≡ self.old.staged + 1) }
         ensures len { OnOk result (length self.new.bytes ≡ length self.old.bytes + length bytes.now + 1) }
         ensures same_file { IsSameFile self.old self.new }

@@ -18,7 +18,7 @@ use std::alloc::Global;
 /// How many bytes are read at once.
 const PIECE: u64 = 65_536;
 
-/// Files of so many bytes and more are refused for want of memory.
+/// Files of so many bytes and more are refused as out of memory.
 const TOO_LONG: u64 = 0x8000_0000_0000_0000;
 
 /// Reads a file that is there, in pieces of 64 KiB, up to the size found first, or to the piece in which its text ends.

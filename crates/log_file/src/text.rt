@@ -3,14 +3,16 @@
 ghost use Rattle.std.specs.Prelude.{◌≡◌, [], ◌∷◌, ◌++◌};
 ghost use Rattle.log_file.specs.LogText.{at_rest, behind_end};
 
+use entry_frame::file_header;
+use log_model::CLOSED_GATE;
+
 /// The text of a file without entries: the header and a closed gate.
 pub fn new_text(number: u64) -> [u8; 17]
     ensures { result ≡ at_rest number [] }
 {
-    let [a, b, c, d, e, f, g, h] = number.to_be_bytes();
-    [
-        b'H', b'W', b'L', b'1', 0, 0, 0, 1, a, b, c, d, e, f, g, h, 0,
-    ]
+    let mut text = [CLOSED_GATE; 17];
+    text[..16].copy_from_slice(&file_header(number));
+    text
 }
 
 /// An end frame, and a closed gate.

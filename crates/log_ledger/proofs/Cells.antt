@@ -22,14 +22,14 @@ use Rattle.log_ledger.proofs.Flushed.{unflushed_bound}
 
 -- the cells of entries, each with its entry's sequence id
 abbrev pub cells_of_all : List Entry → List NumberedCell
-cells_of_all es = flat_map (λ (e : Entry). at_number e.number e.cells) es
+cells_of_all es = flat_map (λ (e : Entry). at_number e.number e.batch.cells) es
 
 put_all : (es : List Entry) (m : Content) → put_numbered m (cells_of_all es) ≡ put_entries m es
 put_all [] m = refl
 put_all (e ∷ es) m =
-    put_numbered-append m (at_number e.number e.cells) (cells_of_all es)
-    ∙ ap (λ (c : Content). put_numbered c (cells_of_all es)) (sym (put_cells-numbered m e.number e.cells))
-    ∙ put_all es (put_cells m e.number e.cells)
+    put_numbered-append m (at_number e.number e.batch.cells) (cells_of_all es)
+    ∙ ap (λ (c : Content). put_numbered c (cells_of_all es)) (sym (put_cells-numbered m e.number e.batch.cells))
+    ∙ put_all es (put_cells m e.number e.batch.cells)
 
 both_lists : (P : NumberedCell → Type 0) (xs ys : List NumberedCell) → AllByRecursion P xs → AllByRecursion P ys → AllByRecursion P (xs ++ ys)
 both_lists P [] ys one two = two
@@ -50,8 +50,8 @@ all_between flushed drawn [] (e ∷ es) each held = absurd held
 all_between flushed drawn (x ∷ xs) [] each held = absurd held
 all_between flushed drawn (x ∷ xs) (e ∷ es) each held =
     let is = each x (at_first x xs) in
-    both_lists (IsBetween flushed drawn) (at_number e.number e.cells) (cells_of_all es)
-    (one_entry flushed drawn e.number e.cells (omega (arith, is.0, held.0.number)) (omega (arith, is.1, held.0.number)))
+    both_lists (IsBetween flushed drawn) (at_number e.number e.batch.cells) (cells_of_all es)
+    (one_entry flushed drawn e.number e.batch.cells (omega (arith, is.0, held.0.number)) (omega (arith, is.1, held.0.number)))
     (all_between flushed drawn xs es (λ y has. each y (at_later x xs y has)) held.1)
 
 if_ok_prop : {A E : Type 0} (r : Result A E) (P : A → Type 0) → ((x : A) → IsProp (P x)) → IsProp (IfOk r P)

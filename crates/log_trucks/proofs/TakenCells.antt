@@ -7,7 +7,7 @@ use Rattle.log_model.specs.Entry.{Entry}
 use Rattle.log_trucks.specs.Held.{Held, AreHeld}
 
 abbrev pub numbered : List Entry → List NumberedCell
-numbered es = flat_map (λ e. at_number e.number e.cells) es
+numbered es = flat_map (λ e. at_number e.number e.batch.cells) es
 
 -- of what is held these cells are taken, and those of the entries that are left stand behind them
 abbrev pub AreTaken : List Held → List NumberedCell → List Held → Type 0

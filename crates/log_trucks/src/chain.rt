@@ -85,7 +85,7 @@ impl Chain {
 
     /// The cells of the trucks, each with its truck's number, in the order of the chain.
     pub fn cells(&self, alloc: Global) -> Result<NumberedCells, NoMemory>
-        ensures { (es : List Entry) → AreHeld self.now es → IfOk result (λ cells. cells ≡ flat_map (λ e. at_number e.number e.cells) es) }
+        ensures { (es : List Entry) → AreHeld self.now es → IfOk result (λ cells. cells ≡ flat_map (λ e. at_number e.number e.batch.cells) es) }
     {
         let mut cells = NumberedCells::new(alloc);
         let mut link = &self.first;

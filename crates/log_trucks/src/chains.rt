@@ -70,7 +70,7 @@ impl Chains {
     /// its truck's number.
     pub fn cells(&self, alloc: Global, region: u32) -> Result<NumberedCells, NoMemory>
         ensures { (es : List Entry) → AreHeld (slice_index_or self.now region []) es
-            → IfOk result (λ cells. cells ≡ flat_map (λ e. at_number e.number e.cells) es) }
+            → IfOk result (λ cells. cells ≡ flat_map (λ e. at_number e.number e.batch.cells) es) }
     {
         match self.chains.get(region as usize) {
             Some(chain) => chain.cells(alloc),

@@ -22,7 +22,7 @@ abbrev entry_at : ℕ → Key × Payload → VersionKey × Payload
 entry_at n e = (record { key = e.0; number = n }, e.1)
 
 abbrev cell_by : Key × Payload → Cell
-cell_by e = record { row = e.0.row; family = e.0.family; qualifier = e.0.qualifier; ts = e.0.ts; kind = e.0.kind; value = e.1 }
+cell_by e = record { row = e.0.row; family = e.0.family; qualifier = e.0.qualifier; ts = e.0.ts; kind = e.0.kind; value = e.1.value; tags = e.1.tags }
 
 abbrev put_keys : List (Key × Payload) → List Cell → List (Key × Payload)
 put_keys es [] = es

@@ -33,7 +33,7 @@ impl Model for Draft {
 impl Draft {
     /// The batch's cells in order, with bytes of their own. Of two with one key the later one stays.
     pub fn new(alloc: Global, batch: &Batch) -> Result<Draft, NoMemory>
-        ensures { IfOk result (λ draft. IsDraftOf draft batch.now) }
+        ensures { IfOk result (λ draft. IsDraftOf draft batch.now.cells) }
     {
         let rows = draft_rows(alloc, batch.as_slice())?;
         let rows = ordered_rows(alloc, rows)?;

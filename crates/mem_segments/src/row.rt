@@ -41,7 +41,7 @@ impl Row {
         })
     }
 
-    /// The same cell, shared: no byte is copied. A count of sharers that is full is told as want of memory.
+    /// The same cell, shared: no byte is copied. A count of sharers that is full is told as out of memory.
     pub fn share(&self) -> Result<Row, NoMemory>
         ensures { IfOk result (λ row. row ≡ self.now) }
     {

@@ -40,7 +40,7 @@ impl SharedCells {
         SharedCells { rows }
     }
 
-    /// Adds a row at the end. Where memory is wanting the row is dropped, and the list stays.
+    /// Adds a row at the end. Out of memory the row is dropped, and the list stays.
     pub fn push(&mut self, row: Row) -> Result<(), NoMemory>
         ensures ok { OnOk result (self.new ≡ self.old ++ row ∷ []) }
         ensures err { OnErr result (self.new ≡ self.old) }
@@ -49,7 +49,7 @@ impl SharedCells {
         Ok(())
     }
 
-    /// Gives back room that no row takes, for a list that is kept. Where memory is wanting for the move the room stays.
+    /// Gives back room that no row takes, for a list that is kept. Where there is no memory for the move the room stays.
     pub fn fit(&mut self)
         ensures { self.new ≡ self.old }
     {

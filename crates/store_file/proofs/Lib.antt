@@ -5,3 +5,4 @@ pub mod Standing
 pub mod Stores
 pub mod Texts
 pub mod Writing
+pub mod FieldLaws

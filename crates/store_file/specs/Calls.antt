@@ -1,5 +1,6 @@
 -- What each call of a store file that is written does to the disk and its crash images.
-use Rattle.std.specs.Prelude.{ℕ, List, [], ◌∷◌, ◌++◌, Result, IfOk, OnOk}
+use Rattle.std.specs.Prelude.{List, [], ◌∷◌, ◌++◌, Result, IfOk, OnOk}
+use Rattle.cell_model.specs.declared.form.Form.TheVariants.{Tagged}
 use Rattle.cell_model.specs.Order.{NumberedCell}
 use Rattle.log_model.specs.declared.name.Name.{Name}
 use Rattle.log_model.specs.StoreText.{store_text}
@@ -28,6 +29,6 @@ pub record PutsIn {T E : Type 0} (cells : List NumberedCell) (cell : NumberedCel
 -- a file with these cells is committed
 pub record Commits {T E : Type 0} (cells : List NumberedCell) (result : Result T E) (store : OpenStore) (old new : DiskView) : Type 0 where
   -- after Ok every crash leaves the store of these cells
-  pub durable : OnOk result (IsDurableFile new store.name (store_text (store_of store cells)))
+  pub durable : OnOk result (IsDurableFile new store.name (store_text Tagged (store_of store cells)))
   -- a crash during its four disk calls leaves the file not there, or the whole store
-  pub atomic : Throughout (OnlyAt store.name (IsWholeOrNot (store_text (store_of store cells))) old) 4 old new
+  pub atomic : Throughout (OnlyAt store.name (IsWholeOrNot (store_text Tagged (store_of store cells))) old) 4 old new

@@ -3,3 +3,4 @@ pub mod Open
 pub mod Reading
 pub mod ReadingLaws
 pub mod Whole
+pub mod Text

@@ -2,7 +2,8 @@
 
 ghost use Rattle.std.specs.Prelude.{◌≡◌, ◌≤◌, ◌+◌, [], ◌++◌, length, IfOk, IsTrue, ◌↔◌};
 ghost use Rattle.byteorder.specs.Endian.{big_bytes};
-ghost use Rattle.cell_model.specs.Cell.{spelling, spelling_length};
+ghost use Rattle.cell_model.specs.Cell.{spelled, spelled_length};
+ghost use Rattle.cell_model.specs.declared.form.Form.TheVariants.{Tagged};
 ghost use Rattle.store_file.specs.Open.{fields_text};
 
 use kv_cell::{Cell, NoMemory, put, put_u32, put_u64};
@@ -53,13 +54,16 @@ impl Buffer {
     }
 
     /// Adds the fields in front of a store's cells, for which there is room.
-    pub(crate) fn add_fields(&mut self, region: u32, from: u64, to: u64, count: u64)
-        requires { length self.old + 32 ≤ 262144 }
-        ensures bytes { self.new ≡ self.old ++ fields_text region from to count }
-        ensures len { length self.new ≡ length self.old + 32 }
+    pub(crate) fn add_fields(&mut self, region: u32, family: &[u8], from: u64, to: u64, count: u64)
+        requires short { length family.now ≤ 127 }
+        requires room { length self.old + (34 + length family.now) ≤ 262144 }
+        ensures bytes { self.new ≡ self.old ++ fields_text region family.now from to count }
+        ensures len { length self.new ≡ length self.old + (34 + length family.now) }
     {
-        put(&mut self.bytes, b"HWS1");
+        put(&mut self.bytes, b"HWS2");
         put_u32(&mut self.bytes, region);
+        put(&mut self.bytes, &[0, family.len() as u8]);
+        put(&mut self.bytes, family);
         put_u64(&mut self.bytes, from);
         put_u64(&mut self.bytes, to);
         put_u64(&mut self.bytes, count);
@@ -67,12 +71,12 @@ impl Buffer {
 
     /// Adds a cell with its number in front, for which there is room.
     pub(crate) fn add_pair(&mut self, number: u64, cell: &Cell)
-        requires { length self.old + (8 + spelling_length cell.now) ≤ 262144 }
-        ensures bytes { self.new ≡ self.old ++ (big_bytes 8 number ++ spelling cell.now) }
-        ensures len { length self.new ≡ length self.old + (8 + spelling_length cell.now) }
+        requires { length self.old + (8 + spelled_length Tagged cell.now) ≤ 262144 }
+        ensures bytes { self.new ≡ self.old ++ (big_bytes 8 number ++ spelled Tagged cell.now) }
+        ensures len { length self.new ≡ length self.old + (8 + spelled_length Tagged cell.now) }
     {
         put_u64(&mut self.bytes, number);
-        cell.put_into(&mut self.bytes);
+        cell.put_tagged(&mut self.bytes);
     }
 
     pub(crate) fn clear(&mut self)

@@ -16,7 +16,7 @@ use crate::buffer::Buffer;
 use crate::commit::commit_filled;
 use disk_images::{Disk, Name, create_durably, write_behind};
 use file_base::{DiskFault, FileRefusal};
-use kv_cell::Cell;
+use kv_cell::{Cell, Octets};
 use log_model::CLOSED_GATE;
 use std::alloc::Global;
 use std::marker::Model;
@@ -25,6 +25,7 @@ use std::marker::Model;
 #[derive(Debug, Drop)]
 pub struct StoreFile {
     name: Name,
+    family: Octets,
     from: u64,
     to: u64,
     count: u64,
@@ -38,38 +39,43 @@ impl Model for StoreFile {
 
     ghost Value = { OpenStore };
 
-    ghost view = { λ f. record { name = f.name; from = f.from; to = f.to; count = f.count; filled = f.filled; at = f.at; bytes = f.buffer } };
+    ghost view = { λ f. record { name = f.name; family = f.family; from = f.from; to = f.to; count = f.count; filled = f.filled; at = f.at; bytes = f.buffer } };
 
-    ghost invariant = { λ f. IsBounded (record { name = f.name; from = f.from; to = f.to; count = f.count; filled = f.filled; at = f.at; bytes = f.buffer }) };
+    ghost invariant = { λ f. IsBounded
+        (record { name = f.name; family = f.family; from = f.from; to = f.to; count = f.count; filled = f.filled; at = f.at; bytes = f.buffer }) };
 }
 
 impl StoreFile {
-    /// Begins the file of a store that covers the sequence ids from `from` to `to`, with `count` cells, whose name is
-    /// neither there nor gone. Memory is taken before the first disk call, of which there are three.
+    /// Begins the file of a store that covers the sequence ids from `from` to `to`, with `count` cells, all of the family
+    /// (at most 127 bytes) or of any where it is empty. The name is neither there nor gone. Memory is taken before the
+    /// first disk call, of which there are three.
     pub fn begin<D: Disk>(
         alloc: Global,
         disk: &mut D,
         name: Name,
+        family: &[u8],
         from: u64,
         to: u64,
         count: u64,
     ) -> Result<StoreFile, FileRefusal>
         requires absent { IsTrue D.told → IsAbsent (D.view disk.old).files name × (¬ (D.view disk.old).gone name) }
         requires kind { name.kind ≡ kinds.Store }
+        requires family { length family.now ≤ 127 }
         requires range { (1 ≤ from) × (from ≤ to) × (to < 2 ^ 48) }
 
         // What the disk and every crash image hold.
         ensures begins { IsTrue D.told → Begins name result (D.view disk.old) (D.view disk.new) }
 
         // What the writer holds.
-        ensures shape { IfOk result (IsNew name from to count) }
+        ensures shape { IfOk result (IsNew name family.now from to count) }
 
         // When it fails.
         ensures memory { IsErrOf result FileRefusal.Memory → disk.new ≡ disk.old }
         ensures cause { HasCause (D.faults disk.old) (D.faults disk.new) (IsErrOf result FileRefusal.DiskFault) }
     {
         let buffer = Buffer::new(alloc)?;
-        let store = StoreFile::begin_with(disk, name, from, to, count, buffer)?;
+        let family = Octets::copy_of(alloc, family)?;
+        let store = StoreFile::begin_with(disk, name, family, from, to, count, buffer)?;
         Ok(store)
     }
 
@@ -77,6 +83,7 @@ impl StoreFile {
     fn begin_with<D: Disk>(
         disk: &mut D,
         name: Name,
+        family: Octets,
         from: u64,
         to: u64,
         count: u64,
@@ -84,18 +91,20 @@ impl StoreFile {
     ) -> Result<StoreFile, DiskFault>
         requires absent { IsTrue D.told → IsAbsent (D.view disk.old).files name × (¬ (D.view disk.old).gone name) }
         requires kind { name.kind ≡ kinds.Store }
+        requires short { length family ≤ 127 }
         requires empty { buffer ≡ [] }
 
         ensures begins { IsTrue D.told → Begins name result (D.view disk.old) (D.view disk.new) }
-        ensures shape { IfOk result (IsNew name from to count) }
+        ensures shape { IfOk result (IsNew name family from to count) }
         ensures cause { HasCause (D.faults disk.old) (D.faults disk.new) (IsErr result) }
     {
         // Until the sync a crash leaves no file, or one of at most this byte, a closed gate: neither is there.
         create_durably(disk, name, &[CLOSED_GATE])?;
         let mut buffer = buffer;
-        buffer.add_fields(name.region, from, to, count);
+        buffer.add_fields(name.region, family.as_slice(), from, to, count);
         Ok(StoreFile {
             name,
+            family,
             from,
             to,
             count,
@@ -122,7 +131,7 @@ impl StoreFile {
         // When it fails.
         ensures cause { HasCause (D.faults disk.old) (D.faults disk.new) (IsErr result) }
     {
-        self.make_room(disk, 8 + cell.encoded_len())?;
+        self.make_room(disk, 8 + cell.tagged_len())?;
         self.buffer.add_pair(number, cell);
         self.filled += 1;
         Ok(())

@@ -2,7 +2,8 @@
 //!
 //! A file is begun with a closed gate, filled cell by cell, and `commit` makes it durable and opens the gate: at each
 //! moment a crash leaves the whole store, or a file that isn't there. `read_store` gives back what stands in one, or
-//! where it is damaged.
+//! where it is damaged. Files are written as `HWS2`, with the cells' tags, the scope 0 and the name of a family, which may
+//! be empty; those of `HWS1`, which have none of these, are read too.
 //!
 //! A store file doesn't choose its name, and doesn't put cells in order: that is its caller's part.
 #![tactic(auto)]

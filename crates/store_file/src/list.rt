@@ -1,10 +1,14 @@
 //! What stands in a store file.
 
-use kv_cell::NumberedCells;
+use kv_cell::{NumberedCells, Octets};
 
 /// What stands in a store file that is there.
 #[derive(Debug, Drop)]
 pub struct StoreText {
+    /// 0. A store that tells another scope is damaged.
+    pub scope: u8,
+    /// The family that all its cells have, at most 127 bytes, or none where they are of any.
+    pub family: Octets,
     /// The first sequence id that it covers, at least 1.
     pub from: u64,
     /// The last sequence id that it covers, at least the first and at most 2^48-1.

@@ -6,6 +6,7 @@ ghost use Rattle.log_model.specs.Files.{Reads};
 ghost use Rattle.disk_images.specs.Calls.{HasCause};
 ghost use Rattle.file_base.specs.Looking.{OnlyLooks};
 ghost use Rattle.file_base.specs.Refusal.{IfDamaged};
+ghost use Rattle.store_file.specs.Text.{store_in};
 
 use crate::list::StoreText;
 use crate::reading::parse_store;
@@ -17,7 +18,7 @@ use std::alloc::Global;
 /// How many bytes are read at once.
 const PIECE: usize = 262_144;
 
-/// Files of so many bytes and more are refused for want of memory.
+/// Files of so many bytes and more are refused as out of memory.
 const TOO_LONG: u64 = 0x8000_0000_0000_0000;
 
 /// Reads a file that is there, in pieces of 262,144 bytes, up to the size found first. It gives None exactly where the
@@ -31,11 +32,11 @@ pub fn read_store<D: Disk>(
     requires { IsTrue D.told → ∥ ((c : List ℕ) × Reads (D.view disk.old).files name c) ∥₁ }
 
     // On any disk what is read is a store of the name's region.
-    ensures store { IfOk result (λ text. IfSome text (λ t. IsStore (record { region = name.region; from = t.from; to = t.to; cells = t.cells }))) }
+    ensures store { IfOk result (λ text. IfSome text (λ t. IsStore (store_in name.region t))) }
 
     // What is read stands there, and what is refused as damaged is damaged there.
     ensures text { IsTrue D.told → (c : List ℕ) → Reads (D.view disk.old).files name c → IfOk result (λ text. MatchOption text (IsThere c → ⊥)
-        (λ t. IsThere c × IsStoreText name.region c (record { region = name.region; from = t.from; to = t.to; cells = t.cells }))) }
+        (λ t. IsThere c × IsStoreText name.region c (store_in name.region t))) }
     ensures damaged { IsTrue D.told → (c : List ℕ) → Reads (D.view disk.old).files name c → IfDamaged result (λ at. IsStoreDamaged name.region c at) }
     ensures looks { IsTrue D.told → (c : List ℕ) → Reads (D.view disk.old).files name c → OnlyLooks (length c + 1) (D.view disk.old) (D.view disk.new) }
     ensures cause { HasCause (D.faults disk.old) (D.faults disk.new) (IsErrOf result ReadRefusal.DiskFault) }

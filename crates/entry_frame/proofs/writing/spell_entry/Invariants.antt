@@ -1,8 +1,8 @@
 use Rattle.std.proofs.Common.{◌≡◌, ◌++◌, take}
 use Rattle.std.specs.List.{flat_map}
-use Rattle.cell_model.specs.Cell.{spelling}
+use Rattle.cell_model.specs.Cell.{spelled}
 use Rattle.entry_frame.proofs.writing.spell_entry.Given as goal
 
 -- the cells so far stand behind the head
 abbrev pub invariant-loop-cell : goal.invariant-loop-cell
-invariant-loop-cell l = l.bytes.items ≡ l.initial.bytes.items ++ flat_map spelling (take l.cell-index l.cells)
+invariant-loop-cell l = l.bytes.items ≡ l.initial.bytes.items ++ flat_map (spelled l.form) (take l.cell-index l.cells)

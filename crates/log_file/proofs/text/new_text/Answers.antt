@@ -1,7 +1,9 @@
-use Rattle.std.proofs.Common.{List, [], ◌∷◌, ℕ, get_or, ap}
+use Rattle.std.proofs.Common.{List, [], ◌∷◌, ◌++◌, ℕ, sym, ap, ◌∙◌}
+use Rattle.std.proofs.lemmas.List.{append-nil}
+use Rattle.log_model.specs.LogText.{header}
 use Rattle.log_file.specs.LogText.{front}
 use Rattle.log_file.proofs.text.new_text.Goals as goal
 
 pub returns : goal.returns
 unfolding front
-returns c = ap (λ (r : List ℕ). 72 ∷ 87 ∷ 76 ∷ 49 ∷ 0 ∷ 0 ∷ 0 ∷ 1 ∷ get_or r 0 0 ∷ get_or r 1 0 ∷ get_or r 2 0 ∷ get_or r 3 0 ∷ get_or r 4 0 ∷ get_or r 5 0 ∷ get_or r 6 0 ∷ get_or r 7 0 ∷ 0 ∷ []) c.to_be_bytes.ensures
+returns c = ap (λ (x : List ℕ). x ++ 0 ∷ []) (c.copy_from_slice.ensures.after ∙ c.file_header.ensures ∙ sym (append-nil (header 2 c.args.number)))

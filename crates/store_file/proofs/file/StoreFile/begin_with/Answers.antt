@@ -1,4 +1,4 @@
-use Rattle.std.proofs.Common.{rules, refl, ◌∙◌, ap, List, ℕ, ◌++◌, arith, length}
+use Rattle.std.proofs.Common.{rules, refl, ◌∙◌, ap, ◌++◌, arith, length}
 use Rattle.store_file.specs.Open.{OpenStore, fields_text}
 use Rattle.store_file.proofs.Stores.{begin_moments}
 use Rattle.store_file.proofs.Writing.{begun_filling}
@@ -14,16 +14,16 @@ returns-in_err-create_durably-clause-begins g c told = record {
 pub invariant_of-result : goal.invariant_of-result
 invariant_of-result g c = record {
   small = omega arith;
-  waiting = omega (arith, c.add_fields.ensures.len, ap length c.requires.«empty»);
+  waiting = omega (arith, c.add_fields.ensures.len, ap length c.requires.«empty», ap length c.as_slice.ensures, c.requires.short);
   counted = omega arith;
 }
 
 pub returns-clause-begins : goal.returns-clause-begins
 returns-clause-begins g c told =
-    let o : OpenStore = record { name = c.args.name; from = c.args.from; to = c.args.to; count = c.args.count; filled = 0; at = 1; bytes = c.add_fields.new.self } in
+    let o : OpenStore = record { name = c.args.name; family = c.args.family; from = c.args.from; to = c.args.to; count = c.args.count; filled = 0; at = 1; bytes = c.add_fields.new.self } in
     record {
       filling = begun_filling o (g.D.Disk.view c.create_durably.new.disk) (c.in_ok-create_durably.ensures.durable told) refl
-          (c.add_fields.ensures.bytes ∙ ap (λ (l : List ℕ). l ++ fields_text c.args.name.region c.args.from c.args.to c.args.count) c.requires.«empty») refl;
+          (c.add_fields.ensures.bytes ∙ (λ i. c.requires.«empty» i ++ fields_text c.args.name.region (c.as_slice.ensures i) c.args.from c.args.to c.args.count)) refl;
       never_there = begin_moments c.args.name (g.D.Disk.view c.args.disk.now) (g.D.Disk.view c.create_durably.new.disk) (c.create_durably.ensures.any_moment told);
       no_other_file = c.create_durably.ensures.touches told;
     }

@@ -1,5 +1,6 @@
 use Rattle.std.proofs.Common.{rules, ◌≡◌, sym, ap, ◌∙◌}
 use Rattle.std.proofs.Math.Logic.{∥∥₁_map}
+use Rattle.cell_model.specs.declared.form.Form.TheVariants.{Tagged}
 use Rattle.log_model.specs.StoreText.{store_text}
 use Rattle.store_file.specs.Open.{OpenStore, store_of}
 use Rattle.store_file.proofs.Writing.{written_file, stored_whole, moments_whole, moments_none}
@@ -23,7 +24,7 @@ commit_filled-requires g c told =
 pub returns-in_err-write_out-clause-commits : goal.returns-in_err-write_out-clause-commits
 returns-in_err-write_out-clause-commits g c told cells was = record {
   durable = search rules;
-  atomic = moments_none c.args.self (store_text (store_of c.args.self cells)) (g.D.Disk.view c.args.disk.now) (g.D.Disk.view c.write_out.new.disk) (c.write_out.ensures.any_moment told cells was);
+  atomic = moments_none c.args.self (store_text Tagged (store_of c.args.self cells)) (g.D.Disk.view c.args.disk.now) (g.D.Disk.view c.write_out.new.disk) (c.write_out.ensures.any_moment told cells was);
 }
 
 pub returns-in_err-commit_filled-clause-commits : goal.returns-in_err-commit_filled-clause-commits

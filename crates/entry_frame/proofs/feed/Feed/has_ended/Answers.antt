@@ -1,0 +1,7 @@
+use Rattle.std.proofs.Common.{sym, ap, ◌∙◌}
+use Rattle.entry_frame.specs.Feed.{Feeding}
+use Rattle.entry_frame.proofs.FeedLaws.{ended_goes_on}
+use Rattle.entry_frame.proofs.feed.Feed.has_ended.Goals as goal
+
+pub returns-in-Ended-clause-more : goal.returns-in-Ended-clause-more
+returns-in-Ended-clause-more c = λ yes given more taken h. ended_goes_on c.args.self.now c.in-Ended.field-0 (ap (λ (f : Feeding). f.phase) (sym c.self.view_is) ∙ c.in-Ended.is) given more taken h
