@@ -26,7 +26,7 @@ use Rattle.found_files.proofs.NameOrder.{there}
 use Rattle.found_files.proofs.Whole.{read_whole}
 
 pub some_found : FoundEntry
-some_found = record { name = record { kind = kinds.Log; region = 0; number = 0 }; entry = record { region = 0; number = 0; time = 0; cells = [] } }
+some_found = record { name = record { kind = kinds.Log; region = 0; number = 0 }; entry = record { region = 0; number = 0; time = 0; batch = record { table = []; cells = [] } } }
 
 -- a name at or before one that is before a third is before it
 name_before : (a b c : Name) → name_cmp b a ≢ Less → name_cmp b c ≡ Less → name_cmp a c ≡ Less

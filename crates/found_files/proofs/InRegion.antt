@@ -15,7 +15,8 @@ use Rattle.log_model.specs.declared.name.NameKind.TheVariants as kinds
 use Rattle.log_model.specs.declared.damage.Damage.{Damage}
 use Rattle.log_model.specs.declared.damage.Damage.TheVariants as damages
 use Rattle.log_model.specs.Entry.{Entry}
-use Rattle.log_model.specs.LogText.{IsEntryOf, IsLogText}
+use Rattle.log_model.specs.LogText.{IsEntryOf, in_version}
+use Rattle.log_model.proofs.TextLaws.{HasVersion, with_version}
 use Rattle.log_model.specs.Files.{Files, HoldsEntries, IsLogFile, IsPresent, Reads, content, key_of, name_cmp}
 use Rattle.log_model.specs.Damage.{HasDamage, IsFirstDamageOf}
 use Rattle.log_model.specs.Damage.HasDamage.{Logged, Stored}
@@ -124,11 +125,11 @@ hurt_present files m at (Stored bytes is kind damaged) = λ none. absurd (cc (sy
 -- ---- an entry of an edits file of a region is of that region
 
 pub entry_region : (files : Files) (m : Name) (l : List Entry) (e : Entry) → IsLogFile files m l → Contains l e → 1 ≤ m.region → e.region ≡ m.region
-entry_region files m l e file member given = go file.text
+entry_region files m l e file member given = go (with_version (key_of m) file.bytes l file.ended file.text)
   where
-    go : IsLogText (key_of m) file.bytes l file.ended → e.region ≡ m.region
-    go (inl short) = absurd (none_in e (subst (λ (k : List Entry). Contains k e) short.1 member))
-    go (inr (rest, begins, ends)) = (All-contains (IsEntryOf (key_of m)) l e (All-from_recursion (IsEntryOf (key_of m)) l begins.each) member).region (λ zero. omega (arith, given, zero))
+    go : HasVersion (key_of m) file.bytes l file.ended → e.region ≡ m.region
+    go (v, known, inl short) = absurd (none_in e (subst (λ (k : List Entry). Contains k e) short.1 member))
+    go (v, known, inr (rest, begins, ends)) = (All-contains (IsEntryOf (in_version v (key_of m))) l e (All-from_recursion (IsEntryOf (in_version v (key_of m))) l begins.each) member).region (λ zero. omega (arith, given, zero))
 
 edits_only : (r : ℕ) (m : Name) → IsOfRegion r m → HoldsEntries m.kind → IsEditsOf r m
 edits_only r m of holds = (

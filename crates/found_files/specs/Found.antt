@@ -7,6 +7,7 @@ use Rattle.log_model.specs.declared.name.NameKind.TheVariants as kinds
 use Rattle.log_model.specs.Entry.{Entry}
 use Rattle.log_model.specs.StoreText.{Store, IsStore, IsThere}
 use Rattle.log_model.specs.Files.{Files, HoldsEntries, IsLogFile, IsStoreFile, name_cmp}
+use Rattle.store_file.specs.Text.{store_in}
 use Rattle.found_files.specs.declared.found.FoundEntry.{FoundEntry}
 use Rattle.found_files.specs.declared.found.FoundStore.{FoundStore}
 use Rattle.found_files.specs.Names.{IsBadAmong}
@@ -19,7 +20,7 @@ abbrev pub placed : Name → List Entry → List FoundEntry
 placed name es = map (place_in name) es
 
 abbrev pub store_of : FoundStore → Store
-store_of x = record { region = x.name.region; from = x.text.from; to = x.text.to; cells = x.text.cells }
+store_of x = store_in x.name.region x.text
 
 -- a file of entries was read
 pub record ReadsEntries (told : Type 0) (files : Files) (name : Name) (old new : List FoundEntry) : Type 0 where

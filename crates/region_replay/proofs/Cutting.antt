@@ -1,5 +1,6 @@
 -- A store of a region's unflushed cells, as it appears.
-use Rattle.std.proofs.Common.{◌≡◌, ℕ, List, refl, arith}
+use Rattle.std.proofs.Common.{◌≡◌, ℕ, List, [], refl, arith}
+use Rattle.cell_model.specs.declared.form.Form.TheVariants.{Tagged}
 use Rattle.cell_model.specs.Order.{NumberedCell}
 use Rattle.log_model.specs.declared.name.Name.{Name}
 use Rattle.log_model.specs.declared.name.NameKind.TheVariants as kinds
@@ -11,6 +12,7 @@ use Rattle.disk_images.specs.OneFile.{Touches, IsDurableFile}
 use Rattle.disk_images.specs.Calls.{IsTrueDisk}
 use Rattle.disk_images.proofs.Moments.{at_once}
 use Rattle.store_file.specs.Whole.{IsWholeOrNot}
+use Rattle.store_file.proofs.Texts.{tagged_text}
 use Rattle.flush_snapshot.specs.Cut.{cut_store}
 use Rattle.flush_snapshot.proofs.Holds.{cut_holds}
 use Rattle.recovery.specs.Alike.{AllAlike}
@@ -20,14 +22,14 @@ use Rattle.wal_split.proofs.Holding.{held_moments, still_held}
 use Rattle.region_replay.proofs.Showing.{cut_in}
 use Rattle.region_replay.specs.Cuts.{IsUnflushedCut}
 
-gate_of : (s : Store) → IsThere (store_text s)
+gate_of : (s : Store) → IsThere (store_text Tagged s)
 unfolding store_text
 gate_of s = (omega arith, refl)
 
-whole_cut : (files : Files) (name : Name) (from to : ℕ) (cut : List NumberedCell) → IsUnflushedCut files name.region to cut → IsWholeCut files name.region (cut_store name from to cut)
+whole_cut : (files : Files) (name : Name) (from to : ℕ) (cut : List NumberedCell) → IsUnflushedCut files name.region to cut → IsWholeCut files name.region (cut_store name [] from to cut)
 whole_cut files name from to cut c = record {
   region = refl;
-  holds = λ v p. (λ h. (c.puts v p).0 ((cut_holds name from to cut v p).0 h), λ u. (cut_holds name from to cut v p).1 ((c.puts v p).1 u));
+  holds = λ v p. (λ h. (c.puts v p).0 ((cut_holds name [] from to cut v p).0 h), λ u. (cut_holds name [] from to cut v p).1 ((c.puts v p).1 u));
   name = c.name;
   entries = c.entries;
   file = c.file;
@@ -39,21 +41,21 @@ whole_cut files name from to cut c = record {
 }
 
 module _ (base : Files) (v w : DiskView) (held : IsHeld base v) (sound : IsTrueDisk v) (name : Name) (from to : ℕ) (cut : List NumberedCell) (kind : name.kind ≡ kinds.Store) (absent : IsAbsent v.files name) (free : ¬ v.gone name)
-    (is : IsUnflushedCut v.files name.region to cut) (store : IsStore (cut_store name from to cut)) (by : ℕ)
-    (over : Throughout (OnlyAt name (IsWholeOrNot (store_text (cut_store name from to cut))) v) by v w) where
-  nothing : (I J : Files) → IsImageNow v I → SameBut name I J → IsWholeOrNot (store_text (cut_store name from to cut)) (content J name) → AllAlike I J
+    (is : IsUnflushedCut v.files name.region to cut) (store : IsStore (cut_store name [] from to cut)) (by : ℕ)
+    (over : Throughout (OnlyAt name (IsWholeOrNot (store_text Tagged (cut_store name [] from to cut))) v) by v w) where
+  nothing : (I J : Files) → IsImageNow v I → SameBut name I J → IsWholeOrNot (store_text Tagged (cut_store name [] from to cut)) (content J name) → AllAlike I J
   nothing I J now same here =
-      cut_in base v held sound name (cut_store name from to cut) kind absent free (whole_cut v.files name from to cut is) (gate_of (cut_store name from to cut)) (record { store = store; region = refl; is = refl }) I J now same here
+      cut_in base v held sound name (cut_store name [] from to cut) kind absent free (whole_cut v.files name from to cut is) (gate_of (cut_store name [] from to cut)) (tagged_text (cut_store name [] from to cut) store) I J now same here
 
   pub cut_moments : (by : ℕ) × Throughout (AllAlike base) by v w
-  cut_moments = (by, held_moments base v w name held (IsWholeOrNot (store_text (cut_store name from to cut))) by nothing over)
+  cut_moments = (by, held_moments base v w name held (IsWholeOrNot (store_text Tagged (cut_store name [] from to cut))) by nothing over)
 
-  pub cut_held : Touches name v w → IsDurableFile w name (store_text (cut_store name from to cut)) → IsHeld base w
-  cut_held touches durable = still_held base v w name held (IsWholeOrNot (store_text (cut_store name from to cut))) by (store_text (cut_store name from to cut)) nothing over touches durable
+  pub cut_held : Touches name v w → IsDurableFile w name (store_text Tagged (cut_store name [] from to cut)) → IsHeld base w
+  cut_held touches durable = still_held base v w name held (IsWholeOrNot (store_text Tagged (cut_store name [] from to cut))) by (store_text Tagged (cut_store name [] from to cut)) nothing over touches durable
 
-pub cut_flushes : (w : DiskView) (name : Name) (from to : ℕ) (cut : List NumberedCell) → name.kind ≡ kinds.Store → IsStore (cut_store name from to cut) → IsDurableFile w name (store_text (cut_store name from to cut)) → FlushesTo w.files name.region to
+pub cut_flushes : (w : DiskView) (name : Name) (from to : ℕ) (cut : List NumberedCell) → name.kind ≡ kinds.Store → IsStore (cut_store name [] from to cut) → IsDurableFile w name (store_text Tagged (cut_store name [] from to cut)) → FlushesTo w.files name.region to
 cut_flushes w name from to cut kind store durable =
-    (name, cut_store name from to cut, record { kind = kind; of = refl; bytes = store_text (cut_store name from to cut); there = durable.reads; gate = gate_of (cut_store name from to cut); text = record { store = store; region = refl; is = refl } }, refl)
+    (name, cut_store name [] from to cut, record { kind = kind; of = refl; bytes = store_text Tagged (cut_store name [] from to cut); there = durable.reads; gate = gate_of (cut_store name [] from to cut); text = tagged_text (cut_store name [] from to cut) store }, refl)
 
 pub none_written : (base : Files) (v : DiskView) → IsHeld base v → (by : ℕ) × Throughout (AllAlike base) by v v
 none_written base v held = (0, at_once (AllAlike base) v held.alike)

@@ -43,7 +43,7 @@ at_within P n (c ∷ cs) p = (p, at_within P n cs p)
 -- the cells of entries have their sequence ids
 pub entries_within : (P : ℕ → Type 0) (es : List Entry) → ((e : Entry) → Contains es e → P e.number) → AllByRecursion (λ x. P x.0) (entries_cells es)
 entries_within P [] each = tt
-entries_within P (e ∷ es) each = all_append (λ (x : NumberedCell). P x.0) (at_number e.number e.cells) (entries_cells es) (at_within P e.number e.cells (each e (is_first e es))) (entries_within P es (λ d has. each d (is_later e es d has)))
+entries_within P (e ∷ es) each = all_append (λ (x : NumberedCell). P x.0) (at_number e.number e.batch.cells) (entries_cells es) (at_within P e.number e.batch.cells (each e (is_first e es))) (entries_within P es (λ d has. each d (is_later e es d has)))
 
 each_in : (P : NumberedCell → Type 0) (xs : List NumberedCell) (x : NumberedCell) → AllByRecursion P xs → Contains xs x → P x
 each_in P [] x each is = absurd (none_in x is)

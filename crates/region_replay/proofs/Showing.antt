@@ -1,5 +1,6 @@
 -- What a store file that is written, and then shown, leaves held.
 use Rattle.std.proofs.Common.{◌≡◌, ◌⊎◌, inl, inr, Some, None, refl, sym, ◌∙◌}
+use Rattle.cell_model.specs.declared.form.Form.TheVariants.{Tagged}
 use Rattle.log_model.specs.declared.name.Name.{Name}
 use Rattle.log_model.specs.declared.name.NameKind.TheVariants as kinds
 use Rattle.log_model.specs.StoreText.{Store, IsThere, IsStoreText, store_text}
@@ -22,8 +23,8 @@ alike_between base I J first second r = record {
 
 -- an image while a store is written with all that is unflushed of its region
 pub cut_in : (base : Files) (v : DiskView) (held : IsHeld base v) (sound : IsTrueDisk v) (name : Name) (s : Store) → name.kind ≡ kinds.Store → IsAbsent v.files name → ¬ v.gone name
-    → IsWholeCut v.files name.region s → IsThere (store_text s) → IsStoreText name.region (store_text s) s
-    → (I J : Files) → IsImageNow v I → SameBut name I J → IsNotThere (content J name) ⊎ (content J name ≡ Some (store_text s)) → AllAlike I J
+    → IsWholeCut v.files name.region s → IsThere (store_text Tagged s) → IsStoreText name.region (store_text Tagged s) s
+    → (I J : Files) → IsImageNow v I → SameBut name I J → IsNotThere (content J name) ⊎ (content J name ≡ Some (store_text Tagged s)) → AllAlike I J
 cut_in base v held sound name s kind absent free cut gate text I J now same here =
     let none : content I name ≡ None = sound.absent name absent free I now in
     let not_before : IsNotThere (content I name) = λ bytes is open_gate. absurd (cc (sym none ∙ is)) in
@@ -34,6 +35,6 @@ cut_in base v held sound name s kind absent free cut gate text I J now same here
           let from_reads : AllAlike v.files I = alike_between base v.files I at_reads (held.alike I now) in
           let after : AllAlike v.files J = replayed v.files I J name s from_reads (held.stores I now) cut
           (λ m es edits file. record { kind = file.kind; bytes = file.bytes; there = held.there I m now file.kind (λ gone. absurd (cc (sym gone ∙ file.there))) ∙ file.there; ended = file.ended; text = file.text })
-          kind same not_before (record { kind = kind; of = refl; bytes = store_text s; there = shown; gate = gate; text = text }) in
+          kind same not_before (record { kind = kind; of = refl; bytes = store_text Tagged s; there = shown; gate = gate; text = text }) in
           alike_between v.files I J from_reads after
     ]

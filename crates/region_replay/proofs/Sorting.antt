@@ -193,9 +193,9 @@ newest_got (x ∷ xs) v p each rising h = got_stores x xs v ∙ elim (first_or_l
 pub put_entries_all : (es : List Entry) (m : Content) → put_numbered m (entries_cells es) ≡ put_entries m es
 put_entries_all [] m = refl
 put_entries_all (e ∷ es) m =
-    put_numbered-append m (at_number e.number e.cells) (entries_cells es)
-    ∙ ap (λ (c : Content). put_numbered c (entries_cells es)) (sym (put_cells-numbered m e.number e.cells))
-    ∙ put_entries_all es (put_cells m e.number e.cells)
+    put_numbered-append m (at_number e.number e.batch.cells) (entries_cells es)
+    ∙ ap (λ (c : Content). put_numbered c (entries_cells es)) (sym (put_cells-numbered m e.number e.batch.cells))
+    ∙ put_entries_all es (put_cells m e.number e.batch.cells)
 
 pub one_sort : OneSortGivesTheBase
 one_sort files r ss es stores unflushed v p = (forth, back)

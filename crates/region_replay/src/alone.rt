@@ -144,7 +144,8 @@ fn all_cells(alloc: Global, stores: Vec<FoundStore>) -> Result<NumberedCells, No
 {
     let mut cells = NumberedCells::new(alloc);
     for store in stores {
-        append_cells(&mut cells, store.text.cells)?;
+        let FoundStore { text, .. } = store;
+        append_cells(&mut cells, text.cells)?;
     }
     Ok(cells)
 }

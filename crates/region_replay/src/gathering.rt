@@ -27,7 +27,7 @@ pub(crate) fn entry_cells(alloc: Global, entries: Vec<Entry>) -> Result<Numbered
 
 /// Adds the cells of an entry.
 fn add_cells(cells: &mut NumberedCells, entry: Entry) -> Result<(), NoMemory>
-    ensures { OnOk result (cells.new ≡ cells.old ++ at_number entry.number entry.cells) }
+    ensures { OnOk result (cells.new ≡ cells.old ++ at_number entry.number entry.batch.cells) }
 {
     let number = entry.number;
     push_all(cells, number, entry.batch.into_vec())

@@ -46,7 +46,7 @@ pub(crate) fn store_unflushed<D: Disk>(
     ensures touches { IsTrue D.told → Touches name (D.view disk.old) (D.view disk.new) }
     ensures cause { HasCause (D.faults disk.old) (D.faults disk.new) (IsErrOf result FileRefusal.DiskFault) }
 {
-    match store_cut(alloc, disk, name, from, to, cut) {
+    match store_cut(alloc, disk, name, &[], from, to, cut) {
         Ok(segment) => Ok(segment),
         Err(FileRefusal::Memory) => Err(FileRefusal::Memory),
         Err(FileRefusal::DiskFault) => Err(FileRefusal::DiskFault),

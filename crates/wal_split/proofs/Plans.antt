@@ -8,7 +8,8 @@ use Rattle.log_model.specs.declared.name.Name.{Name}
 use Rattle.log_model.specs.declared.name.NameKind.TheVariants as kinds
 use Rattle.log_model.specs.Entry.{Entry, IsEntry}
 use Rattle.log_model.specs.StoreText.{Store, IsStoreText}
-use Rattle.log_model.specs.LogText.{IsEntryOf, IsLogText}
+use Rattle.log_model.specs.LogText.{IsEntryOf, in_version}
+use Rattle.log_model.proofs.TextLaws.{HasVersion, with_version}
 use Rattle.log_model.specs.Files.{Files, content, Reads, IsAbsent, IsPresent, IsLogFile, IsLogged, IsStoreFile, key_of}
 use Rattle.log_model.specs.Recovered.{FlushesTo}
 use Rattle.disk_images.specs.Crash.{DiskView}
@@ -59,9 +60,9 @@ module _ (names : List Name) (xs : List FoundEntry) (ss : List FoundStore) (p : 
     each = λ j has.
         let q = place j has in
         let region : j.name.region ≡ q.0 + 1 = ap (λ (n : Name). n.region) (name_at j q.0 q.1 q.2) in
-        recursion_from_All (IsEntryOf (key_of j.name)) j.entries.items (λ i d lt.
+        recursion_from_All (IsEntryOf (in_version 2 (key_of j.name))) j.entries.items (λ i d lt.
         let r = entry_at j q.0 (get_or j.entries.items i d) q.1 q.2 (Contains-get_or j.entries.items i d lt) in
-        record { entry = r.2; region = λ given. r.1 ∙ sym region });
+        record { entry = r.2; region = λ given. r.1 ∙ sym region; form = λ one. absurd (omega (arith, one)) });
     apart = λ i x j lt has same.
         let within : has.0 < i = omega (arith, has.1, take_short i) in
         let here : get_or jobs has.0 j ≡ j = sym (get_or-take i jobs has.0 j within) ∙ has.2 in
@@ -74,11 +75,11 @@ module _ (names : List Name) (xs : List FoundEntry) (ss : List FoundStore) (p : 
       take_short i = omega (arith, length-take i jobs)
 
 pub valid_entry : (files : Files) (name : Name) (l : List Entry) (e : Entry) → IsLogFile files name l → Contains l e → IsEntry e
-valid_entry files name l e file member = go file.text
+valid_entry files name l e file member = go (with_version (key_of name) file.bytes l file.ended file.text)
   where
-    go : IsLogText (key_of name) file.bytes l file.ended → IsEntry e
-    go (inl short) = absurd (none_in e (subst (λ (k : List Entry). Contains k e) short.1 member))
-    go (inr (rest, begins, ends)) = (All-contains (IsEntryOf (key_of name)) l e (All-from_recursion (IsEntryOf (key_of name)) l begins.each) member).entry
+    go : HasVersion (key_of name) file.bytes l file.ended → IsEntry e
+    go (v, known, inl short) = absurd (none_in e (subst (λ (k : List Entry). Contains k e) short.1 member))
+    go (v, known, inr (rest, begins, ends)) = (All-contains (IsEntryOf (in_version v (key_of name))) l e (All-from_recursion (IsEntryOf (in_version v (key_of name))) l begins.each) member).entry
 
 module _ (told : Type 0) (is_told : told) (v : DiskView) (true_disk : IsTrueDisk v) (settled : IsSettled v) (xs : List FoundEntry) (ss : List FoundStore) (p : Plan)
     (read : AreRead told v.files (keys v.files) (keys v.files) xs ss) (plan : IsPlan (keys v.files) xs ss p) where

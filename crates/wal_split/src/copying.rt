@@ -3,7 +3,7 @@
 ghost use Rattle.std.specs.Prelude.{◌≡◌, ◌+◌, ◌*◌, ◌++◌, ◌∷◌, [], List, Contains, None, length, IsTrue, OnOk, IsErr, IsErrOf};
 ghost use Rattle.log_model.specs.declared.name.NameKind.TheVariants as kinds;
 ghost use Rattle.log_model.specs.Entry.{Entry as TheEntry};
-ghost use Rattle.log_model.specs.LogText.{IsEntryOf};
+ghost use Rattle.log_model.specs.LogText.{IsEntryOf, in_version};
 ghost use Rattle.log_model.specs.Files.{Files, content, IsAbsent, IsLogged, key_of};
 ghost use Rattle.recovery.specs.Change.{HasText};
 ghost use Rattle.disk_images.specs.Crash.{Throughout, OnlyAt};
@@ -68,7 +68,7 @@ fn add_entries<D: Disk>(disk: &mut D, log: &mut LogFile, entries: &[Entry]) -> R
 
 /// Puts one more entry in. Where it doesn't fit the stage, what is staged is committed first.
 fn add_entry<D: Disk>(disk: &mut D, log: &mut LogFile, entry: &Entry) -> Result<(), DiskFault>
-    requires of { IsEntryOf (key_of log.old.name) entry.now }
+    requires of { IsEntryOf (in_version 2 (key_of log.old.name)) entry.now }
     requires open { IsTrue D.told → ∥ ((entries : List TheEntry) × AreIn log.old (D.view disk.old) entries) ∥₁ }
 
     ensures added { IsTrue D.told → (entries : List TheEntry) → AreIn log.old (D.view disk.old) entries
@@ -87,7 +87,7 @@ fn add_entry<D: Disk>(disk: &mut D, log: &mut LogFile, entry: &Entry) -> Result<
 
 /// Commits what is staged, and puts one more entry in.
 fn add_behind<D: Disk>(disk: &mut D, log: &mut LogFile, entry: &Entry) -> Result<(), DiskFault>
-    requires of { IsEntryOf (key_of log.old.name) entry.now }
+    requires of { IsEntryOf (in_version 2 (key_of log.old.name)) entry.now }
     requires open { IsTrue D.told → ∥ ((entries : List TheEntry) × AreIn log.old (D.view disk.old) entries) ∥₁ }
 
     ensures added { IsTrue D.told → (entries : List TheEntry) → AreIn log.old (D.view disk.old) entries
@@ -105,7 +105,7 @@ fn add_behind<D: Disk>(disk: &mut D, log: &mut LogFile, entry: &Entry) -> Result
 
 /// Stages an entry where nothing is staged, so that it fits.
 fn stage_into_empty(log: &mut LogFile, entry: &Entry)
-    requires of { IsEntryOf (key_of log.old.name) entry.now }
+    requires of { IsEntryOf (in_version 2 (key_of log.old.name)) entry.now }
     requires empty { IsStaged log.old [] }
     ensures staged { IsStaged log.new (entry.now ∷ []) }
     ensures same_file { IsSameFile log.old log.new }
