@@ -2,15 +2,33 @@
 use Rattle.std.proofs.Common.{◌≡◌, ◌⊎◌, inl, inr, ℕ, ◌+◌, ◌<◌, ◌≤◌, ◌==◌, Bool, true, false, not, List, length, Contains, refl, sym, ap, ◌∙◌, subst, arith}
 use Rattle.std.proofs.lemmas.Bool.{cases_eq, cases_lt, eq-eqb, ne_eqb}
 use Rattle.std.proofs.lemmas.List.Filters.{length-filter_both}
+use Rattle.log_model.specs.Entry.{Entry}
+use Rattle.recovery.specs.Kept.{Kept}
 use Rattle.log_model.specs.Recovered.{IsWhollyFlushed}
-use Rattle.disk_images.specs.Crash.{DiskView, Throughout}
-use Rattle.disk_images.proofs.Moments.{at_once, joined}
+use Rattle.disk_images.specs.Crash.{DiskView}
+use Rattle.disk_images.proofs.Moments.{at_once, joined, more_time}
 use Rattle.log_file.specs.Open.{OpenLog}
 use Rattle.log_ledger.specs.History.{ClosedLog, History, archived_in, is_other, with_logs}
 use Rattle.log_ledger.specs.Counted.{NoneMayGoAbove, GoesNext, LogsLeft}
 use Rattle.log_device.specs.Bears.{Bears}
-use Rattle.log_device.specs.Keeps.{Keeps, Shows, log_name}
+use Rattle.log_device.specs.Keeps.{Keeps, Shows, Renames, log_name}
 use Rattle.log_device.proofs.Lists.{passes, passed}
+
+-- one after the other
+pub renames_on : (log : OpenLog) (k : Kept) (current : List Entry) (ns : List ℕ) (m n : ℕ) (u v w : DiskView) → Renames log k current ns m u v → Renames log k current ns n v w → Renames log k current ns (m + n) u w
+renames_on log k current ns m n u v w first second = record {
+  any_moment = joined (Shows k log.name current) m n u v w first.any_moment second.any_moment;
+  names = joined (Bears k.base ns log.name.number) m n u v w first.names second.names;
+  logs = λ number. second.logs number ∙ first.logs number;
+}
+
+-- in more calls
+pub renames_within : (log : OpenLog) (k : Kept) (current : List Entry) (ns : List ℕ) (m n : ℕ) (u v : DiskView) → m ≤ n → Renames log k current ns m u v → Renames log k current ns n u v
+renames_within log k current ns m n u v more over = record {
+  any_moment = more_time (Shows k log.name current) m n u v more over.any_moment;
+  names = more_time (Bears k.base ns log.name.number) m n u v more over.names;
+  logs = over.logs;
+}
 
 -- some logs up to this number were renamed, and none of those left up to it may go
 pub record SoFar (log : OpenLog) (u v : DiskView) (h : History) (ns : List ℕ) (above : ℕ) : Type 0 where
@@ -21,8 +39,7 @@ pub record SoFar (log : OpenLog) (u v : DiskView) (h : History) (ns : List ℕ) 
   pub went : (c : ClosedLog) → Contains h.logs c → Contains left c ⊎ (IsWhollyFlushed h.kept.flushed c.entries × (c.number ≤ above))
   pub low : (c : ClosedLog) → Contains left c → 1 ≤ c.number → c.number ≤ above → IsWhollyFlushed h.kept.flushed c.entries → ⊥
   pub total : length left + calls ≤ length h.logs
-  pub moments : Throughout (Shows h.kept log.name h.current) calls u v
-  pub names : Throughout (Bears h.kept.base ns log.name.number) calls u v
+  pub renames : Renames log h.kept h.current ns calls u v
 
 pub nothing_gone : (log : OpenLog) (u : DiskView) (h : History) (ns : List ℕ) → Keeps log u h ns → SoFar log u u h ns 0
 nothing_gone log u h ns keeps = record {
@@ -33,8 +50,7 @@ nothing_gone log u h ns keeps = record {
   went = λ c has. inl has;
   low = λ c has given below whole. absurd (omega (arith, given, below));
   total = omega arith;
-  moments = at_once (Shows h.kept log.name h.current) u keeps.images;
-  names = at_once (Bears h.kept.base ns log.name.number) u keeps.names;
+  renames = record { any_moment = at_once (Shows h.kept log.name h.current) u keeps.images; names = at_once (Bears h.kept.base ns log.name.number) u keeps.names; logs = λ k. refl };
 }
 
 twice : (b : Bool) → b ≡ not (not b)
@@ -63,8 +79,8 @@ module _ (log : OpenLog) (u v : DiskView) (h : History) (ns : List ℕ) (above n
       omega (arith, those, one.1)
 
   -- one more is gone
-  pub one_gone : (w : DiskView) → Keeps log w (archived_in (with_logs h so_far.left) n) ns → Throughout (Shows h.kept log.name h.current) 1 v w → Throughout (Bears h.kept.base ns log.name.number) 1 v w → SoFar log u w h ns n
-  one_gone w keeps over named = record {
+  pub one_gone : (w : DiskView) → Keeps log w (archived_in (with_logs h so_far.left) n) ns → Renames log h.kept h.current ns 1 v w → SoFar log u w h ns n
+  one_gone w keeps renames = record {
     left = left;
     calls = so_far.calls + 1;
     keeps = keeps;
@@ -83,8 +99,7 @@ module _ (log : OpenLog) (u v : DiskView) (h : History) (ns : List ℕ) (above n
           | inr le ↦ so_far.low c was.0 given le whole
         ];
     total = omega (arith, fewer, so_far.total);
-    moments = joined (Shows h.kept log.name h.current) so_far.calls 1 u v w so_far.moments over;
-    names = joined (Bears h.kept.base ns log.name.number) so_far.calls 1 u v w so_far.names named;
+    renames = renames_on log h.kept h.current ns so_far.calls 1 u v w so_far.renames renames;
   }
 
 -- where no log above may go, those that are left are those that aren't wholly flushed

@@ -1,18 +1,18 @@
 -- Images that are like what is kept leave what a call may leave.
-use Rattle.std.proofs.Common.{◌≡◌, ◌⊎◌, inl, inr, ℕ, ◌<◌, ◌≤◌, List, [], ◌++◌, length, take, Contains, get_or, sym, ◌∙◌, subst, arith}
-use Rattle.std.proofs.lemmas.List.{take_all}
+use Rattle.std.proofs.Common.{◌≡◌, ◌⊎◌, inl, inr, ℕ, ◌<◌, ◌≤◌, List, [], ◌++◌, Contains, get_or, sym, ◌∙◌, subst}
+use Rattle.std.proofs.lemmas.List.{append-nil}
 use Rattle.std.proofs.lemmas.List.Elements.{Contains-append_left, Contains-append_right, Contains-append_cases}
 use Rattle.log_model.specs.declared.name.Name.{Name}
 use Rattle.log_model.specs.declared.name.NameKind.TheVariants as kinds
 use Rattle.log_model.specs.Entry.{Entry}
 use Rattle.log_model.specs.Files.{Files}
 use Rattle.log_model.specs.Recovered.{IsRecovered, IsLast}
-use Rattle.recovery.specs.Change.{PutBy, RecoversWith, LastsWith, RecoversSome}
-use Rattle.recovery.specs.Kept.{Kept, IsLike, IsOrderly, lasts}
+use Rattle.recovery.specs.Change.{PutBy, RecoversWith, RecoversSome}
+use Rattle.recovery.specs.Kept.{Kept, IsLike, IsOrderly, committed, lasts}
 use Rattle.recovery.proofs.Rising.{lasts-append}
 use Rattle.recovery.proofs.Lasts.{like_last, lasts_with}
-use Rattle.recovery.proofs.Likes.{like_recovers, some_alike}
-use Rattle.recovery.proofs.Longer.{longer}
+use Rattle.recovery.proofs.Likes.{like_recovers, some_alike, orderly_committed}
+use Rattle.recovery.proofs.Longer.{longer, from_base}
 use Rattle.recovery.proofs.Numbers.{stored_to}
 use Rattle.recovery.proofs.Started.{last_log}
 use Rattle.log_device.specs.Keeps.{Shows}
@@ -44,16 +44,15 @@ with_all k flushed F J f j r v p = (forth, back)
     ]
     back (inr put) = (like_recovers (gone_on k flushed) J j r v p).1 (inr (put.0, Contains-append_right k.durable k.staged put.0 put.1, put.2, put.3))
 
-pub recovers_all : (k : Kept) (flushed : ℕ → ℕ) (F J : Files) → IsLike k F → IsOrderly k → IsLike (gone_on k flushed) J → IsOrderly (gone_on k flushed) → RecoversSome F k.staged J
-recovers_all k flushed F J f orderly j after =
-    let all : k.staged ≡ take (length k.staged) k.staged = sym (take_all (length k.staged) k.staged (omega arith)) in
-    let last : (r : ℕ) → IsLast J r (lasts (lasts k.first k.durable) k.staged r) = λ r. subst (λ (n : ℕ). IsLast J r n) (lasts-append k.first k.durable k.staged r) (like_last (gone_on k flushed) J j after r) in
-    record {
-      fit = j.fit;
-      count = length k.staged;
-      recovered = subst (λ (l : List Entry). RecoversWith F l J) all (with_all k flushed F J f j);
-      last = subst (λ (l : List Entry). LastsWith F l J) all (lasts_with F J k.staged (lasts k.first k.durable) (like_last k F f orderly) last);
-    }
+-- where all that was staged is in some files, what recovers to them recovers to the files before with what was staged
+pub recovers_behind : (k : Kept) (F W J : Files) → IsLike k F → IsOrderly k → IsLike (committed k) W → RecoversSome W [] J → RecoversSome F k.staged J
+recovers_behind k F W J f orderly w some =
+    let last : (r : ℕ) → IsLast W r (lasts (lasts k.first k.durable) k.staged r) = λ r. subst (λ (n : ℕ). IsLast W r n) (lasts-append k.first k.durable k.staged r) (like_last (committed k) W w (orderly_committed k orderly) r) in
+    subst (λ (l : List Entry). RecoversSome F l J) (append-nil k.staged)
+    (from_base F W k.staged [] J (with_all k k.flushed F W f w) (lasts_with F W k.staged (lasts k.first k.durable) (like_last k F f orderly) last) some)
+
+pub recovers_all : (k : Kept) (F J : Files) → IsLike k F → IsOrderly k → IsLike (committed k) J → RecoversSome F k.staged J
+recovers_all k F J f orderly j = recovers_behind k F J J f orderly j (some_alike (committed k) J J j j (orderly_committed k orderly))
 
 -- the numbers say the truth of an image that is like what is kept
 pub leaves : (stored closed : List ℕ) (k : Kept) (log : Name) (current : List Entry) (F : Files) (staged : List Entry) (J : Files) → log.kind ≡ kinds.Log → log.region ≡ 0 → Shows k log current J

@@ -1,3 +1,4 @@
+pub mod Appends
 pub mod Bearing
 pub mod Few
 pub mod Disk
@@ -9,6 +10,9 @@ pub mod Stored
 pub mod Leaving
 pub mod Results
 pub mod Calls
+pub mod Syncing
+pub mod FlushSteps
+pub mod RollSteps
 pub mod Staged
 pub mod Numbering
 pub mod Whole

@@ -2,7 +2,7 @@
 use Rattle.std.proofs.Common.{◌≡◌, ◌⊎◌, ℕ, ◌<◌, Contains, List, [], ◌∷◌, ◌++◌, length-append, sym, ap, ◌∙◌, subst, arith}
 use Rattle.log_model.specs.declared.name.Name.{Name}
 use Rattle.log_model.specs.Entry.{Entry, IsEntry}
-use Rattle.log_model.specs.LogText.{IsEntryOf}
+use Rattle.log_model.specs.LogText.{IsEntryOf, in_version}
 use Rattle.log_model.specs.Files.{Files, key_of}
 use Rattle.disk_images.specs.Crash.{DiskView}
 use Rattle.recovery.specs.Kept.{Kept, IsLike, lasts, with_staged}
@@ -43,5 +43,5 @@ staged_kept file now v h ns e keeps above same staged =
     }
 
 -- an entry of one of the regions may stand in a log
-pub of_log : (file : OpenLog) (e : Entry) → file.name.region ≡ 0 → IsEntry e → IsEntryOf (key_of file.name) e
-of_log file e is entry = record { entry = entry; region = λ other. absurd (other is) }
+pub of_log : (file : OpenLog) (e : Entry) → file.name.region ≡ 0 → IsEntry e → IsEntryOf (in_version 2 (key_of file.name)) e
+of_log file e is entry = record { entry = entry; region = λ other. absurd (other is); form = λ first. absurd (omega (arith, first)) }

@@ -1,62 +1,66 @@
 -- What writing the cut of a region leaves of what is kept, in the ledger's words.
-use Rattle.std.proofs.Common.{inl, ◌≡◌, ◌+◌, ◌<◌, ◌≤◌, ℕ, List, [], get_or, set, length, Option, refl, sym, ap, subst, arith}
-use Rattle.log_model.specs.declared.name.Name.{Name}
+use Rattle.std.proofs.Common.{◌≡◌, ◌+◌, ◌<◌, ◌≤◌, ℕ, List, [], get_or, set, length, Option, refl, sym, ap, ◌∙◌, subst, arith}
+use Rattle.cell_model.specs.declared.form.Form.TheVariants.{Tagged}
 use Rattle.log_model.specs.StoreText.{IsStore, store_text}
 use Rattle.cell_model.specs.Order.{NumberedCell}
 use Rattle.disk_images.specs.Crash.{DiskView, Throughout, OnlyAt}
 use Rattle.disk_images.specs.Calls.{IsTrueDisk}
 use Rattle.disk_images.specs.OneFile.{Touches, IsDurableFile}
-use Rattle.log_model.specs.Entry.{Entry}
-use Rattle.disk_images.proofs.Moments.{at_once, weaker}
-use Rattle.recovery.specs.Kept.{Kept, IsCut, flushed_to, lasts}
+use Rattle.disk_images.proofs.Moments.{weaker}
+use Rattle.recovery.specs.Kept.{IsCut, lasts}
 use Rattle.flush_snapshot.specs.Cut.{cut_store, ordered_cells}
 use Rattle.store_file.specs.Whole.{IsWholeOrNot}
 use Rattle.log_file.specs.Open.{OpenLog}
 use Rattle.log_ledger.specs.Books.{Books}
-use Rattle.log_ledger.specs.Counted.{IsCounted, PutsCut}
+use Rattle.log_ledger.specs.Counted.{IsCounted, IsHighestKept, PutsCut}
 use Rattle.log_ledger.specs.History.{History, flushed_in}
 use Rattle.log_device.specs.Bears.{Bears}
-use Rattle.log_device.specs.Keeps.{Keeps, Between, store_name}
+use Rattle.log_device.specs.Keeps.{Keeps, store_name}
 use Rattle.log_device.proofs.Bearing.{bears_store}
+use Rattle.log_device.specs.Leaves.{Leaves}
+use Rattle.log_device.proofs.Calls.{flush_leaves}
+use Rattle.log_device.proofs.HighestKept.{highest_kept}
 use Rattle.log_device.proofs.Cut.{is_cut}
 use Rattle.log_device.proofs.Stored.{store_moments, store_kept}
 
 module _ (file : OpenLog) (u w : DiskView) (h : History) (b : Books) (keeps : Keeps file u h b.next_store) (counted : IsCounted b h) (sound : IsTrueDisk u) (r : ℕ) (cells : List NumberedCell) (none : h.kept.staged ≡ [])
     (puts : PutsCut h.kept r (get_or b.drawn r 0) cells) (served : 0 < get_or b.next_store r 0) (above : get_or b.accounts.flushed r 0 < get_or b.drawn r 0)
     (from to number : ℕ) (from_is : from ≡ get_or b.accounts.flushed r 0 + 1) (to_is : to ≡ get_or b.drawn r 0) (number_is : number ≡ get_or b.next_store r 0) where
-  its_cut : IsCut h.kept r to (cut_store (store_name r (get_or b.next_store r 0)) from to cells)
+  its_cut : IsCut h.kept r to (cut_store (store_name r (get_or b.next_store r 0)) [] from to cells)
   its_cut =
       let flushed = counted.flushed r served in
       is_cut h.kept r to from (get_or b.next_store r 0) cells (omega (arith, from_is, flushed)) (omega (arith, to_is, above, flushed)) (subst (λ (n : ℕ). PutsCut h.kept r n cells) (sym to_is) puts)
 
+  is_last : to ≡ lasts h.kept.first h.kept.durable r
+  is_last = to_is ∙ counted.drawn r served ∙ ap (λ es. lasts (lasts h.kept.first h.kept.durable) es r) none
+
   logged : to ≤ lasts h.kept.first h.kept.durable r
-  logged =
-      let drawn = counted.drawn r served in
-      let all : lasts (lasts h.kept.first h.kept.durable) h.kept.staged r ≡ lasts h.kept.first h.kept.durable r = ap (λ es. lasts (lasts h.kept.first h.kept.durable) es r) none in
-      omega (arith, to_is, drawn, all)
+  logged = omega (arith, is_last)
 
-  module _ (is_store : IsStore (cut_store (store_name r number) from to cells)) where
-    pub stored_moments : Throughout (OnlyAt (store_name r number) (IsWholeOrNot (store_text (cut_store (store_name r number) from to cells))) u) (7 + length (ordered_cells cells)) u w
-        → (bound : ℕ) × Throughout (Between h.kept file.name h.current (flushed_to h.kept r (get_or b.drawn r 0)) file.name h.current) bound u w
-    stored_moments over = (
-      7 + length (ordered_cells cells),
-      subst (λ (n : ℕ). Throughout (Between h.kept file.name h.current (flushed_to h.kept r n) file.name h.current) (7 + length (ordered_cells cells)) u w) to_is
-          (store_moments file u w h b.next_store keeps sound r to (cut_store (store_name r (get_or b.next_store r 0)) from to cells) (7 + length (ordered_cells cells)) served its_cut is_store logged
-          (subst (λ (m : ℕ). Throughout (OnlyAt (store_name r m) (IsWholeOrNot (store_text (cut_store (store_name r m) from to cells))) u) (7 + length (ordered_cells cells)) u w) number_is over)),
-    )
+  pub stored_highest : IsHighestKept h.kept r to
+  stored_highest =
+      let flushed = counted.flushed r served in
+      highest_kept h.kept u.files r to (keeps.images u.files sound.reads).like keeps.orderly is_last (omega (arith, to_is, above, flushed))
 
-    pub stored_kept : (after : List ℕ) → after ≡ set b.next_store r (get_or b.next_store r 0 + 1) → Throughout (OnlyAt (store_name r number) (IsWholeOrNot (store_text (cut_store (store_name r number) from to cells))) u) (7 + length (ordered_cells cells)) u w
-        → Touches (store_name r number) u w → IsDurableFile w (store_name r number) (store_text (cut_store (store_name r number) from to cells)) → Keeps file w (flushed_in h r to) after
+  module _ (is_store : IsStore (cut_store (store_name r number) [] from to cells)) where
+    pub stored_leaves : Throughout (OnlyAt (store_name r number) (IsWholeOrNot (store_text Tagged (cut_store (store_name r number) [] from to cells))) u) (7 + length (ordered_cells cells)) u w
+        → (bound : ℕ) × Throughout (Leaves b.stored b.closed u.files []) bound u w
+    stored_leaves over =
+        let flushed = counted.flushed r served in (
+          7 + length (ordered_cells cells),
+          flush_leaves file u h b keeps counted sound r to (7 + length (ordered_cells cells)) w (omega (arith, to_is, above, flushed)) logged
+              (store_moments file u w h b.next_store keeps sound r to (cut_store (store_name r (get_or b.next_store r 0)) [] from to cells) (7 + length (ordered_cells cells)) served its_cut is_store logged
+              (subst (λ (m : ℕ). Throughout (OnlyAt (store_name r m) (IsWholeOrNot (store_text Tagged (cut_store (store_name r m) [] from to cells))) u) (7 + length (ordered_cells cells)) u w) number_is over)),
+        )
+
+    pub stored_kept : (after : List ℕ) → after ≡ set b.next_store r (get_or b.next_store r 0 + 1) → Throughout (OnlyAt (store_name r number) (IsWholeOrNot (store_text Tagged (cut_store (store_name r number) [] from to cells))) u) (7 + length (ordered_cells cells)) u w
+        → Touches (store_name r number) u w → IsDurableFile w (store_name r number) (store_text Tagged (cut_store (store_name r number) [] from to cells)) → Keeps file w (flushed_in h r to) after
     stored_kept after is over touches file_is =
         subst (λ (ns : List ℕ). Keeps file w (flushed_in h r to) ns) (sym is)
-        (store_kept file u w h b.next_store keeps sound r to (cut_store (store_name r (get_or b.next_store r 0)) from to cells) (7 + length (ordered_cells cells)) served its_cut is_store logged
-        (subst (λ (m : ℕ). Throughout (OnlyAt (store_name r m) (IsWholeOrNot (store_text (cut_store (store_name r m) from to cells))) u) (7 + length (ordered_cells cells)) u w) number_is over)
+        (store_kept file u w h b.next_store keeps sound r to (cut_store (store_name r (get_or b.next_store r 0)) [] from to cells) (7 + length (ordered_cells cells)) served its_cut is_store logged
+        (subst (λ (m : ℕ). Throughout (OnlyAt (store_name r m) (IsWholeOrNot (store_text Tagged (cut_store (store_name r m) [] from to cells))) u) (7 + length (ordered_cells cells)) u w) number_is over)
         (subst (λ (m : ℕ). Touches (store_name r m) u w) number_is touches)
-        (subst (λ (m : ℕ). IsDurableFile w (store_name r m) (store_text (cut_store (store_name r m) from to cells))) number_is file_is))
-
--- where nothing is done
-pub still_moments : (file : OpenLog) (u : DiskView) (h : History) (ns : List ℕ) → Keeps file u h ns → (k : Kept) (log : Name) (current : List Entry) → (bound : ℕ) × Throughout (Between h.kept file.name h.current k log current) bound u u
-still_moments file u h ns keeps k log current = (0, at_once (Between h.kept file.name h.current k log current) u (λ J now. inl (keeps.images J now)))
+        (subst (λ (m : ℕ). IsDurableFile w (store_name r m) (store_text Tagged (cut_store (store_name r m) [] from to cells))) number_is file_is))
 
 -- the names while a store is written
 pub store_names_of : (file : OpenLog) (u w : DiskView) (h : History) (ns : List ℕ) → Keeps file u h ns → (r number : ℕ) → 0 < get_or ns r 0 → number ≡ get_or ns r 0 → (Q : Option (List ℕ) → Type 0) → (by : ℕ)

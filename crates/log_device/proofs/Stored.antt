@@ -4,6 +4,7 @@ use Rattle.std.proofs.lemmas.Bool.{cases_eq, cases_lt}
 use Rattle.std.proofs.lemmas.List.{get_or-set_same, get_or-set_other, get_or_past}
 use Rattle.log_model.specs.declared.name.Name.{Name}
 use Rattle.log_model.specs.declared.name.NameKind.TheVariants as kinds
+use Rattle.cell_model.specs.declared.form.Form.TheVariants.{Tagged}
 use Rattle.log_model.specs.StoreText.{Store, IsStore, IsThere, IsStoreText, store_text}
 use Rattle.log_model.specs.Files.{Files, content, SameBut, IsStoreFile, IsPresent, IsAbsent}
 use Rattle.disk_images.specs.Crash.{DiskView, IsImageNow, Throughout, OnlyAt}
@@ -20,13 +21,14 @@ use Rattle.recovery.proofs.Flushed.{unopened, opened}
 use Rattle.log_file.specs.LogText.{at_rest}
 use Rattle.log_file.specs.Open.{OpenLog}
 use Rattle.store_file.specs.Whole.{IsWholeOrNot}
+use Rattle.store_file.proofs.Texts.{tagged_text}
 use Rattle.log_ledger.specs.History.{History, flushed_in}
 use Rattle.log_device.specs.Bears.{Bears}
 use Rattle.log_device.specs.Keeps.{Keeps, Shows, Between, IsUpTo, store_name}
 use Rattle.log_device.proofs.Bearing.{bears_on, bears_store}
 use Rattle.log_device.proofs.Disk.{still_durable, still_closed, present_before, up_to_but}
 
-gate_of : (s : Store) → IsThere (store_text s)
+gate_of : (s : Store) → IsThere (store_text Tagged s)
 unfolding store_text
 gate_of s = (omega arith, refl)
 
@@ -50,18 +52,18 @@ module _ (log : OpenLog) (u w : DiskView) (h : History) (ns : List ℕ) (keeps :
   hidden : (I : Files) → IsImageNow u I → IsNotThere (content I name)
   hidden I there bytes is gate = none_some (content I name) bytes (sound.absent name name_free.0 name_free.1 I there) is
 
-  text : IsStoreText r (store_text s) s
-  text = record { store = is_store; region = cut.region; is = refl }
+  text : IsStoreText r (store_text Tagged s) s
+  text = subst (λ (q : ℕ). IsStoreText q (store_text Tagged s) s) cut.region (tagged_text s is_store)
 
   -- the file is the store
-  file_in : (J : Files) → content J name ≡ Some (store_text s) → IsStoreFile J name.region name s
-  file_in J there = record { kind = refl; of = refl; bytes = store_text s; there = there; gate = gate_of s; text = text }
+  file_in : (J : Files) → content J name ≡ Some (store_text Tagged s) → IsStoreFile J name.region name s
+  file_in J there = record { kind = refl; of = refl; bytes = store_text Tagged s; there = there; gate = gate_of s; text = text }
 
-  one_in : (J : Files) → content J name ≡ Some (store_text s) → (t : Store) → IsStoreFile J name.region name t → t ≡ s
+  one_in : (J : Files) → content J name ≡ Some (store_text Tagged s) → (t : Store) → IsStoreFile J name.region name t → t ≡ s
   one_in J there t f =
-      let same : Some f.bytes ≡ Some (store_text s) = sym f.there ∙ there in
-      let bytes : f.bytes ≡ store_text s = cc (same) in
-      one_store r (store_text s) t s (subst (λ (b : List ℕ). IsStoreText r b t) bytes f.text) text
+      let same : Some f.bytes ≡ Some (store_text Tagged s) = sym f.there ∙ there in
+      let bytes : f.bytes ≡ store_text Tagged s = cc (same) in
+      one_store r (store_text Tagged s) t s (subst (λ (b : List ℕ). IsStoreText r b t) bytes f.text) text
 
   log_apart : log.name ≢ name
   log_apart is = store_apart name log.name refl (inl keeps.kind) (sym is)
@@ -72,7 +74,7 @@ module _ (log : OpenLog) (u w : DiskView) (h : History) (ns : List ℕ) (keeps :
   up_to_there : (I J : Files) → IsImageNow u I → SameBut name I J → IsUpTo log.name.number J
   up_to_there I J there same = up_to_but name log.name.number I J same (λ kind. absurd (cc kind)) (keeps.images I there).up_to
 
-  stored_in : (I J : Files) → IsImageNow u I → SameBut name I J → content J name ≡ Some (store_text s) → Shows (flushed_to h.kept r n) log.name h.current J
+  stored_in : (I J : Files) → IsImageNow u I → SameBut name I J → content J name ≡ Some (store_text Tagged s) → Shows (flushed_to h.kept r n) log.name h.current J
   stored_in I J there same is = record {
     like = opened name refl I J same (hidden I there) h.kept n s cut (file_in J is) (one_in J is) (keeps.images I there).like;
     ended = (keeps.images I there).ended;
@@ -91,14 +93,14 @@ module _ (log : OpenLog) (u w : DiskView) (h : History) (ns : List ℕ) (keeps :
   abbrev pub Storing : Files → Type 0
   Storing J = Between h.kept log.name h.current (flushed_to h.kept r n) log.name h.current J
 
-  one_image : (J : Files) → OnlyAt name (IsWholeOrNot (store_text s)) u J → Storing J
+  one_image : (J : Files) → OnlyAt name (IsWholeOrNot (store_text Tagged s)) u J → Storing J
   one_image J only = elim only.here as (λ _. Storing J) [
     | inl none ↦ inl (not_stored only.base J only.was only.elsewhere none)
     | inr whole ↦ inr (stored_in only.base J only.was only.elsewhere whole)
   ]
 
-  pub store_moments : Throughout (OnlyAt name (IsWholeOrNot (store_text s)) u) by u w → Throughout Storing by u w
-  store_moments over = weaker (OnlyAt name (IsWholeOrNot (store_text s)) u) Storing by u w one_image over
+  pub store_moments : Throughout (OnlyAt name (IsWholeOrNot (store_text Tagged s)) u) by u w → Throughout Storing by u w
+  store_moments over = weaker (OnlyAt name (IsWholeOrNot (store_text Tagged s)) u) Storing by u w one_image over
 
   named : (I J : Files) → IsImageNow u I → SameBut name I J → Bears h.kept.base ns log.name.number J
   named I J there same = bears_store h.kept.base ns log.name.number name I J refl (keeps.served r served) (omega arith) same (keeps.names I there)
@@ -153,25 +155,25 @@ module _ (log : OpenLog) (u w : DiskView) (h : History) (ns : List ℕ) (keeps :
     ]
   ]
 
-  pub store_kept : Throughout (OnlyAt name (IsWholeOrNot (store_text s)) u) by u w → Touches name u w → IsDurableFile w name (store_text s) → Keeps log w (flushed_in h r n) next_stores
+  pub store_kept : Throughout (OnlyAt name (IsWholeOrNot (store_text Tagged s)) u) by u w → Touches name u w → IsDurableFile w name (store_text Tagged s) → Keeps log w (flushed_in h r n) next_stores
   store_kept over touches file = record {
     kind = keeps.kind;
     region = keeps.region;
     open_log = record {
       each = keeps.open_log.each;
-      file = still_durable name log.name (IsWholeOrNot (store_text s)) by u w (at_rest log.name.number h.current) log_apart over touches keeps.open_log.file;
+      file = still_durable name log.name (IsWholeOrNot (store_text Tagged s)) by u w (at_rest log.name.number h.current) log_apart over touches keeps.open_log.file;
       gate = keeps.open_log.gate;
       count = keeps.open_log.count;
     };
     staged = keeps.staged;
     orderly = orderly_flushed h.kept r n keeps.orderly (omega (arith, cut.more)) logged;
-    images = λ J now. let only = at_end (OnlyAt name (IsWholeOrNot (store_text s)) u) by u w over J now in stored_in only.base J only.was only.elsewhere (file.durable J now);
+    images = λ J now. let only = at_end (OnlyAt name (IsWholeOrNot (store_text Tagged s)) u) by u w over J now in stored_in only.base J only.was only.elsewhere (file.durable J now);
     names = λ J now.
-        let only = at_end (OnlyAt name (IsWholeOrNot (store_text s)) u) by u w over J now in
+        let only = at_end (OnlyAt name (IsWholeOrNot (store_text Tagged s)) u) by u w over J now in
         bears_on h.kept.base ns next_stores log.name.number log.name.number J (omega arith) next_stores_grow (named only.base J only.was only.elsewhere);
     served = still_served;
     few = keeps.few;
-    logs = λ c member. let l = keeps.logs c member in (still_closed name (IsWholeOrNot (store_text s)) by u w c.number c.entries (λ is. absurd (cc (ap (λ (x : Name). x.kind) is))) over touches l.0, l.1);
+    logs = λ c member. let l = keeps.logs c member in (still_closed name (IsWholeOrNot (store_text Tagged s)) by u w c.number c.entries (λ is. absurd (cc (ap (λ (x : Name). x.kind) is))) over touches l.0, l.1);
     one = keeps.one;
     there = λ m kind there. keeps.there m kind (present_before name m u.files w.files touches.others (λ is. absurd (cc (sym kind ∙ ap (λ (x : Name). x.kind) is))) there);
     gone = λ m is. keeps.gone m (touches.gone m is);

@@ -1,13 +1,14 @@
 -- What each call of a device does. Of each call one record says what the disk, each crash image and the history become, and one
 -- what the numbers and the current file become, whatever the disk tells.
-use Rattle.std.specs.Prelude.{◌≡◌, ◌⊎◌, ◌<◌, ◌≤◌, ◌+◌, ◌==◌, ◌++◌, if◌then◌else◌, ℕ, List, [], length, get_or, slice_set}
+use Rattle.std.specs.Prelude.{◌≡◌, ◌⊎◌, ◌<◌, ◌≤◌, ◌+◌, ◌==◌, if◌then◌else◌, ℕ, List, [], length, get_or, slice_set}
 use Rattle.std.specs.Prelude.{Some, Result, Ok, Err, IfOk, OnOk, OnErr, IsErrOf}
 use Rattle.log_model.specs.Entry.{Entry, IsEntry, entry_frame}
 use Rattle.disk_images.specs.declared.disk.Disk.{Ghosts}
+use Rattle.chronicle_model.specs.Growth.{LowerLogsStay, AppendsTo}
 use Rattle.log_file.specs.Open.{OpenLog}
 use Rattle.log_trucks.specs.Held.{Haul}
 use Rattle.log_ledger.specs.History.{ClosedLog, History, staged_in, committed_in, closed_in, flushed_in, with_logs}
-use Rattle.log_ledger.specs.Books.{IsServed}
+use Rattle.log_ledger.specs.Books.{IsServed, SameRegions}
 use Rattle.log_ledger.specs.Counted.{IsHighestKept, LogsLeft}
 use Rattle.log_device.specs.declared.device.Device.{Device}
 use Rattle.log_device.specs.declared.error.Rolled.{Rolled}
@@ -19,7 +20,7 @@ use Rattle.log_device.specs.Bears.{Bears, AreStoresFew}
 use Rattle.log_device.specs.Keeps.{IsInOrder, log_name}
 use Rattle.log_device.specs.Flushed.{NoneKept, HasStore}
 use Rattle.log_device.specs.Whole.{IsBroken, IsCommitted, IsIdle, HasStaged, IsBegunAfter, NoneFell}
-use Rattle.log_device.specs.Whole.{disk_of, log_of, books_of, view_of, HasHistory, EachImage, LeavesAt}
+use Rattle.log_device.specs.Whole.{disk_of, log_of, books_of, view_of, files_of, HasHistory, EachImage, LeavesAt}
 
 -- a stage of this truck by a device with this history
 pub record Stages {D T E : Type 0} (g : Ghosts D) (h : History) (truck : Haul) (result : Result T E) (old new : Device D) : Type 0 where
@@ -47,6 +48,8 @@ pub record Syncs {D E : Type 0} (g : Ghosts D) (h : History) (result : Result �
   -- and its files bear names that the device gives
   pub names : (file : OpenLog) → log_of old ≡ Some file → EachImage g (Bears h.kept.base (books_of old).next_store file.name.number) 4 old new
   pub committed : OnOk result (HasHistory g new (committed_in h))
+  -- the logs below the current one read as they did, whatever the call answers
+  pub lower : (file : OpenLog) → log_of old ≡ Some file → LowerLogsStay file.name.number (files_of g old) (files_of g new)
 
 pub record SyncsBooks {D E : Type 0} (result : Result ℕ E) (old new : Device D) : Type 0 where
   -- it gives how many entries were staged
@@ -61,19 +64,25 @@ pub record SyncsBooks {D E : Type 0} (result : Result ℕ E) (old new : Device D
   pub faulty : OnErr result (books_of new ≡ books_of old)
   pub never_falls : (r : ℕ) → get_or (books_of old).synced r 0 ≤ get_or (books_of new).synced r 0
 
--- a roll by a device with this history
-pub record Rolls {D : Type 0} (g : Ghosts D) (h : History) (result : Result Rolled RollRefusal) (old new : Device D) : Type 0 where
+-- A roll of at most so many disk calls by a device with these staged entries, which has this history once they are committed.
+pub record RollsFrom {D : Type 0} (g : Ghosts D) (calls : ℕ) (staged : List Entry) (h : History) (result : Result Rolled RollRefusal) (old new : Device D) : Type 0 where
   -- at each moment each image is fit, and recovers to the files as they read with the first of the staged entries
-  pub any_moment : EachImage g (LeavesAt g old h.kept.staged) 11 old new
+  pub any_moment : EachImage g (LeavesAt g old staged) calls old new
   -- and its files bear names that the device gives
-  pub names : (file : OpenLog) → log_of old ≡ Some file → EachImage g (Bears h.kept.base (books_of old).next_store (file.name.number + 1)) 11 old new
+  pub names : (file : OpenLog) → log_of old ≡ Some file → EachImage g (Bears h.kept.base (books_of old).next_store (file.name.number + 1)) calls old new
   -- in each image in which the file that the call begins has a byte, the old file has every entry staged into it
   pub in_order : (file : OpenLog) → log_of old ≡ Some file
-      → EachImage g (IsInOrder file.name (log_name (file.name.number + 1)) (h.current ++ h.kept.staged)) 11 old new
+      → EachImage g (IsInOrder file.name (log_name (file.name.number + 1)) h.current) calls old new
   -- the closed file has all its entries
-  pub rolled : IfOk result (λ rolled. HasHistory g new (closed_in (committed_in h) rolled.closed) × (rolled.entries ≡ length (h.current ++ h.kept.staged)))
+  pub rolled : IfOk result (λ rolled. HasHistory g new (closed_in h rolled.closed) × (rolled.entries ≡ length h.current))
   -- after a refusal what was staged is committed, unless the device is broken
-  pub refused : OnErr result ((IsBroken new → ⊥) → HasHistory g new (committed_in h))
+  pub refused : OnErr result ((IsBroken new → ⊥) → HasHistory g new h)
+  -- the logs below the current one read as they did, whatever the call answers
+  pub lower : (file : OpenLog) → log_of old ≡ Some file → LowerLogsStay file.name.number (files_of g old) (files_of g new)
+
+-- a roll by a device with this history
+abbrev pub Rolls : {D : Type 0} → Ghosts D → History → Result Rolled RollRefusal → Device D → Device D → Type 0
+Rolls g h result old new = RollsFrom g 11 h.kept.staged (committed_in h) result old new
 
 pub record RollsBooks {D : Type 0} (result : Result Rolled RollRefusal) (old new : Device D) : Type 0 where
   -- it gives the number of the file that it closed, which has an entry, and how many it has
@@ -98,19 +107,42 @@ pub record RollsBooks {D : Type 0} (result : Result Rolled RollRefusal) (old new
   pub drawn : (books_of new).drawn ≡ (books_of old).drawn
   pub next_store : (books_of new).next_store ≡ (books_of old).next_store
 
--- a flush of region r by a device with this history
-pub record Flushes {D : Type 0} (g : Ghosts D) (h : History) (r : ℕ) (result : Result ℕ DeviceFlush) (old new : Device D) : Type 0 where
+-- the end of this file, in which nothing is staged, and the begin of the next one, by a device with this history
+pub record BeginsNext {D T E : Type 0} (g : Ghosts D) (h : History) (file : OpenLog) (result : Result T E) (old new : Device D) : Type 0 where
+  pub any_moment : EachImage g (LeavesAt g old []) 7 old new
+  pub names : EachImage g (Bears h.kept.base (books_of old).next_store (file.name.number + 1)) 7 old new
+  pub in_order : EachImage g (IsInOrder file.name (log_name (file.name.number + 1)) h.current) 7 old new
+  pub appends : AppendsTo file.name.number (files_of g old) (files_of g new)
+  pub closed : OnOk result (HasHistory g new (closed_in h file.name.number))
+
+pub record BeginsNextBooks {D T E : Type 0} (result : Result T E) (old new : Device D) : Type 0 where
+  pub next : (file : OpenLog) → log_of old ≡ Some file → OnOk result (IsBegunAfter file (log_of new))
+  -- nothing is staged after it, whatever it answers
+  pub emptied : IsIdle (log_of new)
+  pub closed : OnOk result ((books_of new).closed ≡ (books_of old).synced)
+  pub closed_faulty : OnErr result ((books_of new).closed ≡ (books_of old).closed)
+  -- and the other numbers are as they were
+  pub same : SameRegions (books_of old) (record (books_of new) { closed = (books_of old).closed })
+
+-- A flush of region r by a device with these staged entries, which has this history once they are committed.
+pub record FlushesFrom {D : Type 0} (g : Ghosts D) (staged : List Entry) (h : History) (r : ℕ) (result : Result ℕ DeviceFlush) (old new : Device D) : Type 0 where
   -- at each moment each image is fit, and recovers to the files as they read with the first of the staged entries
-  pub any_moment : (bound : ℕ) × EachImage g (LeavesAt g old h.kept.staged) bound old new
+  pub any_moment : (bound : ℕ) × EachImage g (LeavesAt g old staged) bound old new
   -- and its files bear names that the device gives
   pub names : (file : OpenLog) → log_of old ≡ Some file
       → (bound : ℕ) × EachImage g (Bears h.kept.base (books_of old).next_store file.name.number) bound old new
-  pub flushed : IfOk result (λ n. IsHighestKept (committed_in h).kept r n × HasHistory g new (flushed_in (committed_in h) r n))
+  pub flushed : IfOk result (λ n. IsHighestKept h.kept r n × HasHistory g new (flushed_in h r n))
   -- the region's next store file is durable, from the first number that wasn't flushed on
   pub store : IfOk result (λ n. HasStore (view_of g new) r (get_or (books_of old).next_store r 0) (h.kept.flushed r + 1) n)
-  pub nothing : (n : ℕ) → result ≡ Err (flush_refusals.Nothing n) → (n ≡ h.kept.flushed r) × NoneKept (committed_in h).kept r
+  pub nothing : (n : ℕ) → result ≡ Err (flush_refusals.Nothing n) → (n ≡ h.kept.flushed r) × NoneKept h.kept r
   -- after a refusal what was staged is committed, unless the device is broken
-  pub refused : OnErr result ((IsBroken new → ⊥) → HasHistory g new (committed_in h))
+  pub refused : OnErr result ((IsBroken new → ⊥) → HasHistory g new h)
+  -- the logs below the current one read as they did, whatever the call answers
+  pub lower : (file : OpenLog) → log_of old ≡ Some file → LowerLogsStay file.name.number (files_of g old) (files_of g new)
+
+-- a flush of region r by a device with this history
+abbrev pub Flushes : {D : Type 0} → Ghosts D → History → ℕ → Result ℕ DeviceFlush → Device D → Device D → Type 0
+Flushes g h r result old new = FlushesFrom g h.kept.staged (committed_in h) r result old new
 
 pub record FlushesBooks {D : Type 0} (r : ℕ) (result : Result ℕ DeviceFlush) (old new : Device D) : Type 0 where
   -- it gives the region's last number
@@ -145,6 +177,8 @@ pub record Archives {D E : Type 0} (g : Ghosts D) (h : History) (result : Result
       → EachImage g (Bears h.kept.base (books_of old).next_store file.name.number) (length h.logs) old new
   -- the logs that are left are those that are not wholly flushed, and no other was renamed
   pub archived : IfOk result (λ n. (left : List ClosedLog) × LogsLeft h left × (length left + n ≡ length h.logs) × HasHistory g new (with_logs h left))
+  -- the logs below the current one read as they did, whatever the call answers
+  pub lower : (file : OpenLog) → log_of old ≡ Some file → LowerLogsStay file.name.number (files_of g old) (files_of g new)
 
 pub record ArchivesBooks {D E : Type 0} (result : Result ℕ E) (old new : Device D) : Type 0 where
   pub file : OnOk result (log_of new ≡ log_of old)

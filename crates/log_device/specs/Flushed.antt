@@ -1,6 +1,7 @@
 -- What a flush finds to flush, and the store that it writes.
 use Rattle.std.specs.Prelude.{◌≡◌, ◌≤◌, ℕ, Contains}
 use Rattle.log_model.specs.Entry.{Entry}
+use Rattle.cell_model.specs.declared.form.Form.TheVariants.{Tagged}
 use Rattle.log_model.specs.StoreText.{Store, store_text}
 use Rattle.disk_images.specs.Crash.{DiskView}
 use Rattle.disk_images.specs.OneFile.{IsDurableFile}
@@ -17,4 +18,4 @@ pub record HasStore (disk : DiskView) (r number first last : ℕ) : Type 0 where
   pub region : store.region ≡ r
   pub from : store.from ≡ first
   pub to : store.to ≡ last
-  pub file : IsDurableFile disk (store_name r number) (store_text store)
+  pub file : IsDurableFile disk (store_name r number) (store_text Tagged store)

@@ -4,7 +4,8 @@ use Rattle.log_model.specs.declared.name.Name.{Name}
 use Rattle.log_model.specs.declared.name.NameKind.TheVariants as kinds
 use Rattle.log_model.specs.Entry.{Entry}
 use Rattle.log_model.specs.Files.{Files, content, IsPresent}
-use Rattle.disk_images.specs.Crash.{DiskView, IsImageNow}
+use Rattle.disk_images.specs.Crash.{DiskView, IsImageNow, Throughout}
+use Rattle.chronicle_model.specs.Growth.{LogsStay}
 use Rattle.disk_images.specs.OneFile.{IsDurableFile}
 use Rattle.recovery.specs.Change.{HasText}
 use Rattle.recovery.specs.Kept.{Kept, IsLike, IsOrderly}
@@ -69,3 +70,12 @@ pub record Keeps (log : OpenLog) (disk : DiskView) (h : History) (next_store : L
 -- where the next file has a byte, the old one has all its entries
 abbrev pub IsInOrder : Name → Name → List Entry → Files → Type 0
 IsInOrder old next entries J = (bytes : List ℕ) → content J next ≡ Some bytes → 0 < length bytes → (ended : Option ℕ) × HasText old entries ended (content J old)
+
+-- what a call of at most so many disk calls, which renames closed logs that are wholly flushed, leaves of a disk
+pub record Renames (log : OpenLog) (k : Kept) (current : List Entry) (next_store : List ℕ) (calls : ℕ) (old new : DiskView) : Type 0 where
+  -- at each moment each image is like what is kept
+  pub any_moment : Throughout (Shows k log.name current) calls old new
+  -- and its files bear names that the device gives
+  pub names : Throughout (Bears k.base next_store log.name.number) calls old new
+  -- each log reads as it did, under its old name or under the other one
+  pub logs : LogsStay old.files new.files

@@ -1,5 +1,5 @@
 -- A device and what it has made of its files.
-use Rattle.std.specs.Prelude.{◌≡◌, ◌+◌, ◌≤◌, ℕ, List, [], length, get_or, Option, Some, None, IsTrue}
+use Rattle.std.specs.Prelude.{◌≡◌, ◌↔◌, ◌+◌, ◌≤◌, ℕ, List, [], length, get_or, Option, Some, None, IsTrue}
 use Rattle.log_model.specs.Entry.{Entry}
 use Rattle.log_model.specs.Files.{Files}
 use Rattle.disk_images.specs.declared.disk.Disk.{Ghosts}
@@ -37,6 +37,10 @@ pub record IsWhole {D : Type 0} (d : Device D) (disk : DiskView) (h : History) :
 abbrev pub view_of : {D : Type 0} → Ghosts D → Device D → DiskView
 view_of g d = g.view (disk_of d)
 
+-- its files as they read
+abbrev pub files_of : {D : Type 0} → Ghosts D → Device D → Files
+files_of g d = (view_of g d).files
+
 -- it isn't broken, and its disk as it is told and its numbers are as this history made them
 abbrev pub HasHistory : {D : Type 0} → Ghosts D → Device D → History → Type 0
 HasHistory g d h = IsWhole d (view_of g d) h
@@ -58,6 +62,12 @@ pub record OnlyCommits {D : Type 0} (g : Ghosts D) (old new : Device D) : Type 0
 abbrev pub CausesFault : {D : Type 0} → Ghosts D → Device D → Device D → Type 0 → Type 0
 CausesFault g old new failed = HasCause (g.faults (disk_of old)) (g.faults (disk_of new)) failed
 
+-- it broke the device exactly where it failed so, and a broken device stays as it was
+pub record Breaks {D : Type 0} (g : Ghosts D) (failed : Type 0) (old new : Device D) : Type 0 where
+  pub stays : IsBroken old → new ≡ old
+  pub broken : failed ↔ IsBroken new
+  pub cause : CausesFault g old new ((IsBroken old → ⊥) × failed)
+
 -- all that was staged into the file is committed
 abbrev pub IsCommitted : OpenLog → Option OpenLog → Type 0
 IsCommitted file log = (now : OpenLog) × (log ≡ Some now) × (now.name ≡ file.name) × (now.entries ≡ file.entries + file.staged) × (now.staged ≡ 0)
@@ -65,6 +75,14 @@ IsCommitted file log = (now : OpenLog) × (log ≡ Some now) × (now.name ≡ fi
 -- nothing is staged into the file
 abbrev pub IsIdle : Option OpenLog → Type 0
 IsIdle log = (file : OpenLog) → log ≡ Some file → (file.staged ≡ 0) × (file.bytes ≡ [])
+
+-- the device isn't broken, and all that was staged is committed
+pub record IsAtRest {D : Type 0} (g : Ghosts D) (d : Device D) : Type 0 where
+  pub whole : IsTrue g.told → ∥ ((h : History) × HasHistory g d h × (h.kept.staged ≡ [])) ∥₁
+  pub unbroken : IsBroken d → ⊥
+  pub idle : IsIdle (log_of d)
+  pub synced : (books_of d).synced ≡ (books_of d).drawn
+  pub closed : (r : ℕ) → get_or (books_of d).closed r 0 ≤ get_or (books_of d).synced r 0
 
 -- one more entry of so many bytes is staged into the file
 pub record HasStaged (file : OpenLog) (len : ℕ) (log : Option OpenLog) : Type 0 where

@@ -1,8 +1,9 @@
 //! Closed logs that are wholly flushed go.
 
 ghost use Rattle.std.specs.Prelude.{◌≡◌, ◌↔◌, IsTrue, IsErr};
+ghost use Rattle.chronicle_model.specs.Growth.{Prolongs};
 ghost use Rattle.log_ledger.specs.History.{History};
-ghost use Rattle.log_device.specs.Whole.{IsBroken, HasHistory, CausesFault};
+ghost use Rattle.log_device.specs.Whole.{IsBroken, files_of, HasHistory, CausesFault};
 ghost use Rattle.log_device.specs.Calls.{Archives, ArchivesBooks};
 
 use crate::device::Device;
@@ -20,6 +21,10 @@ impl<D: Disk> Device<D> {
         ensures archives { IsTrue D.told → (h : History) → HasHistory D.Disk self.old h
             → Archives D.Disk h result self.old self.new }
         ensures books { ArchivesBooks result self.old self.new }
+
+        // The logs' chronicle before the call begins the one after it, whatever it answers.
+        ensures chronicle { IsTrue D.told → (h : History) → HasHistory D.Disk self.old h
+            → Prolongs (files_of D.Disk self.old) (files_of D.Disk self.new) }
 
         // What stays, and when it fails.
         ensures stays { IsBroken self.old → self.new ≡ self.old }

@@ -2,6 +2,7 @@
 
 ghost use Rattle.std.specs.Prelude.{◌≡◌, ◌≤◌, ◌<◌, ◌+◌, ◌↔◌, ◌⊎◌, ℕ, [], get_or, slice_set, Some, Ok, Err, IsTrue, IfOk, OnOk, OnErr, IsErrOf};
 ghost use Rattle.recovery.specs.Kept.{flushed_to};
+ghost use Rattle.chronicle_model.specs.Growth.{LogsStay, Prolongs};
 ghost use Rattle.log_file.specs.Open.{OpenLog};
 ghost use Rattle.flush_snapshot.specs.Cut.{IsWithin};
 ghost use Rattle.log_ledger.specs.History.{History, flushed_in};
@@ -10,8 +11,8 @@ ghost use Rattle.log_ledger.specs.Counted.{PutsCut};
 ghost use Rattle.log_device.specs.Bears.{Bears, AreStoresFew};
 ghost use Rattle.log_device.specs.Keeps.{Between};
 ghost use Rattle.log_device.specs.Flushed.{HasStore};
-ghost use Rattle.log_device.specs.Whole.{IsBroken, log_of, books_of, HasHistory, EachImage, CausesFault, OnlyCommits, disk_of, view_of};
-ghost use Rattle.log_device.specs.Calls.{Flushes, FlushesBooks};
+ghost use Rattle.log_device.specs.Whole.{IsBroken, IsAtRest, Breaks, log_of, books_of, HasHistory, EachImage, CausesFault, OnlyCommits, disk_of, view_of, files_of};
+ghost use Rattle.log_device.specs.Calls.{Flushes, FlushesFrom, FlushesBooks};
 
 use crate::device::Device;
 use crate::error::DeviceFlush;
@@ -35,6 +36,10 @@ impl<D: Disk> Device<D> {
             → Flushes D.Disk h region result self.old self.new }
         ensures books { FlushesBooks region result self.old self.new }
 
+        // The logs' chronicle before the call begins the one after it, whatever it answers.
+        ensures chronicle { IsTrue D.told → (h : History) → HasHistory D.Disk self.old h
+            → Prolongs (files_of D.Disk self.old) (files_of D.Disk self.new) }
+
         // What stays, and when it fails.
         ensures stays { IsBroken self.old → self.new ≡ self.old }
         ensures memory { IsErrOf result DeviceFlush.Memory → OnlyCommits D.Disk self.old self.new }
@@ -49,50 +54,14 @@ impl<D: Disk> Device<D> {
     /// Flushes a region where nothing is staged.
     fn flush_committed(&mut self, alloc: Global, region: u32) -> Result<u64, DeviceFlush>
         requires served { IsServed (books_of self.old) region }
-        requires committed { get_or (books_of self.old).drawn region 0 ≤ get_or (books_of self.old).synced region 0 }
-        requires whole { IsTrue D.told → ∥ ((h : History) × HasHistory D.Disk self.old h × (h.kept.staged ≡ [])) ∥₁ }
-        requires unbroken { IsBroken self.old → ⊥ }
+        requires rest { IsAtRest D.Disk self.old }
 
-        ensures any_moment { IsTrue D.told → (h : History) (file : OpenLog) → HasHistory D.Disk self.old h
-            → log_of self.old ≡ Some file → h.kept.staged ≡ [] → (bound : ℕ)
-            × EachImage D.Disk (Between h.kept file.name h.current (flushed_to h.kept region (get_or (books_of self.old).drawn region 0))
-            file.name h.current) bound self.old self.new }
-        ensures names { IsTrue D.told → (h : History) (file : OpenLog) → HasHistory D.Disk self.old h
-            → log_of self.old ≡ Some file → h.kept.staged ≡ [] → (bound : ℕ)
-            × EachImage D.Disk (Bears h.kept.base (books_of self.old).next_store file.name.number) bound self.old self.new }
-        ensures flushed { IsTrue D.told → (h : History) → HasHistory D.Disk self.old h → h.kept.staged ≡ []
-            → IfOk result (λ n. HasHistory D.Disk self.new (flushed_in h region n)) }
-        ensures store { IsTrue D.told → IfOk result (λ n. HasStore (view_of D.Disk self.new) region
-            (get_or (books_of self.old).next_store region 0) (get_or (books_of self.old).accounts.flushed region 0 + 1) n) }
-        ensures number { IfOk result (λ n. (n ≡ get_or (books_of self.old).drawn region 0)
-            × (get_or (books_of self.old).accounts.flushed region 0 < n)) }
-        ensures above { IfOk result (λ n. get_or (books_of self.old).stored region 0 < n) }
-        ensures nothing { (n : ℕ) → result ≡ Err (DeviceFlush.Nothing n)
-            → (n ≡ get_or (books_of self.old).accounts.flushed region 0)
-            × (get_or (books_of self.old).drawn region 0 ≤ n) }
-        ensures refused { IsTrue D.told → (h : History) → HasHistory D.Disk self.old h
-            → OnErr result ((IsBroken self.new → ⊥) → HasHistory D.Disk self.new h) }
+        ensures flushes { IsTrue D.told → (h : History) → HasHistory D.Disk self.old h → h.kept.staged ≡ []
+            → FlushesFrom D.Disk [] h region result self.old self.new }
+        ensures books { FlushesBooks region result self.old self.new }
+        ensures logs { IsTrue D.told → LogsStay (files_of D.Disk self.old) (files_of D.Disk self.new) }
         ensures memory { IsErrOf result DeviceFlush.Memory → disk_of self.new ≡ disk_of self.old }
-        ensures stored { IfOk result (λ n. get_or (books_of self.new).stored region 0 ≡ n) }
-        ensures stored_nothing { (n : ℕ) → result ≡ Err (DeviceFlush.Nothing n)
-            → get_or (books_of self.new).stored region 0 ≡ n }
-        ensures others { (r : ℕ) → (r ≡ region → ⊥)
-            → get_or (books_of self.new).stored r 0 ≡ get_or (books_of self.old).stored r 0 }
-        ensures closed { (books_of self.new).closed ≡ (books_of self.old).closed }
-        ensures file { (IsBroken self.new → ⊥) → log_of self.new ≡ log_of self.old }
-        ensures next_store { OnOk result ((books_of self.new).next_store
-            ≡ slice_set (books_of self.old).next_store region (get_or (books_of self.old).next_store region 0 + 1)) }
-        ensures few { (limit : ℕ) → AreStoresFew limit (books_of self.old) → AreStoresFew limit (books_of self.new) }
-        ensures next_store_still { OnErr result ((books_of self.new).next_store ≡ (books_of self.old).next_store) }
-        ensures synced { (books_of self.new).synced ≡ (books_of self.old).synced }
-        ensures stored_never_falls { (r : ℕ)
-            → get_or (books_of self.old).stored r 0 ≤ get_or (books_of self.new).stored r 0 }
-        ensures stored_still { (IsErrOf result DeviceFlush.Memory ⊎ IsErrOf result DeviceFlush.WriteFault)
-            → (books_of self.new).stored ≡ (books_of self.old).stored }
-        ensures drawn { (books_of self.new).drawn ≡ (books_of self.old).drawn }
-        ensures served { (r : ℕ) → IsServed (books_of self.old) r → IsServed (books_of self.new) r }
-        ensures broken { IsErrOf result DeviceFlush.WriteFault ↔ IsBroken self.new }
-        ensures cause { CausesFault D.Disk self.old self.new (IsErrOf result DeviceFlush.WriteFault) }
+        ensures breaks { Breaks D.Disk (IsErrOf result DeviceFlush.WriteFault) self.old self.new }
     {
         let ledger = &*self.ledger;
         if !ledger.has_unflushed(region) {
@@ -115,45 +84,16 @@ impl<D: Disk> Device<D> {
         requires served { IsServed (books_of self.old) region }
         requires order { AreInOrder (books_of self.old) }
         requires above { get_or (books_of self.old).accounts.flushed region 0 < get_or (books_of self.old).drawn region 0 }
-        requires committed { get_or (books_of self.old).drawn region 0 ≤ get_or (books_of self.old).synced region 0 }
         requires within { IsWithin (get_or (books_of self.old).accounts.flushed region 0 + 1) (get_or (books_of self.old).drawn region 0) cells }
-        requires whole { IsTrue D.told → ∥ ((h : History) × HasHistory D.Disk self.old h × (h.kept.staged ≡ [])) ∥₁ }
-        requires unbroken { IsBroken self.old → ⊥ }
+        requires rest { IsAtRest D.Disk self.old }
 
-        ensures any_moment { IsTrue D.told → (h : History) (file : OpenLog) → HasHistory D.Disk self.old h
-            → log_of self.old ≡ Some file → h.kept.staged ≡ []
-            → PutsCut h.kept region (get_or (books_of self.old).drawn region 0) cells → (bound : ℕ)
-            × EachImage D.Disk (Between h.kept file.name h.current (flushed_to h.kept region (get_or (books_of self.old).drawn region 0))
-            file.name h.current) bound self.old self.new }
-        ensures names { IsTrue D.told → (h : History) (file : OpenLog) → HasHistory D.Disk self.old h
-            → log_of self.old ≡ Some file → h.kept.staged ≡ [] → (bound : ℕ)
-            × EachImage D.Disk (Bears h.kept.base (books_of self.old).next_store file.name.number) bound self.old self.new }
-        ensures flushed { IsTrue D.told → (h : History) → HasHistory D.Disk self.old h → h.kept.staged ≡ []
-            → PutsCut h.kept region (get_or (books_of self.old).drawn region 0) cells → IfOk result
-            (λ n. HasHistory D.Disk self.new (flushed_in h region n)) }
-        ensures store { IsTrue D.told → IfOk result (λ n. HasStore (view_of D.Disk self.new) region
-            (get_or (books_of self.old).next_store region 0) (get_or (books_of self.old).accounts.flushed region 0 + 1) n) }
-        ensures number { IfOk result (λ n. n ≡ get_or (books_of self.old).drawn region 0) }
-        ensures never_nothing { (n : ℕ) → result ≡ Err (DeviceFlush.Nothing n) → ⊥ }
-        ensures refused { OnErr result ((IsBroken self.new → ⊥) → self.new ≡ self.old) }
-        ensures stored { IfOk result (λ n. get_or (books_of self.new).stored region 0 ≡ n) }
-        ensures others { (r : ℕ) → (r ≡ region → ⊥)
-            → get_or (books_of self.new).stored r 0 ≡ get_or (books_of self.old).stored r 0 }
-        ensures closed { (books_of self.new).closed ≡ (books_of self.old).closed }
-        ensures file { (IsBroken self.new → ⊥) → log_of self.new ≡ log_of self.old }
-        ensures next_store { OnOk result ((books_of self.new).next_store
-            ≡ slice_set (books_of self.old).next_store region (get_or (books_of self.old).next_store region 0 + 1)) }
-        ensures few { (limit : ℕ) → AreStoresFew limit (books_of self.old) → AreStoresFew limit (books_of self.new) }
-        ensures next_store_still { OnErr result ((books_of self.new).next_store ≡ (books_of self.old).next_store) }
-        ensures synced { (books_of self.new).synced ≡ (books_of self.old).synced }
-        ensures stored_never_falls { (r : ℕ)
-            → get_or (books_of self.old).stored r 0 ≤ get_or (books_of self.new).stored r 0 }
-        ensures stored_still { (IsErrOf result DeviceFlush.Memory ⊎ IsErrOf result DeviceFlush.WriteFault)
-            → (books_of self.new).stored ≡ (books_of self.old).stored }
-        ensures drawn { (books_of self.new).drawn ≡ (books_of self.old).drawn }
-        ensures served { (r : ℕ) → IsServed (books_of self.old) r → IsServed (books_of self.new) r }
-        ensures broken { IsErrOf result DeviceFlush.WriteFault ↔ IsBroken self.new }
-        ensures cause { CausesFault D.Disk self.old self.new (IsErrOf result DeviceFlush.WriteFault) }
+        ensures flushes { IsTrue D.told → (h : History) → HasHistory D.Disk self.old h → h.kept.staged ≡ []
+            → PutsCut h.kept region (get_or (books_of self.old).drawn region 0) cells
+            → FlushesFrom D.Disk [] h region result self.old self.new }
+        ensures books { FlushesBooks region result self.old self.new }
+        ensures logs { IsTrue D.told → LogsStay (files_of D.Disk self.old) (files_of D.Disk self.new) }
+        ensures memory { IsErrOf result DeviceFlush.Memory → self.new ≡ self.old }
+        ensures breaks { Breaks D.Disk (IsErrOf result DeviceFlush.WriteFault) self.old self.new }
     {
         let ledger = &*self.ledger;
         let from = ledger.flushed(region) + 1;
@@ -163,7 +103,7 @@ impl<D: Disk> Device<D> {
             region,
             number: ledger.next_store(region),
         };
-        match write_cut(alloc, &mut self.disk, name, from, to, cells) {
+        match write_cut(alloc, &mut self.disk, name, &[], from, to, cells) {
             Ok(_) => {
                 self.ledger.flush(region);
                 Ok(to)

@@ -3,6 +3,7 @@
 ghost use Rattle.std.specs.Prelude.{◌≡◌, ◌<◌, ◌+◌, ℕ, List, [], IsTrue, IfOk, IsErr};
 ghost use Rattle.disk_images.specs.Crash.{Throughout};
 ghost use Rattle.disk_images.specs.Calls.{HasCause};
+ghost use Rattle.chronicle_model.specs.Growth.{AppendsTo};
 ghost use Rattle.log_ledger.specs.History.{History, closed_in};
 ghost use Rattle.log_device.specs.Bears.{Bears};
 ghost use Rattle.log_device.specs.Keeps.{Keeps, Between, IsInOrder, log_name};
@@ -29,6 +30,8 @@ pub(crate) fn next_log<D: Disk>(
         → Throughout (Bears h.kept.base ns (log.name.number + 1)) 7 (D.view disk.old) (D.view disk.new) }
     ensures in_order { IsTrue D.told → (h : History) (ns : List ℕ) → Keeps log (D.view disk.old) h ns
         → Throughout (IsInOrder log.name (log_name (log.name.number + 1)) h.current) 7 (D.view disk.old) (D.view disk.new) }
+    ensures appends { IsTrue D.told → (h : History) (ns : List ℕ) → Keeps log (D.view disk.old) h ns
+        → AppendsTo log.name.number (D.view disk.old).files (D.view disk.new).files }
     ensures kept { IsTrue D.told → (h : History) (ns : List ℕ) → Keeps log (D.view disk.old) h ns → h.kept.staged ≡ []
         → IfOk result (λ now. Keeps now (D.view disk.new) (closed_in h log.name.number) ns) }
     ensures begun { IfOk result

@@ -2,13 +2,11 @@
 
 ghost use Rattle.std.specs.Prelude.{◌≡◌, ℕ, List, length, Contains, IsTrue, OnOk, IsErr};
 ghost use Rattle.log_model.specs.Recovered.{IsWhollyFlushed};
-ghost use Rattle.disk_images.specs.Crash.{Throughout};
 ghost use Rattle.disk_images.specs.Calls.{HasCause};
 ghost use Rattle.log_file.specs.Open.{OpenLog};
 ghost use Rattle.log_ledger.specs.History.{ClosedLog, History, archived_in, with_logs};
 ghost use Rattle.log_ledger.specs.Counted.{IsCounted, LogsLeft};
-ghost use Rattle.log_device.specs.Bears.{Bears};
-ghost use Rattle.log_device.specs.Keeps.{Keeps, Shows};
+ghost use Rattle.log_device.specs.Keeps.{Keeps, Renames};
 
 use disk_images::{Disk, Failed, Name, NameKind, rename_durable};
 use log_ledger::Ledger;
@@ -19,12 +17,9 @@ pub(crate) fn rename_flushed<D: Disk>(disk: &mut D, ledger: &Ledger) -> Result<(
     requires { IsTrue D.told → ∥ ((log : OpenLog) × (h : History) × Keeps log (D.view disk.old) h ledger.now.next_store
         × IsCounted ledger.now h) ∥₁ }
 
-    ensures any_moment { IsTrue D.told → (log : OpenLog) (h : History) → Keeps log (D.view disk.old) h ledger.now.next_store
+    ensures renames { IsTrue D.told → (log : OpenLog) (h : History) → Keeps log (D.view disk.old) h ledger.now.next_store
         → IsCounted ledger.now h
-        → Throughout (Shows h.kept log.name h.current) (length h.logs) (D.view disk.old) (D.view disk.new) }
-    ensures names { IsTrue D.told → (log : OpenLog) (h : History) → Keeps log (D.view disk.old) h ledger.now.next_store
-        → IsCounted ledger.now h
-        → Throughout (Bears h.kept.base ledger.now.next_store log.name.number) (length h.logs) (D.view disk.old) (D.view disk.new) }
+        → Renames log h.kept h.current ledger.now.next_store (length h.logs) (D.view disk.old) (D.view disk.new) }
     ensures kept { IsTrue D.told → (log : OpenLog) (h : History) → Keeps log (D.view disk.old) h ledger.now.next_store
         → IsCounted ledger.now h → OnOk result ((left : List ClosedLog) × LogsLeft h left
         × Keeps log (D.view disk.new) (with_logs h left) ledger.now.next_store) }
@@ -44,15 +39,10 @@ fn rename_log<D: Disk>(disk: &mut D, number: u64) -> Result<(), Failed>
     requires { IsTrue D.told → ∥ ((log : OpenLog) × (h : History) × (ns : List ℕ) × (c : ClosedLog)
         × Keeps log (D.view disk.old) h ns × Contains h.logs c × (c.number ≡ number)) ∥₁ }
 
-    // Each image is like the files before, whether the log was renamed there or not.
-    ensures any_moment { IsTrue D.told → (log : OpenLog) (h : History) (ns : List ℕ) (c : ClosedLog)
+    ensures renames { IsTrue D.told → (log : OpenLog) (h : History) (ns : List ℕ) (c : ClosedLog)
         → Keeps log (D.view disk.old) h ns → Contains h.logs c → c.number ≡ number
         → IsWhollyFlushed h.kept.flushed c.entries
-        → Throughout (Shows h.kept log.name h.current) 1 (D.view disk.old) (D.view disk.new) }
-    ensures names { IsTrue D.told → (log : OpenLog) (h : History) (ns : List ℕ) (c : ClosedLog)
-        → Keeps log (D.view disk.old) h ns → Contains h.logs c → c.number ≡ number
-        → IsWhollyFlushed h.kept.flushed c.entries
-        → Throughout (Bears h.kept.base ns log.name.number) 1 (D.view disk.old) (D.view disk.new) }
+        → Renames log h.kept h.current ns 1 (D.view disk.old) (D.view disk.new) }
     ensures kept { IsTrue D.told → (log : OpenLog) (h : History) (ns : List ℕ) (c : ClosedLog)
         → Keeps log (D.view disk.old) h ns → Contains h.logs c → c.number ≡ number
         → IsWhollyFlushed h.kept.flushed c.entries → OnOk result (Keeps log (D.view disk.new) (archived_in h number) ns) }

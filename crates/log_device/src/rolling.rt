@@ -1,12 +1,13 @@
 //! From one log file to the next.
 
 ghost use Rattle.std.specs.Prelude.{◌≡◌, ◌⊎◌, ◌≤◌, ◌<◌, ◌+◌, ◌^◌, ◌↔◌, ℕ, [], sum, Some, None, Ok, Err, IsTrue, IfOk, OnOk, OnErr, IsErr, IsErrOf};
+ghost use Rattle.chronicle_model.specs.Growth.{AppendsTo, Prolongs};
 ghost use Rattle.log_file.specs.Open.{OpenLog};
 ghost use Rattle.log_ledger.specs.History.{History, closed_in};
 ghost use Rattle.log_device.specs.Bears.{Bears};
 ghost use Rattle.log_device.specs.Keeps.{Between, IsInOrder, log_name};
-ghost use Rattle.log_device.specs.Whole.{IsBroken, IsIdle, IsBegunAfter, log_of, books_of, HasHistory, EachImage, CausesFault, OnlyCommits, disk_of};
-ghost use Rattle.log_device.specs.Calls.{Rolls, RollsBooks};
+ghost use Rattle.log_device.specs.Whole.{IsBroken, IsAtRest, Breaks, IsIdle, IsBegunAfter, log_of, books_of, files_of, HasHistory, EachImage, CausesFault, OnlyCommits, disk_of};
+ghost use Rattle.log_device.specs.Calls.{Rolls, RollsFrom, RollsBooks, BeginsNext, BeginsNextBooks};
 
 use crate::device::Device;
 use crate::error::{RollRefusal, Rolled, WriteFault};
@@ -28,6 +29,10 @@ impl<D: Disk> Device<D> {
             → Rolls D.Disk h result self.old self.new }
         ensures books { RollsBooks result self.old self.new }
 
+        // The logs' chronicle before the call begins the one after it, whatever it answers.
+        ensures chronicle { IsTrue D.told → (h : History) → HasHistory D.Disk self.old h
+            → Prolongs (files_of D.Disk self.old) (files_of D.Disk self.new) }
+
         // What stays, and when it fails.
         ensures stays { IsBroken self.old → self.new ≡ self.old }
         ensures memory { IsErrOf result RollRefusal.Memory → OnlyCommits D.Disk self.old self.new }
@@ -41,46 +46,16 @@ impl<D: Disk> Device<D> {
 
     /// Rolls a log in which nothing is staged.
     fn roll_committed(&mut self, alloc: Global) -> Result<Rolled, RollRefusal>
-        requires whole { IsTrue D.told → ∥ ((h : History) × HasHistory D.Disk self.old h) ∥₁ }
-        requires unbroken { IsBroken self.old → ⊥ }
-        requires idle { IsIdle (log_of self.old) }
+        requires { IsAtRest D.Disk self.old }
 
-        ensures any_moment { IsTrue D.told → (h : History) (file : OpenLog) → HasHistory D.Disk self.old h
-            → log_of self.old ≡ Some file
-            → EachImage D.Disk (Between h.kept file.name h.current h.kept (log_name (file.name.number + 1)) []) 7 self.old self.new }
-        ensures names { IsTrue D.told → (h : History) (file : OpenLog) → HasHistory D.Disk self.old h
-            → log_of self.old ≡ Some file
-            → EachImage D.Disk (Bears h.kept.base (books_of self.old).next_store (file.name.number + 1)) 7 self.old self.new }
-        ensures in_order { IsTrue D.told → (h : History) (file : OpenLog) → HasHistory D.Disk self.old h
-            → log_of self.old ≡ Some file
-            → EachImage D.Disk (IsInOrder file.name (log_name (file.name.number + 1)) h.current) 7 self.old self.new }
-        ensures rolled { IsTrue D.told → (h : History) → HasHistory D.Disk self.old h → h.kept.staged ≡ [] → IfOk result
-            (λ rolled. HasHistory D.Disk self.new (closed_in h rolled.closed)) }
-        ensures file { (file : OpenLog) → log_of self.old ≡ Some file → IfOk result
-            (λ rolled. (rolled.closed ≡ file.name.number) × (rolled.entries ≡ file.entries) × (0 < rolled.entries)) }
-        ensures refused { IsTrue D.told → (h : History) → HasHistory D.Disk self.old h → h.kept.staged ≡ []
-            → OnErr result ((IsBroken self.new → ⊥) → HasHistory D.Disk self.new h) }
-        ensures nothing { (file : OpenLog) (n : ℕ) → log_of self.old ≡ Some file
-            → result ≡ Err (RollRefusal.NothingToRoll n) → (n ≡ file.name.number) × (file.entries ≡ 0) }
-        ensures empty { (file : OpenLog) → log_of self.old ≡ Some file → file.entries ≡ 0
-            → result ≡ Err (RollRefusal.NothingToRoll file.name.number) }
-        ensures closed { OnOk result ((books_of self.new).closed ≡ (books_of self.new).synced) }
-        ensures closed_empty { (n : ℕ) → result ≡ Err (RollRefusal.NothingToRoll n)
-            → (books_of self.new).closed ≡ (books_of self.new).synced }
-        ensures closed_still { IsErrOf result RollRefusal.Memory
-            → (books_of self.new).closed ≡ (books_of self.old).closed }
-        ensures closed_either { ((books_of self.new).closed ≡ (books_of self.old).closed) ⊎ ((books_of self.new).closed ≡ (books_of self.old).synced) }
-        ensures closed_broken { IsBroken self.new → (books_of self.new).closed ≡ (books_of self.old).closed }
-        ensures synced { (books_of self.new).synced ≡ (books_of self.old).synced }
-        ensures emptied { IsIdle (log_of self.new) }
-        ensures next { (file : OpenLog) → log_of self.old ≡ Some file
-            → OnOk result (IsBegunAfter file (log_of self.new)) }
-        ensures stored { (books_of self.new).stored ≡ (books_of self.old).stored }
-        ensures drawn { (books_of self.new).drawn ≡ (books_of self.old).drawn }
-        ensures served { (books_of self.new).next_store ≡ (books_of self.old).next_store }
+        ensures rolls { IsTrue D.told → (h : History) → HasHistory D.Disk self.old h → h.kept.staged ≡ []
+            → RollsFrom D.Disk 7 [] h result self.old self.new }
+        ensures books { RollsBooks result self.old self.new }
+        ensures appends { IsTrue D.told → (h : History) (file : OpenLog) → HasHistory D.Disk self.old h
+            → log_of self.old ≡ Some file → h.kept.staged ≡ []
+            → AppendsTo file.name.number (files_of D.Disk self.old) (files_of D.Disk self.new) }
         ensures memory { IsErrOf result RollRefusal.Memory → disk_of self.new ≡ disk_of self.old }
-        ensures broken { IsErrOf result RollRefusal.WriteFault ↔ IsBroken self.new }
-        ensures cause { CausesFault D.Disk self.old self.new (IsErrOf result RollRefusal.WriteFault) }
+        ensures breaks { Breaks D.Disk (IsErrOf result RollRefusal.WriteFault) self.old self.new }
     {
         let (file, entries) = self.current();
         let ledger = &mut *self.ledger;
@@ -109,35 +84,15 @@ impl<D: Disk> Device<D> {
 
     /// Ends the current file, which has an entry, and begins the next one with this stage.
     fn begin_next(&mut self, stage: Stage) -> Result<(), WriteFault>
-        requires whole { IsTrue D.told → ∥ ((h : History) × HasHistory D.Disk self.old h) ∥₁ }
-        requires unbroken { IsBroken self.old → ⊥ }
-        requires idle { (file : OpenLog) → log_of self.old ≡ Some file → (file.staged ≡ 0) × (0 < file.entries) }
+        requires rest { IsAtRest D.Disk self.old }
+        requires some { (file : OpenLog) → log_of self.old ≡ Some file → 0 < file.entries }
         requires room { 1 ≤ (books_of self.old).accounts.room }
         requires small { sum (books_of self.old).drawn < 2 ^ 55 }
 
-        ensures any_moment { IsTrue D.told → (h : History) (file : OpenLog) → HasHistory D.Disk self.old h
-            → log_of self.old ≡ Some file
-            → EachImage D.Disk (Between h.kept file.name h.current h.kept (log_name (file.name.number + 1)) []) 7 self.old self.new }
-        ensures names { IsTrue D.told → (h : History) (file : OpenLog) → HasHistory D.Disk self.old h
-            → log_of self.old ≡ Some file
-            → EachImage D.Disk (Bears h.kept.base (books_of self.old).next_store (file.name.number + 1)) 7 self.old self.new }
-        ensures in_order { IsTrue D.told → (h : History) (file : OpenLog) → HasHistory D.Disk self.old h
-            → log_of self.old ≡ Some file
-            → EachImage D.Disk (IsInOrder file.name (log_name (file.name.number + 1)) h.current) 7 self.old self.new }
-        ensures rolled { IsTrue D.told → (h : History) (file : OpenLog) → HasHistory D.Disk self.old h
-            → log_of self.old ≡ Some file → h.kept.staged ≡ []
-            → OnOk result (HasHistory D.Disk self.new (closed_in h file.name.number)) }
-        ensures closed { OnOk result ((books_of self.new).closed ≡ (books_of self.new).synced) }
-        ensures closed_faulty { OnErr result ((books_of self.new).closed ≡ (books_of self.old).closed) }
-        ensures synced { (books_of self.new).synced ≡ (books_of self.old).synced }
-        ensures emptied { IsIdle (log_of self.new) }
-        ensures next { (file : OpenLog) → log_of self.old ≡ Some file
-            → OnOk result (IsBegunAfter file (log_of self.new)) }
-        ensures stored { (books_of self.new).stored ≡ (books_of self.old).stored }
-        ensures drawn { (books_of self.new).drawn ≡ (books_of self.old).drawn }
-        ensures served { (books_of self.new).next_store ≡ (books_of self.old).next_store }
-        ensures broken { IsErr result ↔ IsBroken self.new }
-        ensures cause { CausesFault D.Disk self.old self.new (IsErr result) }
+        ensures begins { IsTrue D.told → (h : History) (file : OpenLog) → HasHistory D.Disk self.old h → log_of self.old ≡ Some file
+            → h.kept.staged ≡ [] → BeginsNext D.Disk h file result self.old self.new }
+        ensures books { BeginsNextBooks result self.old self.new }
+        ensures breaks { Breaks D.Disk (IsErr result) self.old self.new }
     {
         let Some(log) = self.log.take() else {
             return Err(WriteFault);

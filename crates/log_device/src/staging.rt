@@ -2,13 +2,14 @@
 
 ghost use Rattle.std.specs.Prelude.{◌≡◌, ◌≤◌, ◌<◌, ◌+◌, ◌↔◌, ◌++◌, ℕ, [], length, get_or, Some, None, Ok, IsTrue, IfOk, IfErr, OnOk, OnErr, IsErr};
 ghost use Rattle.log_model.specs.Entry.{Entry, IsEntry, entry_frame};
+ghost use Rattle.chronicle_model.specs.Growth.{AppendsTo, Prolongs};
 ghost use Rattle.log_file.specs.Open.{OpenLog};
 ghost use Rattle.log_ledger.specs.History.{History, committed_in};
 ghost use Rattle.log_ledger.specs.Books.{IsServed, AreInOrder};
 ghost use Rattle.recovery.specs.Kept.{committed};
 ghost use Rattle.log_device.specs.Bears.{Bears};
 ghost use Rattle.log_device.specs.Keeps.{Between};
-ghost use Rattle.log_device.specs.Whole.{IsBroken, IsCommitted, IsIdle, disk_of, log_of, books_of, HasHistory, EachImage, CausesFault};
+ghost use Rattle.log_device.specs.Whole.{IsBroken, Breaks, IsCommitted, IsIdle, disk_of, log_of, books_of, files_of, HasHistory, EachImage, CausesFault};
 ghost use Rattle.log_device.specs.Calls.{Stages, StagesBooks, Syncs, SyncsBooks};
 
 use crate::device::Device;
@@ -63,6 +64,10 @@ impl<D: Disk> Device<D> {
             → Syncs D.Disk h result self.old self.new }
         ensures books { SyncsBooks result self.old self.new }
 
+        // The logs' chronicle before the call begins the one after it, whatever it answers.
+        ensures chronicle { IsTrue D.told → (h : History) → HasHistory D.Disk self.old h
+            → Prolongs (files_of D.Disk self.old) (files_of D.Disk self.new) }
+
         // What stays, and when it fails.
         ensures stays { IsBroken self.old → self.new ≡ self.old }
         ensures broken { IsErr result ↔ IsBroken self.new }
@@ -71,30 +76,18 @@ impl<D: Disk> Device<D> {
         self.commit_staged()
     }
 
-    /// The same, with the files that each image is like.
+    /// The same, with what it leaves of the logs.
     pub(crate) fn commit_staged(&mut self) -> Result<u64, WriteFault>
         requires { IsTrue D.told → (IsBroken self.old → ⊥) → ∥ ((h : History) × HasHistory D.Disk self.old h) ∥₁ }
 
-        ensures any_moment { IsTrue D.told → (h : History) (file : OpenLog) → HasHistory D.Disk self.old h
+        ensures syncs { IsTrue D.told → (h : History) → HasHistory D.Disk self.old h
+            → Syncs D.Disk h result self.old self.new }
+        ensures books { SyncsBooks result self.old self.new }
+        ensures appends { IsTrue D.told → (h : History) (file : OpenLog) → HasHistory D.Disk self.old h
             → log_of self.old ≡ Some file
-            → EachImage D.Disk (Between h.kept file.name h.current (committed h.kept) file.name (h.current ++ h.kept.staged)) 4 self.old self.new }
-        ensures names { IsTrue D.told → (h : History) (file : OpenLog) → HasHistory D.Disk self.old h
-            → log_of self.old ≡ Some file
-            → EachImage D.Disk (Bears h.kept.base (books_of self.old).next_store file.name.number) 4 self.old self.new }
-        ensures committed { IsTrue D.told → (h : History) → HasHistory D.Disk self.old h
-            → OnOk result (HasHistory D.Disk self.new (committed_in h)) }
-        ensures count { (file : OpenLog) → log_of self.old ≡ Some file → IfOk result (λ n. n ≡ file.staged) }
-        ensures idle { (file : OpenLog) → log_of self.old ≡ Some file → file.staged ≡ 0
-            → (disk_of self.new ≡ disk_of self.old) × (result ≡ Ok 0) }
-        ensures file { (file : OpenLog) → log_of self.old ≡ Some file → OnOk result (IsCommitted file (log_of self.new)) }
-        ensures emptied { IsIdle (log_of self.new) }
-        ensures synced { OnOk result ((books_of self.new) ≡ record (books_of self.old) { synced = (books_of self.old).drawn }) }
-        ensures faulty { OnErr result (books_of self.new ≡ books_of self.old) }
+            → AppendsTo file.name.number (files_of D.Disk self.old) (files_of D.Disk self.new) }
         ensures order { OnOk result (AreInOrder (books_of self.old)) }
-        ensures never_falls { (r : ℕ) → get_or (books_of self.old).synced r 0 ≤ get_or (books_of self.new).synced r 0 }
-        ensures broken { IsErr result ↔ IsBroken self.new }
-        ensures stays { IsBroken self.old → self.new ≡ self.old }
-        ensures cause { CausesFault D.Disk self.old self.new ((IsBroken self.old → ⊥) × IsErr result) }
+        ensures breaks { Breaks D.Disk (IsErr result) self.old self.new }
     {
         let Some(log) = &mut self.log else {
             return Err(WriteFault);

@@ -10,6 +10,7 @@ use Rattle.log_file.specs.Open.{OpenLog, IsOpen, IsStaged}
 use Rattle.log_ledger.specs.History.{History}
 use Rattle.log_device.specs.Bears.{Bears}
 use Rattle.log_device.specs.Keeps.{Keeps, Between, IsInOrder, log_name}
+use Rattle.log_device.proofs.Appends.{end_appends, roll_appends}
 use Rattle.log_device.proofs.Disk.{absent_by}
 use Rattle.log_device.proofs.NextLog.{still_free, end_names, roll_names, end_moments, end_in_order, roll_moments, roll_in_order, roll_kept}
 use Rattle.log_device.proofs.next.next_log.Goals as goal
@@ -92,3 +93,16 @@ returns-clause-names g c told h ns keeps =
     roll_names c.args.log u v w h ns keeps (g.met.D.Disk.is_true c.args.disk.now told) (g.met.D.Disk.is_true c.finish.new.disk told)
     (c.finish.ensures.finishes told h.current keeps.open_log).atomic (c.finish.ensures.no_other_file told) (c.in_ok-finish.ensures.finishes told h.current keeps.open_log).durable
     (subst (λ (n : Name). Throughout (OnlyAt n (HasEntries n []) v) 3 v w) c.requires.next (c.begin_with.ensures.begins told).atomic)
+
+pub returns-in_err-finish-clause-appends : goal.returns-in_err-finish-clause-appends
+returns-in_err-finish-clause-appends g c told h ns keeps =
+    end_appends c.args.log (g.D.Disk.view c.args.disk.now) h ns keeps (g.D.Disk.view c.finish.new.disk) (g.met.D.Disk.is_true c.finish.new.disk told)
+    (c.finish.ensures.finishes told h.current keeps.open_log).atomic (c.finish.ensures.no_other_file told)
+
+pub returns-clause-appends : goal.returns-clause-appends
+returns-clause-appends g c told h ns keeps =
+    let v = g.D.Disk.view c.finish.new.disk in
+    let w = g.D.Disk.view c.begin_with.new.disk in
+    roll_appends c.args.log (g.D.Disk.view c.args.disk.now) h ns keeps v w (g.met.D.Disk.is_true c.finish.new.disk told)
+    (c.finish.ensures.finishes told h.current keeps.open_log).atomic (c.finish.ensures.no_other_file told)
+    (subst (λ (n : Name). Touches n v w) c.requires.next (c.begin_with.ensures.begins told).no_other_file)

@@ -1,10 +1,7 @@
 use Rattle.std.proofs.Common.{◌+◌, length, refl, arith}
 use Rattle.std.proofs.Math.Logic.{∥∥₁_map}
-use Rattle.disk_images.proofs.Moments.{joined, more_time}
 use Rattle.log_ledger.specs.History.{with_logs}
-use Rattle.log_device.specs.Bears.{Bears}
-use Rattle.log_device.specs.Keeps.{Shows}
-use Rattle.log_device.proofs.Going.{nothing_gone, is_left, one_gone, all_gone}
+use Rattle.log_device.proofs.Going.{renames_on, renames_within, nothing_gone, is_left, one_gone, all_gone}
 use Rattle.log_device.proofs.renaming.rename_flushed.Goals as goal
 
 pub loop-file-init : goal.loop-file-init
@@ -24,8 +21,8 @@ rename_log-requires g c told =
       next.number,
     ))
 
-pub returns-in_err-rename_log-clause-any_moment : goal.returns-in_err-rename_log-clause-any_moment
-returns-in_err-rename_log-clause-any_moment g c told log h keeps counted =
+pub returns-in_err-rename_log-clause-renames : goal.returns-in_err-rename_log-clause-renames
+returns-in_err-rename_log-clause-renames g c told log h keeps counted =
     let u = g.D.Disk.view c.args.disk.now in
     let v = g.D.Disk.view c.loop-file.disk in
     let w = g.D.Disk.view c.rename_log.new.disk in
@@ -33,22 +30,8 @@ returns-in_err-rename_log-clause-any_moment g c told log h keeps counted =
     let so_far = c.loop-file.invariant.0 told log h keeps counted in
     let next = c.in-Some.ensures.exact h counted in
     let left = is_left log u v h ns c.loop-file.above c.in-Some.file so_far next c.in-Some.ensures.later in
-    more_time (Shows h.kept log.name h.current) (so_far.calls + 1) (length h.logs) u w (omega (arith, so_far.total, left.1))
-    (joined (Shows h.kept log.name h.current) so_far.calls 1 u v w so_far.moments
-    (c.rename_log.ensures.any_moment told log (with_logs h so_far.left) ns next.log so_far.keeps left next.number next.flushed))
-
-pub returns-in_err-rename_log-clause-names : goal.returns-in_err-rename_log-clause-names
-returns-in_err-rename_log-clause-names g c told log h keeps counted =
-    let u = g.D.Disk.view c.args.disk.now in
-    let v = g.D.Disk.view c.loop-file.disk in
-    let w = g.D.Disk.view c.rename_log.new.disk in
-    let ns = c.args.ledger.now.next_store in
-    let so_far = c.loop-file.invariant.0 told log h keeps counted in
-    let next = c.in-Some.ensures.exact h counted in
-    let left = is_left log u v h ns c.loop-file.above c.in-Some.file so_far next c.in-Some.ensures.later in
-    more_time (Bears h.kept.base ns log.name.number) (so_far.calls + 1) (length h.logs) u w (omega (arith, so_far.total, left.1))
-    (joined (Bears h.kept.base ns log.name.number) so_far.calls 1 u v w so_far.names
-    (c.rename_log.ensures.names told log (with_logs h so_far.left) ns next.log so_far.keeps left next.number next.flushed))
+    renames_within log h.kept h.current ns (so_far.calls + 1) (length h.logs) u w (omega (arith, so_far.total, left.1))
+    (renames_on log h.kept h.current ns so_far.calls 1 u v w so_far.renames (c.rename_log.ensures.renames told log (with_logs h so_far.left) ns next.log so_far.keeps left next.number next.flushed))
 
 pub returns-in_err-rename_log-clause-cause : goal.returns-in_err-rename_log-clause-cause
 returns-in_err-rename_log-clause-cause g c =
@@ -69,23 +52,17 @@ loop-file-preserved g c = (
       let left = is_left log u v h ns c.loop-file.above c.in-Some.file so_far next c.in-Some.ensures.later in
       one_gone log u v h ns c.loop-file.above c.in-Some.file so_far next c.in-Some.ensures.later w
       (c.in_ok-rename_log.ensures.kept told log (with_logs h so_far.left) ns next.log so_far.keeps left next.number next.flushed)
-      (c.rename_log.ensures.any_moment told log (with_logs h so_far.left) ns next.log so_far.keeps left next.number next.flushed)
-      (c.rename_log.ensures.names told log (with_logs h so_far.left) ns next.log so_far.keeps left next.number next.flushed),
+      (c.rename_log.ensures.renames told log (with_logs h so_far.left) ns next.log so_far.keeps left next.number next.flushed),
   omega (arith, c.rename_log.ensures.cause.later, c.loop-file.invariant.1),
 )
 
 pub loop-file-smaller : goal.loop-file-smaller
 loop-file-smaller g c = omega (arith, c.in-Some.ensures.later)
 
-pub returns-clause-any_moment : goal.returns-clause-any_moment
-returns-clause-any_moment g c told log h keeps counted =
+pub returns-clause-renames : goal.returns-clause-renames
+returns-clause-renames g c told log h keeps counted =
     let so_far = c.loop-file.invariant.0 told log h keeps counted in
-    more_time (Shows h.kept log.name h.current) so_far.calls (length h.logs) (g.D.Disk.view c.args.disk.now) (g.D.Disk.view c.loop-file.disk) (omega (arith, so_far.total)) so_far.moments
-
-pub returns-clause-names : goal.returns-clause-names
-returns-clause-names g c told log h keeps counted =
-    let so_far = c.loop-file.invariant.0 told log h keeps counted in
-    more_time (Bears h.kept.base c.args.ledger.now.next_store log.name.number) so_far.calls (length h.logs) (g.D.Disk.view c.args.disk.now) (g.D.Disk.view c.loop-file.disk) (omega (arith, so_far.total)) so_far.names
+    renames_within log h.kept h.current c.args.ledger.now.next_store so_far.calls (length h.logs) (g.D.Disk.view c.args.disk.now) (g.D.Disk.view c.loop-file.disk) (omega (arith, so_far.total)) so_far.renames
 
 pub returns-clause-kept : goal.returns-clause-kept
 returns-clause-kept g c told log h keeps counted =

@@ -9,6 +9,7 @@ use Rattle.disk_images.specs.Moved.{HasEitherName, TouchesBoth}
 use Rattle.log_file.specs.LogText.{ended_text}
 use Rattle.log_ledger.specs.History.{archived_in}
 use Rattle.log_device.specs.Keeps.{Keeps, log_name, old_name}
+use Rattle.log_device.proofs.Appends.{renamed_stay}
 use Rattle.log_device.proofs.Disk.{absent_by}
 use Rattle.log_device.proofs.Archived.{rename_names, rename_moments, archived_kept, old_free}
 use Rattle.log_device.proofs.renaming.rename_log.Goals as goal
@@ -33,12 +34,16 @@ moves_at n number u v bytes is file over touches = (
   subst (λ (k : ℕ). TouchesBoth (log_name k) (old_name k) u v) (sym is) touches,
 )
 
-pub returns-clause-any_moment : goal.returns-clause-any_moment
-returns-clause-any_moment g c told log h ns closed keeps member number flushed =
+pub returns-clause-renames : goal.returns-clause-renames
+returns-clause-renames g c told log h ns closed keeps member number flushed =
     let u = g.D.Disk.view c.args.disk.now in
     let v = g.D.Disk.view c.rename_durable.new.disk in
-    let moved = moves_at closed.number c.args.number u v (ended_text closed.number closed.entries) number (keeps.logs closed member).0.file (c.rename_durable.ensures.any_moment told) (c.rename_durable.ensures.touches told) in
-    rename_moments log u v h ns keeps closed member flushed moved.0 moved.1
+    let file = (keeps.logs closed member).0.file in
+    let moved = moves_at closed.number c.args.number u v (ended_text closed.number closed.entries) number file (c.rename_durable.ensures.any_moment told) (c.rename_durable.ensures.touches told) in record {
+      any_moment = rename_moments log u v h ns keeps closed member flushed moved.0 moved.1;
+      names = rename_names log u v h ns keeps closed member flushed moved.0 moved.1;
+      logs = renamed_stay closed.number u v (ended_text closed.number closed.entries) (g.met.D.Disk.is_true c.rename_durable.new.disk told) file moved.0 moved.1;
+    }
 
 pub returns-clause-kept : goal.returns-clause-kept
 returns-clause-kept g c told log h ns closed keeps member number flushed =
@@ -48,10 +53,3 @@ returns-clause-kept g c told log h ns closed keeps member number flushed =
     subst (λ (n : ℕ). OnOk c.rename_durable.result (Keeps log v (archived_in h n) ns)) number
     (on_ok_weaker c.rename_durable.result (archived_kept log u v h ns keeps closed member flushed moved.0 moved.1)
     (subst (λ (n : ℕ). OnOk c.rename_durable.result (Renamed (log_name n) (old_name n) u.files v.files)) (sym number) (c.rename_durable.ensures.renamed told)))
-
-pub returns-clause-names : goal.returns-clause-names
-returns-clause-names g c told log h ns closed keeps member number flushed =
-    let u = g.D.Disk.view c.args.disk.now in
-    let v = g.D.Disk.view c.rename_durable.new.disk in
-    let moved = moves_at closed.number c.args.number u v (ended_text closed.number closed.entries) number (keeps.logs closed member).0.file (c.rename_durable.ensures.any_moment told) (c.rename_durable.ensures.touches told) in
-    rename_names log u v h ns keeps closed member flushed moved.0 moved.1

@@ -4,6 +4,8 @@ use Rattle.std.specs.Option.{is_some}
 use Rattle.std.proofs.Math.Logic.{∥∥₁_map}
 use Rattle.log_ledger.specs.History.{with_logs}
 use Rattle.log_device.specs.Keeps.{Keeps}
+use Rattle.chronicle_model.proofs.Grown.{prolonged}
+use Rattle.log_device.proofs.Appends.{appends_where_logs_stay}
 use Rattle.log_device.proofs.Calls.{archive_leaves}
 use Rattle.log_device.proofs.Going.{keeps_those}
 use Rattle.log_device.proofs.Numbering.{numbered_still}
@@ -24,8 +26,8 @@ invariant_of-self-in-Ok g c = record {
 pub returns-in-Ok-clause-archives : goal.returns-in-Ok-clause-archives
 returns-in-Ok-clause-archives g c told h whole = record {
   any_moment = archive_leaves whole.file (g.D.Disk.view c.args.self.now.disk) h c.args.self.now.ledger.value whole.keeps whole.counted (g.met.D.Disk.is_true c.args.self.now.disk told) (length h.logs)
-      (g.D.Disk.view c.args.self.now.disk) (g.D.Disk.view c.rename_flushed.new.disk) ((rw c.deref.ensures at c.rename_flushed.ensures.any_moment) told whole.file h whole.keeps whole.counted);
-  names = λ file is. (rw c.deref.ensures at c.rename_flushed.ensures.names) told file h (kept_file c.args.self.now (g.D.Disk.view c.args.self.now.disk) h file is whole) whole.counted;
+      (g.D.Disk.view c.args.self.now.disk) (g.D.Disk.view c.rename_flushed.new.disk) ((rw c.deref.ensures at c.rename_flushed.ensures.renames) told whole.file h whole.keeps whole.counted).any_moment;
+  names = λ file is. ((rw c.deref.ensures at c.rename_flushed.ensures.renames) told file h (kept_file c.args.self.now (g.D.Disk.view c.args.self.now.disk) h file is whole) whole.counted).names;
   archived =
       let w = g.D.Disk.view c.rename_flushed.new.disk in
       let kept = (rw c.deref.ensures at c.in-Ok.ensures.kept) told whole.file h whole.keeps whole.counted in
@@ -41,12 +43,28 @@ returns-in-Ok-clause-archives g c told h whole = record {
           counted = forgot.3;
         },
       );
+  lower = λ file is k low. ((rw c.deref.ensures at c.rename_flushed.ensures.renames) told whole.file h whole.keeps whole.counted).logs k;
 }
 
 pub returns-in-Err-clause-archives : goal.returns-in-Err-clause-archives
 returns-in-Err-clause-archives g c told h whole = record {
   any_moment = archive_leaves whole.file (g.D.Disk.view c.args.self.now.disk) h c.args.self.now.ledger.value whole.keeps whole.counted (g.met.D.Disk.is_true c.args.self.now.disk told) (length h.logs)
-      (g.D.Disk.view c.args.self.now.disk) (g.D.Disk.view c.rename_flushed.new.disk) ((rw c.deref.ensures at c.rename_flushed.ensures.any_moment) told whole.file h whole.keeps whole.counted);
-  names = λ file is. (rw c.deref.ensures at c.rename_flushed.ensures.names) told file h (kept_file c.args.self.now (g.D.Disk.view c.args.self.now.disk) h file is whole) whole.counted;
+      (g.D.Disk.view c.args.self.now.disk) (g.D.Disk.view c.rename_flushed.new.disk) ((rw c.deref.ensures at c.rename_flushed.ensures.renames) told whole.file h whole.keeps whole.counted).any_moment;
+  names = λ file is. ((rw c.deref.ensures at c.rename_flushed.ensures.renames) told file h (kept_file c.args.self.now (g.D.Disk.view c.args.self.now.disk) h file is whole) whole.counted).names;
   archived = tt;
+  lower = λ file is k low. ((rw c.deref.ensures at c.rename_flushed.ensures.renames) told whole.file h whole.keeps whole.counted).logs k;
 }
+
+pub returns-in-Ok-clause-chronicle : goal.returns-in-Ok-clause-chronicle
+returns-in-Ok-clause-chronicle g c told h whole =
+    let u = g.D.Disk.view c.args.self.now.disk in
+    let w = g.D.Disk.view c.rename_flushed.new.disk in
+    prolonged whole.file.name.number u.files w.files
+    (appends_where_logs_stay whole.file u h c.args.self.now.ledger.value.next_store whole.keeps w.files ((rw c.deref.ensures at c.rename_flushed.ensures.renames) told whole.file h whole.keeps whole.counted).logs)
+
+pub returns-in-Err-clause-chronicle : goal.returns-in-Err-clause-chronicle
+returns-in-Err-clause-chronicle g c told h whole =
+    let u = g.D.Disk.view c.args.self.now.disk in
+    let w = g.D.Disk.view c.rename_flushed.new.disk in
+    prolonged whole.file.name.number u.files w.files
+    (appends_where_logs_stay whole.file u h c.args.self.now.ledger.value.next_store whole.keeps w.files ((rw c.deref.ensures at c.rename_flushed.ensures.renames) told whole.file h whole.keeps whole.counted).logs)

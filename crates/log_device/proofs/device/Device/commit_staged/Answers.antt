@@ -1,18 +1,17 @@
-use Rattle.std.proofs.Common.{◌≡◌, [], ℕ, List, ◌++◌, refl, sym, ap, ◌∙◌, subst, arith}
+use Rattle.std.proofs.Common.{◌≡◌, [], ℕ, List, Ok, Some, get_or, refl, sym, ap, ◌∙◌, subst, arith}
 use Rattle.std.specs.Prelude.{sum}
 use Rattle.std.proofs.Math.Logic.{∥∥₁_map}
-use Rattle.disk_images.specs.Crash.{Throughout}
-use Rattle.recovery.specs.Kept.{committed}
-use Rattle.log_file.specs.Open.{OpenLog, HasEither}
+use Rattle.log_file.specs.Open.{OpenLog}
 use Rattle.log_file.specs.LogText.{behind_gate}
 use Rattle.log_ledger.specs.Books.{Books}
 use Rattle.log_ledger.specs.History.{committed_in}
-use Rattle.log_device.specs.Bears.{Bears}
-use Rattle.log_device.specs.Keeps.{Keeps, Between}
+use Rattle.log_device.specs.Keeps.{Keeps}
 use Rattle.log_device.specs.Numbered.{IsNumbered}
 use Rattle.log_device.proofs.Numbering.{same_file, numbered_still}
 use Rattle.log_device.proofs.Whole.{kept_file}
-use Rattle.log_device.proofs.Committed.{names_moments, commit_moments, commit_kept}
+use Rattle.log_device.specs.Whole.{IsCommitted}
+use Rattle.log_device.proofs.Committed.{commit_kept}
+use Rattle.log_device.proofs.Syncing.{syncs, sync_appends}
 use Rattle.log_device.proofs.device.Device.commit_staged.Goals as goal
 
 pub commit-requires : goal.commit-requires
@@ -29,60 +28,60 @@ invariant_of-self-in-Ok g c = record {
       c.commit.ensures.same_name (omega (arith, c.in-Ok.ensures.entries, c.in-Ok.ensures.stage_emptied.count)) (ap (λ (b : Books). sum b.drawn) (rw c.deref_mut.ensures.value at c.commit-in-Ok.ensures.synced)) (ap (λ (b : Books). b.accounts.last) (rw c.deref_mut.ensures.value at c.commit-in-Ok.ensures.synced)));
 }
 
-pub returns-in-Ok-clause-any_moment : goal.returns-in-Ok-clause-any_moment
-returns-in-Ok-clause-any_moment g c told h file whole is =
+pub returns-in-Ok-clause-syncs : goal.returns-in-Ok-clause-syncs
+returns-in-Ok-clause-syncs g c told h whole =
     let v = g.D.Disk.view c.args.self.now.disk in
     let w = g.D.Disk.view c.commit.new.disk in
     let keeps = kept_file c.args.self.now v h c.in-Some.log c.in-Some.is whole in
-    subst (λ (f : OpenLog). Throughout (Between h.kept f.name h.current (committed h.kept) f.name (h.current ++ h.kept.staged)) 4 v w) (same_file c.in-Some.log file (sym c.in-Some.is ∙ is))
-    (commit_moments c.in-Some.log v h c.args.self.now.ledger.value.next_store keeps w (c.commit.ensures.commits told h.current h.kept.staged keeps.open_log keeps.staged).atomic)
-
-pub returns-in-Ok-clause-committed : goal.returns-in-Ok-clause-committed
-returns-in-Ok-clause-committed g c told h whole =
-    let v = g.D.Disk.view c.args.self.now.disk in
-    let w = g.D.Disk.view c.commit.new.disk in
-    let keeps = kept_file c.args.self.now v h c.in-Some.log c.in-Some.is whole in
-    record {
+    let atomic = (c.commit.ensures.commits told h.current h.kept.staged keeps.open_log keeps.staged).atomic in
+    syncs g.D.Disk h c.args.self.now _ c.in-Some.log c.in-Some.is whole (g.met.D.Disk.is_true c.args.self.now.disk told) (g.met.D.Disk.is_true c.commit.new.disk told) atomic (c.commit.ensures.no_other_file told) _
+    (record {
       file = c.commit.new.self;
       is = refl;
       keeps = subst (λ (ns : List ℕ). Keeps c.commit.new.self w (committed_in h) ns) (sym (ap (λ (b : Books). b.next_store) (rw c.deref_mut.ensures.value at c.commit-in-Ok.ensures.synced)))
-          (commit_kept c.in-Some.log v h c.args.self.now.ledger.value.next_store keeps c.commit.new.self w c.commit.ensures.same_name
-          (c.commit.ensures.commits told h.current h.kept.staged keeps.open_log keeps.staged).atomic (c.commit.ensures.no_other_file told)
+          (commit_kept c.in-Some.log v h c.args.self.now.ledger.value.next_store keeps c.commit.new.self w c.commit.ensures.same_name atomic (c.commit.ensures.no_other_file told)
           (c.in-Ok.ensures.commits told h.current h.kept.staged keeps.open_log keeps.staged).durable c.in-Ok.ensures.stage_emptied);
       counted = (rw c.deref_mut.ensures.value at c.commit-in-Ok.ensures.counted) h whole.counted;
-    }
+    })
 
-pub returns-in-Err-clause-any_moment : goal.returns-in-Err-clause-any_moment
-returns-in-Err-clause-any_moment g c told h file whole is =
-    let v = g.D.Disk.view c.args.self.now.disk in
-    let w = g.D.Disk.view c.commit.new.disk in
-    let keeps = kept_file c.args.self.now v h c.in-Some.log c.in-Some.is whole in
-    subst (λ (f : OpenLog). Throughout (Between h.kept f.name h.current (committed h.kept) f.name (h.current ++ h.kept.staged)) 4 v w) (same_file c.in-Some.log file (sym c.in-Some.is ∙ is))
-    (commit_moments c.in-Some.log v h c.args.self.now.ledger.value.next_store keeps w (c.commit.ensures.commits told h.current h.kept.staged keeps.open_log keeps.staged).atomic)
+pub returns-in-Err-clause-syncs : goal.returns-in-Err-clause-syncs
+returns-in-Err-clause-syncs g c told h whole =
+    let keeps = kept_file c.args.self.now (g.D.Disk.view c.args.self.now.disk) h c.in-Some.log c.in-Some.is whole in
+    syncs g.D.Disk h c.args.self.now _ c.in-Some.log c.in-Some.is whole (g.met.D.Disk.is_true c.args.self.now.disk told) (g.met.D.Disk.is_true c.commit.new.disk told)
+    (c.commit.ensures.commits told h.current h.kept.staged keeps.open_log keeps.staged).atomic (c.commit.ensures.no_other_file told) _ tt
 
 none_behind : behind_gate [] ≡ []
 unfolding behind_gate
 none_behind = refl
 
-pub returns-in-Ok-clause-emptied : goal.returns-in-Ok-clause-emptied
-returns-in-Ok-clause-emptied g c file is =
-    let same = same_file c.commit.new.self file is in
-    (ap (λ (f : OpenLog). f.staged) (sym same) ∙ c.in-Ok.ensures.stage_emptied.count, ap (λ (f : OpenLog). f.bytes) (sym same) ∙ (c.in-Ok.ensures.stage_emptied.bytes ∙ none_behind))
+pub returns-in-Ok-clause-books : goal.returns-in-Ok-clause-books
+returns-in-Ok-clause-books g c =
+    let synced = rw c.deref_mut.ensures.value at c.commit-in-Ok.ensures.synced in
+    let order = rw c.deref_mut.ensures.value at c.commit-in-Ok.ensures.order in record {
+      count = λ file is. c.in-Ok.ensures.returns_count ∙ ap (λ (f : OpenLog). f.staged) (same_file c.in-Some.log file (sym c.in-Some.is ∙ is));
+      idle = λ file is none.
+          let staged : c.in-Some.log.staged ≡ 0 = ap (λ (f : OpenLog). f.staged) (same_file c.in-Some.log file (sym c.in-Some.is ∙ is)) ∙ none in
+          ((c.commit.ensures.nothing_staged staged).0, ap (λ (n : ℕ). Ok n) (c.in-Ok.ensures.returns_count ∙ staged));
+      file = λ file is. subst (λ (f : OpenLog). IsCommitted f (Some c.commit.new.self)) (same_file c.in-Some.log file (sym c.in-Some.is ∙ is))
+          (c.commit.new.self, refl, c.commit.ensures.same_name, c.in-Ok.ensures.entries, c.in-Ok.ensures.stage_emptied.count);
+      emptied = λ file is.
+          let same = same_file c.commit.new.self file is in
+          (ap (λ (f : OpenLog). f.staged) (sym same) ∙ c.in-Ok.ensures.stage_emptied.count, ap (λ (f : OpenLog). f.bytes) (sym same) ∙ (c.in-Ok.ensures.stage_emptied.bytes ∙ none_behind));
+      synced = synced;
+      faulty = tt;
+      never_falls = λ r.
+          let is = ap (λ (b : Books). get_or b.synced r 0) synced in
+          omega (arith, is, (order.regions r).synced);
+    }
 
-pub returns-in-Ok-clause-names : goal.returns-in-Ok-clause-names
-returns-in-Ok-clause-names g c told h file whole is =
-    let v = g.D.Disk.view c.args.self.now.disk in
-    let w = g.D.Disk.view c.commit.new.disk in
-    let keeps = kept_file c.args.self.now v h c.in-Some.log c.in-Some.is whole in
-    subst (λ (f : OpenLog). Throughout (Bears h.kept.base c.args.self.now.ledger.value.next_store f.name.number) 4 v w) (same_file c.in-Some.log file (sym c.in-Some.is ∙ is))
-    (names_moments c.in-Some.log v h c.args.self.now.ledger.value.next_store keeps (HasEither c.in-Some.log.name h.current (h.current ++ h.kept.staged)) 4 w
-    (c.commit.ensures.commits told h.current h.kept.staged keeps.open_log keeps.staged).atomic)
+pub returns-in-Ok-clause-appends : goal.returns-in-Ok-clause-appends
+returns-in-Ok-clause-appends g c told h file whole is =
+    let keeps = kept_file c.args.self.now (g.D.Disk.view c.args.self.now.disk) h c.in-Some.log c.in-Some.is whole in
+    sync_appends g.D.Disk h c.args.self.now c.in-Some.log c.in-Some.is whole (g.D.Disk.view c.commit.new.disk) (g.met.D.Disk.is_true c.commit.new.disk told)
+    (c.commit.ensures.commits told h.current h.kept.staged keeps.open_log keeps.staged).atomic (c.commit.ensures.no_other_file told) file is
 
-pub returns-in-Err-clause-names : goal.returns-in-Err-clause-names
-returns-in-Err-clause-names g c told h file whole is =
-    let v = g.D.Disk.view c.args.self.now.disk in
-    let w = g.D.Disk.view c.commit.new.disk in
-    let keeps = kept_file c.args.self.now v h c.in-Some.log c.in-Some.is whole in
-    subst (λ (f : OpenLog). Throughout (Bears h.kept.base c.args.self.now.ledger.value.next_store f.name.number) 4 v w) (same_file c.in-Some.log file (sym c.in-Some.is ∙ is))
-    (names_moments c.in-Some.log v h c.args.self.now.ledger.value.next_store keeps (HasEither c.in-Some.log.name h.current (h.current ++ h.kept.staged)) 4 w
-    (c.commit.ensures.commits told h.current h.kept.staged keeps.open_log keeps.staged).atomic)
+pub returns-in-Err-clause-appends : goal.returns-in-Err-clause-appends
+returns-in-Err-clause-appends g c told h file whole is =
+    let keeps = kept_file c.args.self.now (g.D.Disk.view c.args.self.now.disk) h c.in-Some.log c.in-Some.is whole in
+    sync_appends g.D.Disk h c.args.self.now c.in-Some.log c.in-Some.is whole (g.D.Disk.view c.commit.new.disk) (g.met.D.Disk.is_true c.commit.new.disk told)
+    (c.commit.ensures.commits told h.current h.kept.staged keeps.open_log keeps.staged).atomic (c.commit.ensures.no_other_file told) file is

@@ -1,14 +1,12 @@
-use Rattle.std.proofs.Common.{arith, get_or, refl, ap}
+use Rattle.std.proofs.Common.{◌≤◌, ℕ, set, inl, inr, arith, get_or, refl, ap, sym, ◌∙◌}
+use Rattle.std.proofs.lemmas.Bool.{cases_lt}
+use Rattle.std.proofs.lemmas.List.Elements.{Contains-append_left}
 use Rattle.std.specs.Prelude.{sum}
-use Rattle.recovery.specs.Kept.{flushed_to}
 use Rattle.log_ledger.specs.Books.{Books}
-use Rattle.log_ledger.proofs.DrawnSums.{served_place}
-use Rattle.log_device.proofs.Bearing.{still_names}
-use Rattle.log_device.proofs.Few.{few_kept}
-use Rattle.log_device.proofs.Results.{then}
+use Rattle.log_device.specs.declared.error.DeviceFlush.TheVariants as refusals
+use Rattle.log_device.proofs.FlushSteps.{still_flushes, kept_books, not_nothing}
 use Rattle.log_device.proofs.Numbering.{numbered_still}
-use Rattle.log_device.proofs.Whole.{kept_file}
-use Rattle.log_device.proofs.StoreSteps.{still_moments}
+use Rattle.log_device.proofs.Syncing.{same_history}
 use Rattle.log_device.proofs.device.Device.flush_committed.Goals as goal
 
 pub invariant_of-self : goal.invariant_of-self
@@ -18,40 +16,42 @@ invariant_of-self g c = record {
       (ap (λ (b : Books). sum b.drawn) (rw c.deref_mut.ensures.value at c.keep.ensures.stored)) (ap (λ (b : Books). b.accounts.last) (rw c.deref_mut.ensures.value at c.keep.ensures.stored));
 }
 
-pub returns-then-not-has_unflushed-clause-any_moment : goal.returns-then-not-has_unflushed-clause-any_moment
-returns-then-not-has_unflushed-clause-any_moment g c told h file whole is none =
-    let u = g.D.Disk.view c.args.self.now.disk in
-    still_moments file u h c.args.self.now.ledger.value.next_store (kept_file c.args.self.now u h file is whole) (flushed_to h.kept c.args.region (get_or c.args.self.now.ledger.value.drawn c.args.region 0)) file.name h.current
+pub returns-then-not-has_unflushed-clause-flushes : goal.returns-then-not-has_unflushed-clause-flushes
+returns-then-not-has_unflushed-clause-flushes g c told h whole none =
+    let stored = rw c.deref_mut.ensures.value at c.keep.ensures.stored in
+    let number = (rw c.deref.ensures at c.flushed.ensures.number) ∙ ap (λ (b : Books). get_or b.accounts.flushed c.args.region 0) stored in
+    still_flushes g.D.Disk h c.args.region _ c.args.self.now _ (g.met.D.Disk.is_true c.args.self.now.disk told) whole refl refl
+    (λ n is. (
+      sym (cc is) ∙ number ∙ whole.counted.flushed c.args.region c.requires.served,
+      λ e member region. (rw c.deref-ledger.ensures at c.if-not-has_unflushed.ensures.none) h whole.counted refl e (Contains-append_left h.kept.durable h.kept.staged e member) region,
+    ))
+    (same_history g.D.Disk h c.args.self.now _ refl refl (ap (λ (b : Books). b.next_store) stored) ((rw c.deref_mut.ensures.value at c.keep.ensures.counted) h whole.counted) whole)
 
-pub returns-in_err-cells-clause-any_moment : goal.returns-in_err-cells-clause-any_moment
-returns-in_err-cells-clause-any_moment g c told h file whole is none =
-    let u = g.D.Disk.view c.args.self.now.disk in
-    still_moments file u h c.args.self.now.ledger.value.next_store (kept_file c.args.self.now u h file is whole) (flushed_to h.kept c.args.region (get_or c.args.self.now.ledger.value.drawn c.args.region 0)) file.name h.current
-
-pub returns-then-not-has_unflushed-clause-names : goal.returns-then-not-has_unflushed-clause-names
-returns-then-not-has_unflushed-clause-names g c told h file whole is none =
-    (0, still_names file (g.D.Disk.view c.args.self.now.disk) h c.args.self.now.ledger.value.next_store (kept_file c.args.self.now (g.D.Disk.view c.args.self.now.disk) h file is whole) file.name.number 0 (omega arith))
-
-pub returns-in_err-cells-clause-names : goal.returns-in_err-cells-clause-names
-returns-in_err-cells-clause-names g c told h file whole is none =
-    (0, still_names file (g.D.Disk.view c.args.self.now.disk) h c.args.self.now.ledger.value.next_store (kept_file c.args.self.now (g.D.Disk.view c.args.self.now.disk) h file is whole) file.name.number 0 (omega arith))
-
-pub returns-then-not-has_unflushed-clause-few : goal.returns-then-not-has_unflushed-clause-few
-returns-then-not-has_unflushed-clause-few g c limit few =
+pub returns-then-not-has_unflushed-clause-books : goal.returns-then-not-has_unflushed-clause-books
+returns-then-not-has_unflushed-clause-books g c =
     let old = c.args.self.now.ledger.value in
-    let order = rw c.deref-ledger.ensures at c.if-not-has_unflushed.ensures.order in
-    few_kept limit old c.keep.new.self c.args.region (get_or old.accounts.flushed c.args.region 0) order (served_place old c.args.region order c.requires.served)
-    (ap (λ (b : Books). b.next_store) (rw c.deref_mut.ensures.value at c.keep.ensures.stored)) (ap (λ (b : Books). b.stored) (rw c.deref_mut.ensures.value at c.keep.ensures.stored)) (order.regions c.args.region).stored few
+    let r = c.args.region in
+    let stored = rw c.deref_mut.ensures.value at c.keep.ensures.stored in
+    let number = (rw c.deref.ensures at c.flushed.ensures.number) ∙ ap (λ (b : Books). get_or b.accounts.flushed r 0) stored in
+    let above = rw c.deref-ledger.ensures at c.if-not-has_unflushed.ensures.above in
+    let all : get_or old.drawn r 0 ≤ c.flushed.result =
+    elim (cases_lt (get_or old.accounts.flushed r 0) (get_or old.drawn r 0)) as (λ _. get_or old.drawn r 0 ≤ c.flushed.result) [ inl lt ↦ absurd (cc (above.1 lt)) | inr le ↦ omega (arith, le, number) ] in
+    kept_books g.D.Disk r c.args.self.now _ c.requires.rest (rw c.deref-ledger.ensures at c.if-not-has_unflushed.ensures.order) c.requires.served refl (ap (λ (b : Books). b.drawn) stored) (ap (λ (b : Books). b.synced) stored)
+    (ap (λ (b : Books). b.closed) stored) c.flushed.result number all (ap (λ (b : Books). b.stored) stored ∙ ap (λ (n : ℕ). set old.stored r n) (sym number)) (ap (λ (b : Books). b.next_store) stored)
 
-pub returns-clause-flushed : goal.returns-clause-flushed
-returns-clause-flushed g c told h whole none = c.write_store.ensures.flushed told h whole none ((rw c.deref-ledger.ensures at c.in_ok-cells.ensures.cut) h whole.counted none)
+pub returns-in_err-cells-clause-flushes : goal.returns-in_err-cells-clause-flushes
+returns-in_err-cells-clause-flushes g c told h whole none =
+    still_flushes g.D.Disk h c.args.region _ c.args.self.now _ (g.met.D.Disk.is_true c.args.self.now.disk told) whole refl c.from_residual.ensures.0
+    (λ n is. absurd (not_nothing c.from_residual.result refusals.Memory (λ m is. absurd (cc is)) c.from_residual.ensures.1 n is)) (same_history g.D.Disk h c.args.self.now _ refl refl refl whole.counted whole)
 
-pub returns-clause-any_moment : goal.returns-clause-any_moment
-returns-clause-any_moment g c told h file whole is none =
-    c.write_store.ensures.any_moment told h file whole is none ((rw c.deref-ledger.ensures at c.in_ok-cells.ensures.cut) h whole.counted none)
+pub write_store-requires-clause-within : goal.write_store-requires-clause-within
+write_store-requires-clause-within g c = rw c.deref-ledger.ensures at c.in_ok-cells.ensures.within
 
-pub returns-clause-above : goal.returns-clause-above
-returns-clause-above g c =
-    let order = rw c.deref-ledger.ensures at c.has_unflushed.ensures.order in
-    let above = (rw c.deref-ledger.ensures at c.if-not-has_unflushed.ensures.above).0 refl in
-    then c.write_store.result (λ n is. omega (arith, is, above, (order.regions c.args.region).stored)) c.write_store.ensures.number
+pub returns-clause-flushes : goal.returns-clause-flushes
+returns-clause-flushes g c told h whole none = c.write_store.ensures.flushes told h whole none ((rw c.deref-ledger.ensures at c.in_ok-cells.ensures.cut) h whole.counted none)
+
+pub returns-then-not-has_unflushed-clause-logs : goal.returns-then-not-has_unflushed-clause-logs
+returns-then-not-has_unflushed-clause-logs g c told k = refl
+
+pub returns-in_err-cells-clause-logs : goal.returns-in_err-cells-clause-logs
+returns-in_err-cells-clause-logs g c told k = refl

@@ -1,14 +1,17 @@
-use Rattle.std.proofs.Common.{◌≡◌, ◌+◌, inl, ℕ, List, [], refl, sym, ap, subst, arith}
+use Rattle.std.proofs.Common.{◌≡◌, ◌<◌, inl, ℕ, List, Err, length, get_or, refl, sym, ap, ◌∙◌, subst, arith}
 use Rattle.std.specs.Prelude.{sum}
 use Rattle.std.proofs.Math.Logic.{∥∥₁_map}
 use Rattle.std.proofs.lemmas.List.{nil_from_length}
 use Rattle.log_ledger.specs.Books.{Books}
-use Rattle.disk_images.specs.Crash.{Throughout}
-use Rattle.log_device.specs.Bears.{Bears}
-use Rattle.disk_images.proofs.Moments.{at_once, more_time}
-use Rattle.log_device.specs.Keeps.{Keeps, Between, log_name}
-use Rattle.log_device.proofs.Bearing.{still_names}
+use Rattle.log_ledger.specs.Counted.{IsCounted}
+use Rattle.log_ledger.specs.History.{closed_in}
+use Rattle.log_device.specs.Whole.{IsBroken, HasHistory}
+use Rattle.log_device.specs.declared.error.RollRefusal.TheVariants as refusals
+use Rattle.log_device.proofs.Appends.{appends_nothing}
 use Rattle.log_device.proofs.Numbering.{numbered_still}
+use Rattle.log_device.proofs.Results.{none_of, on_any}
+use Rattle.log_device.proofs.RollSteps.{still_rolls, rolls_by}
+use Rattle.log_device.proofs.Syncing.{same_history, none_fell}
 use Rattle.log_device.proofs.Whole.{kept_file}
 use Rattle.log_device.proofs.device.Device.roll_committed.Goals as goal
 
@@ -19,15 +22,49 @@ invariant_of-self g c = record {
       (ap (λ (b : Books). sum b.drawn) (rw c.deref_mut-ledger.ensures.value at c.close_empty.ensures.closed)) (ap (λ (b : Books). b.accounts.last) (rw c.deref_mut-ledger.ensures.value at c.close_empty.ensures.closed));
 }
 
-pub returns-then-entries-eq0-clause-refused : goal.returns-then-entries-eq0-clause-refused
-returns-then-entries-eq0-clause-refused g c told h whole none unbroken =
+pub returns-then-entries-eq0-clause-rolls : goal.returns-then-entries-eq0-clause-rolls
+returns-then-entries-eq0-clause-rolls g c told h whole none =
+    let closed = rw c.deref_mut-ledger.ensures.value at c.close_empty.ensures.closed in
     let count : c.current-file.result.1 ≡ whole.file.entries = ap (λ (p : ℕ × ℕ). p.1) (c.current-file.ensures whole.file whole.is) in
-    record {
-      file = whole.file;
-      is = whole.is;
-      keeps = subst (λ (ns : List ℕ). Keeps whole.file (g.D.Disk.view c.args.self.now.disk) h ns) (sym (ap (λ (b : Books). b.next_store) (rw c.deref_mut-ledger.ensures.value at c.close_empty.ensures.closed))) whole.keeps;
-      counted = (rw c.deref_mut-ledger.ensures.value at c.close_empty.ensures.counted) h whole.counted none (nil_from_length h.current (omega (arith, count, c.if-entries-eq0.true, whole.keeps.open_log.count)));
+    still_rolls g.D.Disk h _ c.args.self.now _ (g.met.D.Disk.is_true c.args.self.now.disk told) whole refl refl
+    (same_history g.D.Disk h c.args.self.now _ refl refl (ap (λ (b : Books). b.next_store) closed)
+    ((rw c.deref_mut-ledger.ensures.value at c.close_empty.ensures.counted) h whole.counted none (nil_from_length h.current (omega (arith, count, c.if-entries-eq0.true, whole.keeps.open_log.count)))) whole)
+
+pub returns-then-entries-eq0-clause-books : goal.returns-then-entries-eq0-clause-books
+returns-then-entries-eq0-clause-books g c =
+    let same = rw c.deref_mut-ledger.ensures.value at c.close_empty.ensures.closed in record {
+      file = λ file is. tt;
+      next = λ file is. tt;
+      nothing = λ file n is told.
+          let now = c.current-file.ensures file is in
+          let count : c.current-file.result.1 ≡ file.entries = ap (λ (p : ℕ × ℕ). p.1) now in
+          (sym (cc told) ∙ ap (λ (p : ℕ × ℕ). p.0) now, omega (arith, count, c.if-entries-eq0.true, (c.requires.idle file is).0));
+      empty = λ file is none unbroken. ap (λ (p : ℕ × ℕ). Err (refusals.NothingToRoll p.0)) (c.current-file.ensures file is);
+      emptied = c.requires.idle;
+      closed = tt;
+      closed_empty = λ n is. ap (λ (b : Books). b.closed) same ∙ sym (ap (λ (b : Books). b.synced) same);
+      closed_still = λ memory. absurd (cc memory);
+      closed_broken = λ broken. absurd (c.requires.unbroken broken);
+      synced = λ unbroken. ap (λ (b : Books). b.synced) same ∙ c.requires.synced;
+      synced_either = inl (ap (λ (b : Books). b.synced) same);
+      later = none_fell c.args.self.now.ledger.value c.close_empty.new.self (ap (λ (b : Books). b.synced) same) (ap (λ (b : Books). b.stored) same) (λ r.
+          let is = ap (λ (b : Books). get_or b.closed r 0) same in
+          omega (arith, is, c.requires.closed r));
+      stored = ap (λ (b : Books). b.stored) same;
+      drawn = ap (λ (b : Books). b.drawn) same;
+      next_store = ap (λ (b : Books). b.next_store) same;
     }
+
+pub returns-in_err-stage-clause-rolls : goal.returns-in_err-stage-clause-rolls
+returns-in_err-stage-clause-rolls g c told h whole none =
+    still_rolls g.D.Disk h _ c.args.self.now _ (g.met.D.Disk.is_true c.args.self.now.disk told) whole refl c.from_residual.ensures.0 (same_history g.D.Disk h c.args.self.now _ refl refl
+    (ap (λ (b : Books). b.next_store) c.deref_mut-ledger.ensures.value) (subst (λ (b : Books). IsCounted b h) (sym c.deref_mut-ledger.ensures.value) whole.counted) whole)
+
+pub returns-in_err-reserve_file-clause-rolls : goal.returns-in_err-reserve_file-clause-rolls
+returns-in_err-reserve_file-clause-rolls g c told h whole none =
+    let same = rw c.deref_mut-ledger.ensures.value at c.reserve_file.ensures.same in
+    still_rolls g.D.Disk h _ c.args.self.now _ (g.met.D.Disk.is_true c.args.self.now.disk told) whole refl c.from_residual-in_err-reserve_file.ensures.0
+    (same_history g.D.Disk h c.args.self.now _ refl refl (ap (λ (b : Books). b.next_store) same) ((rw c.deref_mut-ledger.ensures.value at c.reserve_file.ensures.counted) h whole.counted) whole)
 
 pub invariant_of-self-2 : goal.invariant_of-self-2
 invariant_of-self-2 g c = record {
@@ -36,99 +73,94 @@ invariant_of-self-2 g c = record {
       (ap (λ (b : Books). sum b.drawn) (rw c.deref_mut-ledger.ensures.value at c.reserve_file.ensures.same)) (ap (λ (b : Books). b.accounts.last) (rw c.deref_mut-ledger.ensures.value at c.reserve_file.ensures.same));
 }
 
-pub begin_next-requires-clause-whole : goal.begin_next-requires-clause-whole
-begin_next-requires-clause-whole g c told =
-    ∥∥₁_map (c.requires.whole told) (λ r. (
-      r.0,
-      record {
-        file = r.1.file;
-        is = r.1.is;
-        keeps = subst (λ (ns : List ℕ). Keeps r.1.file (g.D.Disk.view c.args.self.now.disk) r.0 ns) (sym (ap (λ (b : Books). b.next_store) (rw c.deref_mut-ledger.ensures.value at c.reserve_file.ensures.same))) r.1.keeps;
-        counted = (rw c.deref_mut-ledger.ensures.value at c.reserve_file.ensures.counted) r.0 r.1.counted;
-      },
-    ))
+pub begin_next-requires-clause-rest : goal.begin_next-requires-clause-rest
+begin_next-requires-clause-rest g c =
+    let same = rw c.deref_mut-ledger.ensures.value at c.reserve_file.ensures.same in
+    record {
+      whole = λ told. ∥∥₁_map (c.requires.whole told) (λ r. (
+        r.0,
+        same_history g.D.Disk r.0 c.args.self.now _ refl refl (ap (λ (b : Books). b.next_store) same) ((rw c.deref_mut-ledger.ensures.value at c.reserve_file.ensures.counted) r.0 r.1.counted) r.1,
+        r.2,
+      ));
+      unbroken = c.requires.unbroken;
+      idle = c.requires.idle;
+      synced = ap (λ (b : Books). b.synced) same ∙ c.requires.synced ∙ sym (ap (λ (b : Books). b.drawn) same);
+      closed = λ r.
+          let closed = ap (λ (b : Books). get_or b.closed r 0) same in
+          let synced = ap (λ (b : Books). get_or b.synced r 0) same in
+          omega (arith, closed, synced, c.requires.closed r);
+    }
 
-pub returns-in_err-begin_next-clause-any_moment : goal.returns-in_err-begin_next-clause-any_moment
-returns-in_err-begin_next-clause-any_moment g c told h file whole is =
-    c.begin_next.ensures.any_moment told h file
-    (record {
-      file = whole.file;
-      is = whole.is;
-      keeps = subst (λ (ns : List ℕ). Keeps whole.file (g.D.Disk.view c.args.self.now.disk) h ns) (sym (ap (λ (b : Books). b.next_store) (rw c.deref_mut-ledger.ensures.value at c.reserve_file.ensures.same))) whole.keeps;
-      counted = (rw c.deref_mut-ledger.ensures.value at c.reserve_file.ensures.counted) h whole.counted;
-    }) is
+pub returns-in_err-begin_next-clause-rolls : goal.returns-in_err-begin_next-clause-rolls
+returns-in_err-begin_next-clause-rolls g c told h whole none =
+    let same = rw c.deref_mut-ledger.ensures.value at c.reserve_file.ensures.same in
+    let result = c.from_residual-in_err-begin_next.result in
+    let begins = c.begin_next.ensures.begins told h whole.file (same_history g.D.Disk h c.args.self.now _ refl refl (ap (λ (b : Books). b.next_store) same) ((rw c.deref_mut-ledger.ensures.value at c.reserve_file.ensures.counted) h whole.counted) whole) whole.is none in
+    rolls_by g.D.Disk h _ _ c.args.self.now _ c.begin_next.new.self whole refl (ap (λ (b : Books). b.stored) same) (ap (λ (b : Books). b.closed) same) (ap (λ (b : Books). b.next_store) same) begins
+    (none_of result (λ rolled. HasHistory g.D.Disk c.begin_next.new.self (closed_in h rolled.closed) × (rolled.entries ≡ length h.current)) c.from_residual-in_err-begin_next.ensures.0)
+    (on_any {P = (IsBroken c.begin_next.new.self → ⊥) → HasHistory g.D.Disk c.begin_next.new.self h} result (λ unbroken. absurd (unbroken (c.in_err-begin_next.ensures.breaks.broken.0 refl))))
 
-pub returns-in_err-begin_next-clause-in_order : goal.returns-in_err-begin_next-clause-in_order
-returns-in_err-begin_next-clause-in_order g c told h file whole is =
-    c.begin_next.ensures.in_order told h file
-    (record {
-      file = whole.file;
-      is = whole.is;
-      keeps = subst (λ (ns : List ℕ). Keeps whole.file (g.D.Disk.view c.args.self.now.disk) h ns) (sym (ap (λ (b : Books). b.next_store) (rw c.deref_mut-ledger.ensures.value at c.reserve_file.ensures.same))) whole.keeps;
-      counted = (rw c.deref_mut-ledger.ensures.value at c.reserve_file.ensures.counted) h whole.counted;
-    }) is
+pub returns-clause-rolls : goal.returns-clause-rolls
+returns-clause-rolls g c told h whole none =
+    let same = rw c.deref_mut-ledger.ensures.value at c.reserve_file.ensures.same in
+    let now = c.current-file.ensures whole.file whole.is in
+    let count : c.current-file.result.1 ≡ whole.file.entries = ap (λ (p : ℕ × ℕ). p.1) now in
+    let begins = c.in_ok-begin_next.ensures.begins told h whole.file (same_history g.D.Disk h c.args.self.now _ refl refl (ap (λ (b : Books). b.next_store) same) ((rw c.deref_mut-ledger.ensures.value at c.reserve_file.ensures.counted) h whole.counted) whole) whole.is none in
+    rolls_by g.D.Disk h _ _ c.args.self.now _ c.begin_next.new.self whole refl (ap (λ (b : Books). b.stored) same) (ap (λ (b : Books). b.closed) same) (ap (λ (b : Books). b.next_store) same) begins
+    (subst (λ (n : ℕ). HasHistory g.D.Disk c.begin_next.new.self (closed_in h n)) (sym (ap (λ (p : ℕ × ℕ). p.0) now)) begins.closed, omega (arith, count, whole.keeps.open_log.count)) tt
 
-pub returns-clause-any_moment : goal.returns-clause-any_moment
-returns-clause-any_moment g c told h file whole is =
-    c.begin_next.ensures.any_moment told h file
-    (record {
-      file = whole.file;
-      is = whole.is;
-      keeps = subst (λ (ns : List ℕ). Keeps whole.file (g.D.Disk.view c.args.self.now.disk) h ns) (sym (ap (λ (b : Books). b.next_store) (rw c.deref_mut-ledger.ensures.value at c.reserve_file.ensures.same))) whole.keeps;
-      counted = (rw c.deref_mut-ledger.ensures.value at c.reserve_file.ensures.counted) h whole.counted;
-    }) is
-
-pub returns-clause-in_order : goal.returns-clause-in_order
-returns-clause-in_order g c told h file whole is =
-    c.begin_next.ensures.in_order told h file
-    (record {
-      file = whole.file;
-      is = whole.is;
-      keeps = subst (λ (ns : List ℕ). Keeps whole.file (g.D.Disk.view c.args.self.now.disk) h ns) (sym (ap (λ (b : Books). b.next_store) (rw c.deref_mut-ledger.ensures.value at c.reserve_file.ensures.same))) whole.keeps;
-      counted = (rw c.deref_mut-ledger.ensures.value at c.reserve_file.ensures.counted) h whole.counted;
-    }) is
-
-pub returns-then-entries-eq0-clause-names : goal.returns-then-entries-eq0-clause-names
-returns-then-entries-eq0-clause-names g c told h file whole is =
-    still_names file (g.D.Disk.view c.args.self.now.disk) h c.args.self.now.ledger.value.next_store (kept_file c.args.self.now (g.D.Disk.view c.args.self.now.disk) h file is whole) (file.name.number + 1) 7 (omega arith)
-
-pub returns-in_err-stage-clause-names : goal.returns-in_err-stage-clause-names
-returns-in_err-stage-clause-names g c told h file whole is =
-    still_names file (g.D.Disk.view c.args.self.now.disk) h c.args.self.now.ledger.value.next_store (kept_file c.args.self.now (g.D.Disk.view c.args.self.now.disk) h file is whole) (file.name.number + 1) 7 (omega arith)
-
-pub returns-in_err-reserve_file-clause-names : goal.returns-in_err-reserve_file-clause-names
-returns-in_err-reserve_file-clause-names g c told h file whole is =
-    still_names file (g.D.Disk.view c.args.self.now.disk) h c.args.self.now.ledger.value.next_store (kept_file c.args.self.now (g.D.Disk.view c.args.self.now.disk) h file is whole) (file.name.number + 1) 7 (omega arith)
-
-pub returns-in_err-begin_next-clause-names : goal.returns-in_err-begin_next-clause-names
-returns-in_err-begin_next-clause-names g c told h file whole is =
-    let same = ap (λ (b : Books). b.next_store) (rw c.deref_mut-ledger.ensures.value at c.reserve_file.ensures.same) in
-    subst (λ (ns : List ℕ). Throughout (Bears h.kept.base ns (file.name.number + 1)) 7 (g.D.Disk.view c.args.self.now.disk) (g.D.Disk.view c.begin_next.new.self.disk)) same
-    (c.begin_next.ensures.names told h file
-    (record {
-      file = whole.file;
-      is = whole.is;
-      keeps = subst (λ (ns : List ℕ). Keeps whole.file (g.D.Disk.view c.args.self.now.disk) h ns) (sym same) whole.keeps;
-      counted = (rw c.deref_mut-ledger.ensures.value at c.reserve_file.ensures.counted) h whole.counted;
-    }) is)
-
-pub returns-clause-names : goal.returns-clause-names
-returns-clause-names g c told h file whole is =
-    let same = ap (λ (b : Books). b.next_store) (rw c.deref_mut-ledger.ensures.value at c.reserve_file.ensures.same) in
-    subst (λ (ns : List ℕ). Throughout (Bears h.kept.base ns (file.name.number + 1)) 7 (g.D.Disk.view c.args.self.now.disk) (g.D.Disk.view c.begin_next.new.self.disk)) same
-    (c.begin_next.ensures.names told h file
-    (record {
-      file = whole.file;
-      is = whole.is;
-      keeps = subst (λ (ns : List ℕ). Keeps whole.file (g.D.Disk.view c.args.self.now.disk) h ns) (sym same) whole.keeps;
-      counted = (rw c.deref_mut-ledger.ensures.value at c.reserve_file.ensures.counted) h whole.counted;
-    }) is)
-
-pub returns-in_err-reserve_file-clause-any_moment : goal.returns-in_err-reserve_file-clause-any_moment
-returns-in_err-reserve_file-clause-any_moment g c told h file whole is =
-    let u = g.D.Disk.view c.args.self.now.disk in
-    more_time (Between h.kept file.name h.current h.kept (log_name (file.name.number + 1)) []) 0 7 u u (omega arith)
-    (at_once (Between h.kept file.name h.current h.kept (log_name (file.name.number + 1)) []) u (λ J there. inl ((kept_file c.args.self.now u h file is whole).images J there)))
+pub returns-clause-books : goal.returns-clause-books
+returns-clause-books g c =
+    let same = rw c.deref_mut-ledger.ensures.value at c.reserve_file.ensures.same in
+    let begun = c.in_ok-begin_next.ensures.books in
+    let synced = begun.same.synced ∙ ap (λ (b : Books). b.synced) same in
+    let stored = begun.same.stored ∙ ap (λ (b : Books). b.stored) same in record {
+      file = λ file is.
+          let now = c.current-file.ensures file is in
+          let count : c.current-file.result.1 ≡ file.entries = ap (λ (p : ℕ × ℕ). p.1) now in
+          let some : 0 < c.current-file.result.1 = omega (arith, c.if-entries-eq0.false) in
+          (ap (λ (p : ℕ × ℕ). p.0) now, omega (arith, count, (c.requires.idle file is).0), some);
+      next = begun.next;
+      nothing = λ file n is told. absurd (cc told);
+      empty = λ file is none unbroken.
+          let count : c.current-file.result.1 ≡ file.entries = ap (λ (p : ℕ × ℕ). p.1) (c.current-file.ensures file is) in
+          absurd (omega (arith, c.if-entries-eq0.false, count, none));
+      emptied = begun.emptied;
+      closed = begun.closed ∙ sym begun.same.synced;
+      closed_empty = λ n is. absurd (cc is);
+      closed_still = λ memory. absurd (cc memory);
+      closed_broken = λ broken. absurd (cc (c.in_ok-begin_next.ensures.breaks.broken.1 broken));
+      synced = λ unbroken. synced ∙ c.requires.synced;
+      synced_either = inl synced;
+      later = none_fell c.args.self.now.ledger.value c.begin_next.new.self.ledger.value synced stored (λ r.
+          let is = ap (λ (l : List ℕ). get_or l r 0) (begun.closed ∙ ap (λ (b : Books). b.synced) same) in
+          omega (arith, is, c.requires.closed r));
+      stored = stored;
+      drawn = begun.same.drawn ∙ ap (λ (b : Books). b.drawn) same;
+      next_store = begun.same.next_store ∙ ap (λ (b : Books). b.next_store) same;
+    }
 
 pub invariant_of-self-in-Break-1 : goal.invariant_of-self-in-Break-1
 invariant_of-self-in-Break-1 g c = rw c.deref_mut-ledger.ensures.value (record { numbered = c.args.self.now.numbered })
+
+pub returns-then-entries-eq0-clause-appends : goal.returns-then-entries-eq0-clause-appends
+returns-then-entries-eq0-clause-appends g c told h file whole is none =
+    appends_nothing file (g.D.Disk.view c.args.self.now.disk) h c.args.self.now.ledger.value.next_store (kept_file c.args.self.now (g.D.Disk.view c.args.self.now.disk) h file is whole)
+
+pub returns-in_err-stage-clause-appends : goal.returns-in_err-stage-clause-appends
+returns-in_err-stage-clause-appends g c told h file whole is none =
+    appends_nothing file (g.D.Disk.view c.args.self.now.disk) h c.args.self.now.ledger.value.next_store (kept_file c.args.self.now (g.D.Disk.view c.args.self.now.disk) h file is whole)
+
+pub returns-in_err-reserve_file-clause-appends : goal.returns-in_err-reserve_file-clause-appends
+returns-in_err-reserve_file-clause-appends g c told h file whole is none =
+    appends_nothing file (g.D.Disk.view c.args.self.now.disk) h c.args.self.now.ledger.value.next_store (kept_file c.args.self.now (g.D.Disk.view c.args.self.now.disk) h file is whole)
+
+pub returns-in_err-begin_next-clause-appends : goal.returns-in_err-begin_next-clause-appends
+returns-in_err-begin_next-clause-appends g c told h file whole is none =
+    let same = rw c.deref_mut-ledger.ensures.value at c.reserve_file.ensures.same in
+    (c.begin_next.ensures.begins told h file (same_history g.D.Disk h c.args.self.now _ refl refl (ap (λ (b : Books). b.next_store) same) ((rw c.deref_mut-ledger.ensures.value at c.reserve_file.ensures.counted) h whole.counted) whole) is none).appends
+
+pub returns-clause-appends : goal.returns-clause-appends
+returns-clause-appends g c told h file whole is none =
+    let same = rw c.deref_mut-ledger.ensures.value at c.reserve_file.ensures.same in
+    (c.begin_next.ensures.begins told h file (same_history g.D.Disk h c.args.self.now _ refl refl (ap (λ (b : Books). b.next_store) same) ((rw c.deref_mut-ledger.ensures.value at c.reserve_file.ensures.counted) h whole.counted) whole) is none).appends

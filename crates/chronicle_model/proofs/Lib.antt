@@ -1,0 +1,4 @@
+pub mod Order
+pub mod Grown
+pub mod Shipped
+pub mod Rows

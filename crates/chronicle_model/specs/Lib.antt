@@ -1,0 +1,3 @@
+pub mod Chronicle
+pub mod Growth
+pub mod Shipping
