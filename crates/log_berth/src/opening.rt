@@ -98,7 +98,7 @@ fn deal<W: Ware>(
 
 impl<W: Ware> Berth<W> {
     /// A berth with this ware, which is not broken. Each synced word starts at the ware's durable number of its region, and the fault
-    /// word at 0. Each seat has seen these numbers. The refusal is want of memory.
+    /// word at 0. Each seat has seen these numbers. It refuses where it is out of memory.
     pub fn new(
         alloc: Global,
         ware: W,

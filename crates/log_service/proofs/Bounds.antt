@@ -3,18 +3,20 @@ use Rattle.std.proofs.Common.{◌≡◌, inl, inr, ℕ, zero, suc, ◌+◌, ◌-
 use Rattle.std.proofs.lemmas.Bool.{cases_eq}
 use Rattle.std.proofs.lemmas.Bool.Decides.{nat_tests}
 use Rattle.log_model.specs.Entry.{Entry}
-use Rattle.log_model.specs.LogText.{IsEntryOf}
+use Rattle.log_model.specs.LogText.{IsEntryOf, in_version}
 use Rattle.log_model.specs.Files.{Files, key_of as file_key, IsLogged}
 use Rattle.log_model.specs.Recovered.{IsLast}
+use Rattle.log_model.proofs.TextLaws.{HasVersion, with_version}
 use Rattle.recovery.proofs.Lists.{none_in, first_or_later, entries_in}
 use Rattle.log_trucks.specs.Held.{Held, AreHeld}
 use Rattle.log_service.specs.Trucks.{FollowOn, onward}
 
 entry_low : (J : Files) (e : Entry) → IsLogged J e → e.number < 2 ^ 48
-entry_low J e h = elim h.file.text as (λ _. e.number < 2 ^ 48) [
-  | inl short ↦ absurd (none_in e (subst (λ (l : List Entry). Contains l e) short.1 h.member))
-  | inr long ↦ (entries_in (IsEntryOf (file_key h.name)) h.entries e long.1.each h.member).entry.number
-]
+entry_low J e h = go (with_version (file_key h.name) h.file.bytes h.entries h.file.ended h.file.text)
+  where
+    go : HasVersion (file_key h.name) h.file.bytes h.entries h.file.ended → e.number < 2 ^ 48
+    go (version, known, inl short) = absurd (none_in e (subst (λ (l : List Entry). Contains l e) short.1 h.member))
+    go (version, known, inr long) = (entries_in (IsEntryOf (in_version version (file_key h.name))) h.entries e long.1.each h.member).entry.number
 
 -- the last sequence id of files
 pub last_low : (J : Files) (r n : ℕ) → IsLast J r n → n < 2 ^ 48

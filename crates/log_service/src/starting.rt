@@ -115,7 +115,7 @@ fn second_half<D: Disk, N: Naming>(
 
 impl<D: Disk, N: Naming> LogService<D, N> {
     /// The second part of a start, over a device into which nothing was staged since it was started with the regions 1 to `regions`,
-    /// whose numbers are those of the rings. Each seat has seen what the device tells. The refusal is want of memory.
+    /// whose numbers are those of the rings. Each seat has seen what the device tells. It refuses where it is out of memory.
     pub fn start(
         alloc: Global,
         rings: Rings,

@@ -140,6 +140,7 @@ impl<D: Disk, N: Naming> LogService<D, N> {
         ensures whole { (result ≡ SyncTurn.Broken → ⊥) → (result ≡ SyncTurn.WriteFault → ⊥) → seat.old.device.knows.broken ≡ false
             → seat.new.device.knows.broken ≡ false }
     {
+        // The device's turn comes first, and the consumer's inside it: whoever hands a load over is the one that commits it.
         let Ok(mut turn) = self.device.take(&mut seat.device) else {
             return SyncTurn::Busy;
         };

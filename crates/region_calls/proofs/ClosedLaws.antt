@@ -83,7 +83,7 @@ entry_of e = e.entry
 
 as_entries : (m : Content) (es : List Edit) → put_edits m es ≡ put_entries m (map entry_of es)
 as_entries m [] = refl
-as_entries m (e ∷ es) = as_entries (put_cells m e.entry.number e.entry.cells) es
+as_entries m (e ∷ es) = as_entries (put_cells m e.entry.number e.entry.batch.cells) es
 
 take_entries : (k : ℕ) (es : List Edit) → map entry_of (take k es) ≡ take k (map entry_of es)
 take_entries zero es = refl

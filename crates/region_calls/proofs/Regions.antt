@@ -16,7 +16,7 @@ same_content r q p m (x ∷ xs) = go (nat_le x.number p) refl (is_done x.outcome
     go : (b : Bool) → nat_le x.number p ≡ b → (d : Bool) → is_done x.outcome ≡ d
         → ((n : Content) → put_edits n (done_up_to p (edits_in r xs)) ≡ put_edits n (done_up_to p (edits_in q xs)))
         → put_edits m (done_up_to p (edits_in r (x ∷ xs))) ≡ put_edits m (done_up_to p (edits_in q (x ∷ xs)))
-    go true within true done rest = rw (within, done) (rest (put_cells m x.number x.cells))
+    go true within true done rest = rw (within, done) (rest (put_cells m x.number x.batch.cells))
     go true within false done rest = rw (within, done) (rest m)
     go false within d done rest = rw within (rest m)
 

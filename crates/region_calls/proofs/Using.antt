@@ -2,6 +2,7 @@
 use Rattle.std.proofs.Common.{◌≡◌, ℕ, zero, suc, ◌+◌, ◌-◌, ◌<◌, ◌≤◌, Bool, IsTrue, List, [], ◌++◌, length, set, get_or, Option, Some, None, Result, Ok, Err, slice_get, refl, sym, ap, ◌∙◌, subst, arith}
 use Rattle.std.proofs.lemmas.List.{append-nil}
 use Rattle.std.proofs.lemmas.Option.{slice_get_read, slice_get_within}
+use Rattle.cell_model.specs.Batch.{Batch}
 use Rattle.cell_model.specs.Cell.{Cell}
 use Rattle.hand_register.specs.Views.{HandView}
 use Rattle.kv_cell.specs.declared.error.NoMemory.{NoMemory}
@@ -77,18 +78,18 @@ module _ {N : Type 0} {g : Ghosts N} where
       let region : p.viewer.region ≡ k + 1 = hand.region in
       record { at = at; low = low; next = omega (arith, place, some); hand = hand; region = omega (arith, region) }
 
-  pub puts_used : (name : Naming) (bases : ℕ → Base) (time r k : ℕ) (sync : Bool) (cells : List Cell) (caller : Caller) (answer : Answer) (h calls n : ℕ) (ps : List (RegionPass N g)) (p p' : RegionPass N g) (seat seat' : LogSeat)
+  pub puts_used : (name : Naming) (bases : ℕ → Base) (time r k : ℕ) (sync : Bool) (batch : Batch) (caller : Caller) (answer : Answer) (h calls n : ℕ) (ps : List (RegionPass N g)) (p p' : RegionPass N g) (seat seat' : LogSeat)
       → IsUsed h calls r k ps p → name.bases ≡ bases → length ps ≡ n → IsTrue (is_put answer)
-      → PutsAt (bases p.viewer.region) time p.viewer.region sync cells caller answer (known_of n p seat) (known_of n p' seat') seat.device.knows.broken seat'.device.knows.broken
-      → IsLaterSeat seat seat' → calls < caller.call → Puts name time r sync cells caller answer (pass_of h calls ps seat) (pass_of h caller.call (set ps k p') seat')
-  puts_used name bases time r k sync cells caller answer h calls n ps p p' seat seat' u named count answered puts later low =
+      → PutsAt (bases p.viewer.region) time p.viewer.region sync batch caller answer (known_of n p seat) (known_of n p' seat') seat.device.knows.broken seat'.device.knows.broken
+      → IsLaterSeat seat seat' → calls < caller.call → Puts name time r sync batch caller answer (pass_of h calls ps seat) (pass_of h caller.call (set ps k p') seat')
+  puts_used name bases time r k sync batch caller answer h calls n ps p p' seat seat' u named count answered puts later low =
       let was = seat.device.knows.broken in
       let is = seat'.device.knows.broken in
-      let one = subst (λ (f : ℕ → Base). PutsAt (f p.viewer.region) time p.viewer.region sync cells caller answer (known_of n p seat) (known_of n p' seat') was is) (sym named) puts in
-      let two = subst (λ (m : ℕ). PutsAt (name.bases p.viewer.region) time p.viewer.region sync cells caller answer (known_of m p seat) (known_of m p' seat') was is) (sym count) one in
-      let all = subst (λ (s : ℕ). PutsAt (name.bases s) time s sync cells caller answer (known_of (length ps) p seat) (known_of (length ps) p' seat') was is) u.region two in
-      subst (λ (s : ℕ). Puts name time s sync cells caller answer (pass_of h calls ps seat) (pass_of h caller.call (set ps k p') seat')) u.next
-      (puts_all name time k sync cells caller answer h calls ps p p' seat seat' u.at u.low answered all later (omega (arith, low)))
+      let one = subst (λ (f : ℕ → Base). PutsAt (f p.viewer.region) time p.viewer.region sync batch caller answer (known_of n p seat) (known_of n p' seat') was is) (sym named) puts in
+      let two = subst (λ (m : ℕ). PutsAt (name.bases p.viewer.region) time p.viewer.region sync batch caller answer (known_of m p seat) (known_of m p' seat') was is) (sym count) one in
+      let all = subst (λ (s : ℕ). PutsAt (name.bases s) time s sync batch caller answer (known_of (length ps) p seat) (known_of (length ps) p' seat') was is) u.region two in
+      subst (λ (s : ℕ). Puts name time s sync batch caller answer (pass_of h calls ps seat) (pass_of h caller.call (set ps k p') seat')) u.next
+      (puts_all name time k sync batch caller answer h calls ps p p' seat seat' u.at u.low answered all later (omega (arith, low)))
 
   pub flushes_used : (name : Naming) (bases : ℕ → Base) (lists : ℕ → List Caller) (r k : ℕ) (caller : Caller) (answer : Answer) (h calls n : ℕ) (ps : List (RegionPass N g)) (p p' : RegionPass N g) (seat seat' : LogSeat)
       → IsUsed h calls r k ps p → name.bases ≡ bases → name.flushes ≡ lists → length ps ≡ n → IsTrue (is_flush answer)

@@ -34,7 +34,7 @@ impl Taken {
     }
 }
 
-/// This holds. Where it doesn't, which no run shows, it does not return.
+/// This holds. Where it doesn't, which no run shows, it waits for ever: it has no right answer, and a wrong one would be worse.
 pub(crate) fn sure<S: Wait>(rt: &S, holds: bool)
     ensures { IsTrue holds }
 {

@@ -90,7 +90,7 @@ impl<
     }
 
     /// The cells of a region whose rows lie at or above `from` and, if `to` isn't empty, below `to`, at a point that was shown. It waits for
-    /// nobody. The point is at or above each one that the pass has seen. After want of memory the pass may have seen a later point.
+    /// nobody. The point is at or above each one that the pass has seen. After it was out of memory the pass may have seen a later point.
     pub fn scan(
         &self,
         alloc: Global,
@@ -110,7 +110,7 @@ impl<
 
     /// The scan of a region's cells whose rows lie at or above `from` and, if `to` isn't empty, below `to`, at a point that was shown, to be
     /// read a page at a time. It waits for nobody, and nobody waits for it. The point is at or above each one that the pass has seen, and it
-    /// stays: what is put later is not in its pages. After want of memory the pass may have seen a later point.
+    /// stays: what is put later is not in its pages. After it was out of memory the pass may have seen a later point.
     pub fn begin_scan(
         &self,
         alloc: Global,

@@ -83,7 +83,8 @@ fn shut<D: Disk, N: region_lock::Naming + log_service::Naming + region_versions:
     service.close(rt, seats, places)
 }
 
-/// Closes a server whose passes are its handlers'.
+/// Closes a server whose passes are its handlers': takes each region out of its lock, where all passes meet its journal; gives the seats
+/// back, and closes the service, which commits what is left in the ring; and joins each region with the words of the log.
 fn finish<
     'a,
     D: Disk,
@@ -146,7 +147,7 @@ impl<
     R: Wait,
 > Server<'a, D, N, R> {
     /// Closes the server, once all passes and seats are back: commits what is left, unless the log is broken, and gives the disk, and each
-    /// region's journal with the words of the log. The refusal is want of memory, or that the passes are not its handlers', which no run
+    /// region's journal with the words of the log. It refuses where it is out of memory, or the passes aren't its handlers', which no run
     /// shows; it hands all back. Where what a pass knows doesn't meet in a region, which no run shows, it does not return.
     pub fn close<S: Wait>(
         self,

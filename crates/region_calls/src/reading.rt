@@ -27,6 +27,7 @@ pub(crate) fn scanner_in<N: region_lock::Naming + region_versions::Naming>(
     let Ok(version) = view_in(at) else {
         return Err(NoMemory);
     };
+    // For the proof: the version's point is the last number of its cut, which this call's clause says.
     let _point = version.point();
     Scanner::of_version(alloc, version, from, to)
 }

@@ -180,7 +180,7 @@ fn join<
 }
 
 impl<D: Disk> Opened<D> {
-    /// The server of this store, by a name that is its: the store's tables, bases and files. The refusal is want of memory, and gives the
+    /// The server of this store, by a name that is its: the store's tables, bases and files. It refuses where it is out of memory, and gives the
     /// disk back. The server keeps the handle `rt`, since its drop waits for those that view a region.
     pub fn named<
         'a,

@@ -8,4 +8,5 @@ pub mod FlushLaws
 pub mod ScanLaws
 pub mod Lifts
 pub mod Meeting
+pub mod Places
 pub mod NewPart

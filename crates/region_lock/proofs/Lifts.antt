@@ -1,7 +1,7 @@
 -- One call of a pass, from what it does to what is known of its region.
 use Rattle.std.proofs.lemmas.Bool.{cases_eq}
 use Rattle.std.proofs.Common.{◌≡◌, ◌≢◌, ℕ, ◌≤◌, Bool, IsTrue, List, sym, ◌∙◌, subst, inl, inr, arith}
-use Rattle.cell_model.specs.Cell.{Cell}
+use Rattle.cell_model.specs.Batch.{Batch}
 use Rattle.region_model.specs.Journal.{Caller}
 use Rattle.region_model.specs.Calls.{Answer, is_put, is_scan, is_flush, is_roll}
 use Rattle.log_service.specs.declared.seats.LogSeat.{LogSeat}
@@ -17,10 +17,10 @@ quiet_of_all : (r : ℕ) (old new : Pass) → IsQuiet (old.known r) (new.known r
 quiet_of_all r old new here others s = elim (cases_eq s r) [ inl same ↦ subst (λ (t : ℕ). IsQuiet (old.known t) (new.known t)) (sym same) here | inr other ↦ others s other ]
 
 -- One put of a pass, from what it does to what is known of its region.
-pub puts_from : (name : Naming) (time r : ℕ) (sync : Bool) (cells : List Cell) (caller : Caller) (answer : Answer) (old new : Pass) → IsTrue (is_put answer)
-    → PutsAt (name.bases r) time r sync cells caller answer (old.known r) (new.known r) old.broken new.broken → ((s : ℕ) → s ≢ r → IsLaterOf (old.known s) (new.known s) × IsQuiet (old.known s) (new.known s))
-    → new.handler ≡ old.handler → old.calls ≤ caller.call → new.calls ≡ caller.call → Puts name time r sync cells caller answer old new
-puts_from name time r sync cells caller answer old new answered p others handler calls used = record {
+pub puts_from : (name : Naming) (time r : ℕ) (sync : Bool) (batch : Batch) (caller : Caller) (answer : Answer) (old new : Pass) → IsTrue (is_put answer)
+    → PutsAt (name.bases r) time r sync batch caller answer (old.known r) (new.known r) old.broken new.broken → ((s : ℕ) → s ≢ r → IsLaterOf (old.known s) (new.known s) × IsQuiet (old.known s) (new.known s))
+    → new.handler ≡ old.handler → old.calls ≤ caller.call → new.calls ≡ caller.call → Puts name time r sync batch caller answer old new
+puts_from name time r sync batch caller answer old new answered p others handler calls used = record {
   answered = answered;
   later = record { handler = handler; calls = omega (arith, used, calls); known = later_of_all r old new p.later (λ s other. (others s other).0); broken = p.stays };
   own = p.own;
@@ -29,6 +29,7 @@ puts_from name time r sync cells caller answer old new answered p others handler
   above = p.above;
   above_own = p.above_own;
   seen = p.seen;
+  place = p.place;
   synced = p.synced;
   fault = p.fault;
   stops = p.stops;

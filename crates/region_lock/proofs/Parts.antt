@@ -1,5 +1,6 @@
 -- The ties of a region's lock, step by step.
 use Rattle.std.proofs.Common.{◌≡◌, Result, Ok, Err, MatchResult, zero, suc, inl, inr, ℕ, ◌+◌, ◌-◌, ◌^◌, ◌<◌, ◌≤◌, get_or, List, [], ◌∷◌, ◌++◌, length, set, Contains, Some, None, Option, slice_get, refl, sym, ap, ◌∙◌, subst, arith, append-nil, length-append}
+use Rattle.std.specs.Global.{Box}
 use Rattle.std.proofs.lemmas.Option.{slice_get_within}
 use Rattle.crossbeam_queue.specs.Passes.{view}
 use Rattle.hand_register.specs.declared.known.Record.{Record}
@@ -160,6 +161,25 @@ kept r n j old new is was now bytes least most = record {
   bytes = stamped r n j old new is was bytes;
   entry = job_entry r n j is least most;
 }
+
+abbrev truck_in : Haul → Item → Haul
+truck_in none (items.Append truck) = truck.value
+truck_in none (items.Sync region number) = none
+
+-- a job whose truck came back is one, under the number that it got
+pub came_back : (r n : ℕ) (j : Job) (old new : Haul) (truck given : Box Haul) → items.Append truck ≡ items.Append given → given.value ≡ new → IsJob r j
+    → old ≡ j.truck.value → new ≡ record old { number = n; bytes = new.bytes } → ((e : Entry) → old.bytes ≡ entry_frame e → new.bytes ≡ entry_frame (record e { number = n })) → 1 ≤ n → n < 2 ^ 48 → IsJob r (record j { truck = truck })
+came_back r n j old new truck given same back is was now bytes least most =
+    let held = kept r n j old new is was now bytes least most in
+    let value : truck.value ≡ new = ap (truck_in new) same ∙ back in
+    record {
+      number = n;
+      entry = held.entry;
+      bytes = ap (λ (h : Haul). h.bytes) value ∙ held.bytes;
+      region = ap (λ (h : Haul). h.region) value ∙ held.region;
+      alone = ap (λ (h : Haul). h.behind) value ∙ (spelled r n j old new is was now bytes least most).1;
+      draft = is.draft;
+    }
 
 -- of the lines behind which one ended, that one alone has its number
 only_one : (r last : ℕ) (pre post : List Line) (x x' y : Line) → x'.number ≡ x.number → Follows last (edits_in r (pre ++ x ∷ post)) → Contains (pre ++ x' ∷ post) y → y.number ≡ x.number → y ≡ x'

@@ -1,7 +1,8 @@
 -- What a put's steps come to.
-use Rattle.std.proofs.Common.{◌≡◌, ℕ, ◌-◌, ◌<◌, ◌≤◌, Bool, true, false, true≢false, List, [], ◌∷◌, ◌++◌, Contains, Option, Some, Result, Ok, Err, sym, ap, ◌∙◌, subst, arith, append-nil}
+use Rattle.std.proofs.Common.{◌≡◌, ℕ, zero, suc, ◌-◌, ◌<◌, ◌≤◌, Bool, true, false, true≢false, List, [], ◌∷◌, ◌++◌, Contains, Option, Some, Result, Ok, Err, refl, sym, ap, ◌∙◌, subst, arith, append-nil}
+use Rattle.std.proofs.lemmas.List.Elements.{Contains-append_right}
 use mathlib.Core.List.{IsPrefix}
-use Rattle.cell_model.specs.Cell.{Cell}
+use Rattle.cell_model.specs.Batch.{Batch}
 use Rattle.region_model.specs.Journal.{Base, Caller, Outcome, Done, Edit, last_of}
 use Rattle.region_model.specs.Calls.{Answer, PutOk, PutFault}
 use Rattle.region_model.specs.Lawful.{number_of, outcome_of, IsPutFault}
@@ -11,6 +12,7 @@ use Rattle.log_service.specs.declared.seats.LogSeat.{LogSeat}
 use Rattle.log_service.specs.Numbers.{seen_synced}
 use Rattle.log_service.specs.Places.{IsLaterSeat}
 use Rattle.server_model.specs.Pass.{Known, IsLaterOf}
+use Rattle.server_model.proofs.JournalLaws.{contains_cons}
 use Rattle.server_model.specs.Steps.{edit_of, drawn, told_last}
 use Rattle.region_lock.specs.declared.job.Job.{Job}
 use Rattle.region_lock.specs.declared.answers.PutRefusal.{PutRefusal}
@@ -18,23 +20,26 @@ use Rattle.region_lock.specs.declared.answers.PutRefusal.TheVariants as put
 use Rattle.region_lock.specs.Calls.{PutsAt}
 use Rattle.region_lock.specs.Jobs.{line_of}
 use Rattle.region_lock.specs.Parts.{WasEnded, AreBelow}
+use Rattle.region_lock.specs.Met.{HasSeen}
 use Rattle.region_lock.specs.Puts.{IsDrawn}
 use Rattle.region_lock.proofs.Lists.{snoc_same}
 use Rattle.region_lock.proofs.Knowns.{at_region, later_at, last_same, below_edits}
 
 -- a number was drawn
-pub numbered_at : (base : Base) (time r : ℕ) (sync : Bool) (cells : List Cell) (caller : Caller) (answer : Answer) (old new : Known) (was is : Bool) (n : ℕ)
-    → number_of answer ≡ Some n → told_last answer ≡ [] → IsLaterOf old new → new.own ≡ old.own ++ edit_of r n time cells caller (outcome_of answer) ∷ [] → new.spent ≡ old.spent → last_of base.last old.shown < n
-    → ((e : Edit) → Contains old.own e → e.entry.number < n) → ((m : ℕ) → answer ≡ PutFault (Some m) → sync ≡ true) → ((m : ℕ) → answer ≡ PutOk m → n ≤ last_of base.last new.shown) → (sync ≡ true → outcome_of answer ≡ Done → n ≤ new.synced) → (IsPutFault answer → is ≡ true) → was ≡ false
-    → PutsAt base time r sync cells caller answer old new was is
-numbered_at base time r sync cells caller answer old new was is n some told later own spent above above_own fault_sync seen synced fault whole = record {
+pub numbered_at : (base : Base) (time r : ℕ) (sync : Bool) (batch : Batch) (caller : Caller) (answer : Answer) (old new : Known) (was is : Bool) (n : ℕ)
+    → number_of answer ≡ Some n → told_last answer ≡ [] → IsLaterOf old new → new.own ≡ old.own ++ edit_of r n time batch caller (outcome_of answer) ∷ [] → new.spent ≡ old.spent → last_of base.last old.shown < n
+    → ((e : Edit) → Contains old.own e → e.entry.number < n) → ((m : ℕ) → answer ≡ PutFault (Some m) → sync ≡ true) → ((m : ℕ) → answer ≡ PutOk m → n ≤ last_of base.last new.shown) → ((m : ℕ) → answer ≡ PutOk m → Contains new.shown (edit_of r n time batch caller (outcome_of answer))) → (sync ≡ true → outcome_of answer ≡ Done → n ≤ new.synced) → (IsPutFault answer → is ≡ true) → was ≡ false
+    → PutsAt base time r sync batch caller answer old new was is
+numbered_at base time r sync batch caller answer old new was is n some told later own spent above above_own fault_sync seen place synced fault whole = record {
   later = later;
-  own = own ∙ ap (λ (o : Option ℕ). old.own ++ drawn r time cells caller answer o) (sym some);
+  own = own ∙ ap (λ (o : Option ℕ). old.own ++ drawn r time batch caller answer o) (sym some);
   spent = spent ∙ sym (append-nil old.spent) ∙ ap (λ (l : List ℕ). old.spent ++ l) (sym told);
   above = λ m is'. let same : n ≡ m = cc (sym some ∙ is') in omega (arith, same, above);
   above_own = λ m x is' c. let same : n ≡ m = cc (sym some ∙ is') in let lt = above_own x c in omega (arith, same, lt);
   fault_sync = fault_sync;
   seen = λ m e. let same : n ≡ m = cc (sym some ∙ ap number_of e) in omega (arith, same, seen m e);
+  place = λ m e. let same : n ≡ m = cc (sym some ∙ ap number_of e) in
+      subst (λ (o : Outcome). Contains new.shown (edit_of r m time batch caller o)) (ap outcome_of e) (subst (λ (k : ℕ). Contains new.shown (edit_of r k time batch caller (outcome_of answer))) same (place m e));
   synced = λ m s is' done. let same : n ≡ m = cc (sym some ∙ is') in omega (arith, same, synced s done);
   fault = fault;
   stays = λ b. absurd (true≢false (sym b ∙ whole));
@@ -51,21 +56,36 @@ was_put o old mid new x is w =
 pub own_put : (r : ℕ) (old new : List Line) (x : Line) → new ≡ old ++ x ∷ [] → edits_in r new ≡ edits_in r old ++ edit_in r x ∷ []
 own_put r old new x is = ap (edits_in r) is ∙ edits_in-append r old (x ∷ [])
 
+-- a line that is shown is an edit that is
+contains_edits : (r : ℕ) (xs : List Line) (x : Line) → Contains xs x → Contains (edits_in r xs) (edit_in r x)
+contains_edits r [] x (k, lt, is) = absurd (omega (arith, lt))
+contains_edits r (y ∷ ys) x (zero, lt, is) = (0, omega arith, ap (edit_in r) is)
+contains_edits r (y ∷ ys) x (suc k, lt, is) = contains_cons (edit_in r y) (edits_in r ys) (edit_in r x) (contains_edits r ys x (k, omega (arith, lt), is))
+
+-- the line of a put that was seen
+placed_at : (r r' n time : ℕ) (base : Base) (batch : Batch) (caller : Caller) (o : Outcome) (own own' shown : List Line) → r' ≡ r → own' ≡ own ++ (record (pending n caller time batch) { outcome = o }) ∷ []
+    → HasSeen base n own' shown → Contains (edits_in r' shown) (edit_of r n time batch caller o)
+placed_at r r' n time base batch caller o own own' shown same mine seen =
+    let x : Line = record (pending n caller time batch) { outcome = o } in
+    let has : Contains own' x = subst (λ (l : List Line). Contains l x) (sym mine) (Contains-append_right own (x ∷ []) x (0, omega arith, refl)) in
+    subst (λ (k : ℕ). Contains (edits_in r' shown) (edit_of k n time batch caller o)) same (contains_edits r' shown x (seen.placed x has seen.seen))
+
 -- a put that drew a number, from its steps
-pub put_at : (n_regions : ℕ) (base : Base) (time r r' n : ℕ) (sync : Bool) (cells : List Cell) (caller : Caller) (answer : Answer) (own mid own' shown shown' : List Line) (told told' : List ℕ) (seat seat' : LogSeat)
-    → r' ≡ r → mid ≡ own ++ pending n caller time cells ∷ [] → WasEnded (outcome_of answer) mid own' → told' ≡ told → IsPrefix shown shown' → IsLaterSeat seat seat' → last_in base shown < n → AreBelow n own
-    → number_of answer ≡ Some n → told_last answer ≡ [] → ((m : ℕ) → answer ≡ PutFault (Some m) → sync ≡ true) → ((m : ℕ) → answer ≡ PutOk m → n ≤ last_in base shown') → (sync ≡ true → outcome_of answer ≡ Done → n ≤ seen_synced seat'.device.knows r)
+pub put_at : (n_regions : ℕ) (base : Base) (time r r' n : ℕ) (sync : Bool) (batch : Batch) (caller : Caller) (answer : Answer) (own mid own' shown shown' : List Line) (told told' : List ℕ) (seat seat' : LogSeat)
+    → r' ≡ r → mid ≡ own ++ pending n caller time batch ∷ [] → WasEnded (outcome_of answer) mid own' → told' ≡ told → IsPrefix shown shown' → IsLaterSeat seat seat' → last_in base shown < n → AreBelow n own
+    → number_of answer ≡ Some n → told_last answer ≡ [] → ((m : ℕ) → answer ≡ PutFault (Some m) → sync ≡ true) → ((m : ℕ) → answer ≡ PutOk m → HasSeen base n own' shown') → (sync ≡ true → outcome_of answer ≡ Done → n ≤ seen_synced seat'.device.knows r)
     → (IsPutFault answer → seat'.device.knows.broken ≡ true) → seat.device.knows.broken ≡ false
-    → PutsAt base time r sync cells caller answer (at_region n_regions r own shown told seat) (at_region n_regions r' own' shown' told' seat') seat.device.knows.broken seat'.device.knows.broken
-put_at n_regions base time r r' n sync cells caller answer own mid own' shown shown' told told' seat seat' same drew ended nothing later words above below number last fault_sync seen synced fault whole =
-    numbered_at base time r sync cells caller answer (at_region n_regions r own shown told seat) (at_region n_regions r' own' shown' told' seat') seat.device.knows.broken seat'.device.knows.broken n number last
+    → PutsAt base time r sync batch caller answer (at_region n_regions r own shown told seat) (at_region n_regions r' own' shown' told' seat') seat.device.knows.broken seat'.device.knows.broken
+put_at n_regions base time r r' n sync batch caller answer own mid own' shown shown' told told' seat seat' same drew ended nothing later words above below number last fault_sync seen synced fault whole =
+    numbered_at base time r sync batch caller answer (at_region n_regions r own shown told seat) (at_region n_regions r' own' shown' told' seat') seat.device.knows.broken seat'.device.knows.broken n number last
     (later_at n_regions r r' own own' shown shown' told told' seat seat' same later words)
-    (ap (λ (k : ℕ). edits_in k own') same ∙ own_put r own own' (record (pending n caller time cells) { outcome = outcome_of answer }) (was_put (outcome_of answer) own mid own' (pending n caller time cells) drew ended))
+    (ap (λ (k : ℕ). edits_in k own') same ∙ own_put r own own' (record (pending n caller time batch) { outcome = outcome_of answer }) (was_put (outcome_of answer) own mid own' (pending n caller time batch) drew ended))
     nothing
     (let l = last_same base r shown in omega (arith, l, above))
     (below_edits r n own below)
     fault_sync
-    (λ m e. let l = last_same base r' shown' in let s = seen m e in omega (arith, l, s))
+    (λ m e. let l = last_same base r' shown' in let s = (seen m e).seen in omega (arith, l, s))
+    (λ m e. placed_at r r' n time base batch caller (outcome_of answer) own own' shown' same (was_put (outcome_of answer) own mid own' (pending n caller time batch) drew ended) (seen m e))
     (λ s d. subst (λ (k : ℕ). n ≤ seen_synced seat'.device.knows k) (sym same) (synced s d))
     fault
     whole

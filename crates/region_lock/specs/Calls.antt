@@ -1,25 +1,27 @@
 -- One call of a handler on one region, by what it does to what its pass knows of that region.
 use Rattle.std.specs.Prelude.{◌≡◌, ◌≢◌, ℕ, ◌-◌, ◌^◌, ◌<◌, ◌≤◌, Bool, true, List, ◌++◌, Some, None, Contains}
+use Rattle.cell_model.specs.Batch.{Batch}
 use Rattle.cell_model.specs.Cell.{Cell}
-use Rattle.region_model.specs.Journal.{Base, Caller, Edit, last_of, visible}
+use Rattle.region_model.specs.Journal.{Base, Caller, Done, Edit, last_of, visible}
 use Rattle.region_model.specs.Calls.{Answer, PutOk, PutFault, PutSpent, Scanned, FlushOk, FlushNothing, FlushBusy, FlushFault, RollFault}
 use Rattle.region_model.specs.Lawful.{number_of, outcome_of, flushed_of, IsPutFault}
 use Rattle.server_model.specs.Pass.{Known, IsLaterOf, IsQuiet}
-use Rattle.server_model.specs.Steps.{drawn, told_last, IsFlushedTo, IsNothingAbove, IsRolled}
+use Rattle.server_model.specs.Steps.{edit_of, drawn, told_last, IsFlushedTo, IsNothingAbove, IsRolled}
 use Rattle.log_service.specs.declared.seats.LogSeat.{LogSeat}
 use Rattle.log_service.specs.Places.{IsLaterSeat}
 use Rattle.log_service.specs.Numbers.{seen_synced, seen_closed}
 
 -- A put. `was` and `is` say whether the seat had seen the fault before, and has now.
-pub record PutsAt (base : Base) (time r : ℕ) (sync : Bool) (cells : List Cell) (caller : Caller) (answer : Answer)
+pub record PutsAt (base : Base) (time r : ℕ) (sync : Bool) (batch : Batch) (caller : Caller) (answer : Answer)
     (old new : Known) (was is : Bool) : Type 0 where
   pub later : IsLaterOf old new
-  pub own : new.own ≡ old.own ++ drawn r time cells caller answer (number_of answer)
+  pub own : new.own ≡ old.own ++ drawn r time batch caller answer (number_of answer)
   pub spent : new.spent ≡ old.spent ++ told_last answer
   pub above : (n : ℕ) → number_of answer ≡ Some n → last_of base.last old.shown < n
   pub above_own : (n : ℕ) (e : Edit) → number_of answer ≡ Some n → Contains old.own e → e.entry.number < n
   pub fault_sync : (n : ℕ) → answer ≡ PutFault (Some n) → sync ≡ true
   pub seen : (n : ℕ) → answer ≡ PutOk n → n ≤ last_of base.last new.shown
+  pub place : (n : ℕ) → answer ≡ PutOk n → Contains new.shown (edit_of r n time batch caller Done)
   pub synced : (n : ℕ) → sync ≡ true → number_of answer ≡ Some n → outcome_of answer ≡ outcome_of (PutOk n) → n ≤ new.synced
   pub fault : IsPutFault answer → is ≡ true
   pub stays : was ≡ true → is ≡ true

@@ -15,7 +15,7 @@ use Rattle.region_lock.specs.declared.job.Job.{Job}
 
 -- its entry under this number
 abbrev pub entry_under : ℕ → ℕ → Job → Entry
-entry_under r n j = record { region = r; number = n; time = j.time; cells = arc_value j.batch }
+entry_under r n j = record { region = r; number = n; time = j.time; batch = arc_value j.batch }
 
 -- its line under this number
 abbrev pub line_of : ℕ → Job → Line
@@ -28,7 +28,7 @@ pub record IsJob (r : ℕ) (j : Job) : Type 0 where
   pub bytes : j.truck.value.bytes ≡ entry_frame (entry_under r number j)
   pub region : j.truck.value.region ≡ r
   pub alone : j.truck.value.behind ≡ []
-  pub draft : IsDraftOf j.draft (arc_value j.batch)
+  pub draft : IsDraftOf j.draft (arc_value j.batch).cells
 
 -- the job is as it was, but for the number that its truck spells
 abbrev pub IsJobBack : ℕ → Job → Job → Type 0

@@ -108,6 +108,7 @@ impl<N: Naming + log_service::Naming + region_versions::Naming> RegionPart<N> {
         ensures hand { SameHand hand.old hand.new }
     {
         self.desk.meet(hand);
+        // For the proof: a journal is in order, which this call's clause says.
         let _all = self.state.journal();
         let number = entry.number();
         let point = self.state.end_edit(entry, ended);

@@ -12,7 +12,7 @@ use region_state::Caller;
 use std::alloc::Global;
 use std::sync::Arc;
 
-/// An edit with all its memory: its cells, their draft, and a truck with its bytes under some number. The time is in milliseconds.
+/// An edit with all its memory: its batch, the draft of its cells, and a truck with its bytes under some number. The time is in milliseconds.
 #[derive(Drop)]
 pub struct Job {
     pub caller: Caller,

@@ -11,7 +11,7 @@ ghost use Rattle.region_lock.specs.Hands.{SameHand};
 ghost use Rattle.region_lock.specs.Jobs.{IsJob};
 ghost use Rattle.region_lock.specs.Marks.{IsLooked};
 ghost use Rattle.region_lock.specs.Parts.{AreCalledBelow, EndsPending, WasEnded, with_lines};
-ghost use Rattle.region_lock.specs.Met.{IsMet};
+ghost use Rattle.region_lock.specs.Met.{ArePlaced, IsMet};
 ghost use Rattle.region_lock.specs.Passes.{known_of};
 ghost use Rattle.region_lock.specs.Tries.{IsTried};
 
@@ -74,6 +74,7 @@ impl<N: Naming + log_service::Naming + region_versions::Naming, R: Wait + Drop> 
         ensures point { result ≡ write_point self.now.state }
         ensures base { self.now.state.base ≡ N.Naming-3.base self.now.state.region }
     {
+        // For the proof: the base is the name's, which this call's clause says.
         let _first = self.part.first();
         self.part.write_point()
     }
@@ -126,6 +127,7 @@ impl<N: Naming + log_service::Naming + region_versions::Naming, R: Wait + Drop> 
         ensures point { IsReadPoint self.new.state result }
         ensures hand { SameHand hand.old hand.new }
     {
+        // For the proof: a journal is in order, which this call's clause says.
         let _all = self.part.journal();
         self.part.end(hand, entry, ended)
     }
@@ -191,9 +193,13 @@ impl<N: Naming + log_service::Naming + region_versions::Naming, R: Wait + Drop> 
         ensures own { at.new.hand.record.list ≡ handled_lines at.new.hand.number self.old.state.lines }
         ensures spent { (n : ℕ) → Contains at.new.told.record.list n → n ≤ last_in self.old.state.base self.old.state.lines }
         ensures shown { IsTrue result → IsPrefix at.new.viewer.lines self.old.state.lines }
+        ensures placed { IsTrue result → ArePlaced (N.Naming-3.base self.old.state.region) at.new.hand.record.list at.new.viewer.lines }
         ensures met { IsTrue result → (n : ℕ) (seat : LogSeat)
             → IsMet self.old.state.base (edits_in self.old.state.region self.old.state.lines) at.new.hand.number (known_of n at.new seat) }
     {
+        // For the proof: the lines are a journal from the base on.
+        let _all = self.part.journal();
+        let _first = self.part.first();
         self.part.meet(&mut at.hand);
         self.part.meet_told(&mut at.told);
         at.viewer.is_within(self.history.front())

@@ -27,6 +27,7 @@ impl<N: Naming + log_service::Naming + region_versions::Naming> RegionPart<N> {
                 Err(other)
             }
             None => {
+                // For the proof: a journal is in order, which this call's clause says.
                 let _all = self.state.journal();
                 self.desk.mark(hand, u64::from(by.call));
                 self.mark = Some(by);

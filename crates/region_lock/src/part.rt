@@ -70,6 +70,7 @@ impl<N: Naming + log_service::Naming + region_versions::Naming> RegionPart<N> {
         ensures base { self.now.state.base ≡ N.Naming-3.base self.now.state.region }
         ensures limit { write_point self.now.state < 2 ^ 48 }
     {
+        // For the proof: a journal's numbers are below 2^48, which this call's clause says.
         let _lines = self.state.journal();
         self.state.base().last
     }

@@ -1,6 +1,6 @@
 //! A put into one region, in its steps.
 
-ghost use Rattle.std.specs.Prelude.{◌≡◌, ◌≤◌, OnOk};
+ghost use Rattle.std.specs.Prelude.{◌≡◌, IsTrue, OnOk};
 ghost use Rattle.std.specs.Arc.{arc_value};
 ghost use mathlib.Core.List.{IsPrefix};
 ghost use Rattle.region_model.specs.Lines.{last_in};
@@ -9,6 +9,8 @@ ghost use Rattle.log_service.specs.Places.{IsSeatOf, IsLaterSeat};
 ghost use Rattle.region_lock.specs.Answers.{is_sync, put_answer};
 ghost use Rattle.region_lock.specs.Calls.{PutsAt};
 ghost use Rattle.region_lock.specs.Jobs.{IsJob};
+ghost use Rattle.region_lock.specs.Hands.{SameHand};
+ghost use Rattle.region_lock.specs.Met.{HasSeen};
 ghost use Rattle.region_lock.specs.Parts.{EndsPending, WasEnded, AreCalledBelow};
 ghost use Rattle.region_lock.specs.Passes.{IsAtService, SameView, SamePass, known_of};
 ghost use Rattle.region_lock.specs.Puts.{IsAttempted, IsDrawn, IsLogged, IsFaultExact, IsWatched};
@@ -167,8 +169,16 @@ fn await_log<
     }
 }
 
-/// Ends the edit, in another hold of the region's lock, and shows it where none before it is pending. True where one is: who ends that one
-/// shows both.
+/// What is left to do for an edit that has ended, until its pass has seen it shown: nothing, to show it, or to wait since one before it is
+/// pending, and who ends that one shows both.
+#[derive(Drop)]
+enum Left {
+    Nothing,
+    Show,
+    Wait,
+}
+
+/// Ends the edit, in another hold of the region's lock, and shows it in the same hold where none before it is pending.
 fn end<N: Naming + log_service::Naming + region_versions::Naming, R: Wait + Drop, S: Wait>(
     rt: &S,
     alloc: Global,
@@ -176,11 +186,13 @@ fn end<N: Naming + log_service::Naming + region_versions::Naming, R: Wait + Drop
     at: &mut RegionPass<N>,
     entry: WriteEntry,
     ended: Ended,
-) -> bool
+) -> Left
     requires last { EndsPending at.old.hand.record.list entry }
     ensures own { WasEnded (outcome_at_end ended) at.old.hand.record.list at.new.hand.record.list }
     ensures told { at.new.told.record.list ≡ at.old.told.record.list }
-    ensures same { SameView at.old at.new }
+    ensures pass { SamePass at.old at.new }
+    ensures lines { IsPrefix at.old.viewer.lines at.new.viewer.lines }
+    ensures seen { result ≡ Left.Nothing → HasSeen (N.Naming-3.base at.new.viewer.region) entry at.new.hand.record.list at.new.viewer.lines }
 {
     let region = at.viewer.region();
     'looking: for _ in rt.forever() {
@@ -189,13 +201,36 @@ fn end<N: Naming + log_service::Naming + region_versions::Naming, R: Wait + Drop
             let number = entry.number();
             let point = guard.end(&mut at.hand, entry, ended);
             if point < number {
-                return true;
+                return Left::Wait;
             }
             let _shown = guard.show(alloc);
-            return false;
+            if number <= at.viewer.point() && guard.meet(at) {
+                return Left::Nothing;
+            }
+            return Left::Show;
         }
     }
     unreachable!()
+}
+
+/// True where the pass has seen the number, and in the same hold of the region's lock each of its own lines up to there.
+fn is_seen<N: Naming + log_service::Naming + region_versions::Naming, R: Wait + Drop, S: Wait>(
+    rt: &S,
+    lock: &Mutex<Locked<N, R>>,
+    at: &mut RegionPass<N>,
+    number: u64,
+) -> bool
+    ensures seen { IsTrue result → HasSeen (N.Naming-3.base at.new.viewer.region) number at.new.hand.record.list at.new.viewer.lines }
+    ensures own { (at.new.hand.record ≡ at.old.hand.record) × SameHand at.old.hand at.new.hand }
+    ensures told { at.new.told.record.list ≡ at.old.told.record.list }
+    ensures region { at.new.viewer.region ≡ at.old.viewer.region }
+    ensures lines { IsPrefix at.old.viewer.lines at.new.viewer.lines }
+{
+    if at.viewer.point() < number {
+        return false;
+    }
+    let mut guard = lock.lock(rt);
+    guard.region() == at.viewer.region() && guard.meet(at)
 }
 
 /// Waits until the pass sees the number, where an edit before it is pending, and else shows. After a wait it shows again: a version that
@@ -216,10 +251,11 @@ fn show<
     waits: bool,
 ) -> Result<(), NoMemory>
     requires service { IsSeatOf service.now seat.old }
-    ensures seen { OnOk result (number ≤ last_in (N.Naming-3.base at.new.viewer.region) at.new.viewer.lines) }
+    ensures seen { OnOk result (HasSeen (N.Naming-3.base at.new.viewer.region) number at.new.hand.record.list at.new.viewer.lines) }
     ensures region { at.new.viewer.region ≡ at.old.viewer.region }
     ensures lines { IsPrefix at.old.viewer.lines at.new.viewer.lines }
-    ensures hand { (at.new.hand ≡ at.old.hand) × (at.new.told ≡ at.old.told) }
+    ensures own { (at.new.hand.record ≡ at.old.hand.record) × SameHand at.old.hand at.new.hand }
+    ensures told { at.new.told.record.list ≡ at.old.told.record.list }
     ensures seat { IsSeatOf service.now seat.new }
     ensures later { IsLaterSeat seat.old seat.new }
 {
@@ -227,7 +263,7 @@ fn show<
     let mut waits = waits;
     'showing: for _ in rt.forever() {
         let shows = service.shows(region);
-        if number <= at.viewer.point() {
+        if is_seen(rt, lock, at, number) {
             return Ok(());
         }
         if waits {
@@ -284,19 +320,28 @@ pub fn put_in<
     }
     let region = at.viewer.region();
     let caller = job.caller;
+    // In one hold of the lock: the number, the place in the ring, and the pending line of the journal.
     let entry = draw(rt, service, lock, at, seat, job)?;
     let number = entry.number();
+    // With no lock held: the log.
     if !await_log(
         rt, service, lock, region, caller, seat, durability, number, gate,
     ) {
-        let _waits = end(rt, alloc, lock, at, entry, Ended::Failed);
+        let _left = end(rt, alloc, lock, at, entry, Ended::Failed);
         service.tell_show(region);
         return Err(PutRefusal::WriteFault {
             number: Some(number),
         });
     }
-    let waits = end(rt, alloc, lock, at, entry, Ended::Done);
+    // In a second hold: the edit ends, and is shown where none before it is pending.
+    let left = end(rt, alloc, lock, at, entry, Ended::Done);
     service.tell_show(region);
+    let waits = match left {
+        Left::Nothing => return Ok(number),
+        Left::Show => false,
+        Left::Wait => true,
+    };
+    // Else it is shown by who ends the edit before it, or by this put.
     match show(rt, alloc, service, lock, at, seat, number, waits) {
         Ok(()) => Ok(number),
         Err(_) => {

@@ -45,7 +45,7 @@ put_next base lines t x lt e =
     ∙ one (is_done_line x)
   where
     one : (b : Bool) → put_lines (put_lines base (done_in (take t lines))) (cond b (x ∷ []) []) ≡ (if b then joined (put_lines base (done_in (take t lines)) ∷ cells_alone x ∷ []) else put_lines base (done_in (take t lines)))
-    one true = put_cells-joined (put_lines base (done_in (take t lines))) x.number x.cells
+    one true = put_cells-joined (put_lines base (done_in (take t lines))) x.number x.batch.cells
     one false = refl
 
 first_same : (a b : Content) (ms ns : List Content) → a ∷ ms ≡ b ∷ ns → a ≡ b

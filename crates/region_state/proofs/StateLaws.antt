@@ -44,7 +44,7 @@ length_push (y ∷ xs) x = ap suc (length_push xs x)
 
 -- a line begins
 pub region_begun : (r : ℕ) (base : Base) (lines : List Line) (queue : Numbers) (merged : Content) (waiting : List Content) (x : Line) (new : Content) → IsRegion r base lines queue merged waiting
-    → x.number ≡ last_in base lines + 1 → last_in base lines + 1 < 2 ^ 48 → x.outcome ≡ Pending → 1 ≤ length x.cells → IsNextCall x.caller lines → new ≡ cells_alone x
+    → x.number ≡ last_in base lines + 1 → last_in base lines + 1 < 2 ^ 48 → x.outcome ≡ Pending → 1 ≤ length x.batch.cells → IsNextCall x.caller lines → new ≡ cells_alone x
     → IsRegion r base (lines ++ x ∷ []) (begun queue) merged (waiting ++ new ∷ [])
 region_begun r base lines queue merged waiting x new is number limit outcome given next alone =
     let le = waiting_le lines waiting is.layers.waits in

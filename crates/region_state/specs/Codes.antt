@@ -1,8 +1,8 @@
 -- By these a proof tells lines, versions and states apart, so that they can be the values of models.
-use Rattle.std.specs.Prelude.{◌≡◌, ℕ, zero, suc, List, refl}
-use Rattle.std.specs.Coded.{Coded, code_by, coded×, coded_ℕ, coded_list}
-use Rattle.cell_model.specs.Cell.{Cell}
-use Rattle.cell_model.specs.Codes.{coded_cell}
+use Rattle.std.specs.Prelude.{◌≡◌, ℕ, zero, suc, refl}
+use Rattle.std.specs.Coded.{Coded, code_by, coded×, coded_ℕ}
+use Rattle.cell_model.specs.Batch.{Batch}
+use Rattle.cell_model.specs.Codes.{coded_batch}
 use Rattle.region_model.specs.Journal.{Outcome, Pending, Done, Failed}
 use Rattle.region_model.specs.Lines.{Line}
 
@@ -26,6 +26,6 @@ coded_outcome = code_by ℕ coded_ℕ number_of outcome_at outcome_again
 
 abbrev pub coded_line : Coded Line
 coded_line =
-    code_by (ℕ × (ℕ × (ℕ × (ℕ × (List Cell × Outcome))))) (coded× coded_ℕ (coded× coded_ℕ (coded× coded_ℕ (coded× coded_ℕ (coded× (coded_list coded_cell) coded_outcome)))))
-    (λ x. (x.number, (x.caller.handler, (x.caller.call, (x.time, (x.cells, x.outcome))))))
-    (λ p. record { number = p.0; caller = record { handler = p.1.0; call = p.1.1.0 }; time = p.1.1.1.0; cells = p.1.1.1.1.0; outcome = p.1.1.1.1.1 }) (λ _. refl)
+    code_by (ℕ × (ℕ × (ℕ × (ℕ × (Batch × Outcome))))) (coded× coded_ℕ (coded× coded_ℕ (coded× coded_ℕ (coded× coded_ℕ (coded× coded_batch coded_outcome)))))
+    (λ x. (x.number, (x.caller.handler, (x.caller.call, (x.time, (x.batch, x.outcome))))))
+    (λ p. record { number = p.0; caller = record { handler = p.1.0; call = p.1.1.0 }; time = p.1.1.1.0; batch = p.1.1.1.1.0; outcome = p.1.1.1.1.1 }) (λ _. refl)

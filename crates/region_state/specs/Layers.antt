@@ -28,7 +28,7 @@ pub record TakesIn (done : Bool) (old new : Layered) : Type 0 where
 
 -- the cells of a line alone
 abbrev pub cells_alone : Line → Content
-cells_alone x = put_cells empty x.number x.cells
+cells_alone x = put_cells empty x.number x.batch.cells
 
 -- how many lines are taken in
 abbrev pub taken : List Line → List Content → ℕ

@@ -26,8 +26,7 @@ pub enum Ended {
     Failed,
 }
 
-/// An edit of the region, with its number, its caller and its write time in milliseconds. Contracts see the batch as
-/// its cells.
+/// An edit of the region, with its number, its caller and its write time in milliseconds.
 #[derive(Drop)]
 pub struct Line {
     number: u64,
@@ -47,7 +46,7 @@ impl Model for Line {
 
     ghost coded = { coded_line };
 
-    ghost view = { λ l. record { number = l.number; caller = l.caller; time = l.time; cells = arc_value l.batch; outcome = outcome_of l.outcome } };
+    ghost view = { λ l. record { number = l.number; caller = l.caller; time = l.time; batch = arc_value l.batch; outcome = outcome_of l.outcome } };
 }
 
 impl Line {
@@ -93,7 +92,7 @@ impl Line {
 
     /// What the edit puts.
     pub fn batch(&self) -> &Batch
-        ensures { result.now ≡ self.now.cells }
+        ensures { result.now ≡ self.now.batch }
     {
         &self.batch
     }

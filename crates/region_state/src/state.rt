@@ -136,7 +136,7 @@ impl RegionState {
     ) -> WriteEntry
         requires room { 1 ≤ self.old.room }
         requires number { write_point self.old + 1 < 2 ^ 48 }
-        requires draft { IsDraftOf draft (arc_value batch) }
+        requires draft { IsDraftOf draft (arc_value batch).cells }
         requires call { IsNextCall caller self.old.lines }
         ensures number { result ≡ write_point self.old + 1 }
         ensures lines { self.new ≡ record self.old {

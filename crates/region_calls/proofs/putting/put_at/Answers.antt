@@ -20,8 +20,8 @@ put_in-requires-clause-caller g c =
     subst (λ (k : Caller). (k.handler ≡ at.hand.number) × AreCalledBelow k.call at.hand.record.list) (sym same) c.requires.caller
 
 puts_of : (base : Base) (r : ℕ) (sync : Bool) (answer : Answer) (old new : Known) (was is : Bool) (a b : Line) → a ≡ b
-    → PutsAt base a.time r sync a.cells a.caller answer old new was is → PutsAt base b.time r sync b.cells b.caller answer old new was is
-puts_of base r sync answer old new was is a b e puts = subst (λ (x : Line). PutsAt base x.time r sync x.cells x.caller answer old new was is) e puts
+    → PutsAt base a.time r sync a.batch a.caller answer old new was is → PutsAt base b.time r sync b.batch b.caller answer old new was is
+puts_of base r sync answer old new was is a b e puts = subst (λ (x : Line). PutsAt base x.time r sync x.batch x.caller answer old new was is) e puts
 
 pub returns-in-Ok-clause-puts : goal.returns-in-Ok-clause-puts
 returns-in-Ok-clause-puts g c =

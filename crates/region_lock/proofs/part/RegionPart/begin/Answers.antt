@@ -5,10 +5,11 @@ use Rattle.region_model.specs.Lines.{Line, edits_in}
 use Rattle.region_state.specs.States.{State, write_point}
 use Rattle.region_lock.specs.Parts.{Part}
 use Rattle.log_trucks.specs.Held.{Haul, IsHeld, held_of}
+use Rattle.log_service.specs.declared.item.Item.TheVariants as items
 use Rattle.region_lock.specs.Jobs.{IsJob, line_of, entry_under}
 use Rattle.region_lock.proofs.Lists.{length_set}
 use Rattle.region_lock.proofs.Ties.{next_call, own_upto, follows_front}
-use Rattle.region_lock.proofs.Parts.{part_begun, spelled, kept, last_is}
+use Rattle.region_lock.proofs.Parts.{part_begun, spelled, kept, came_back, last_is}
 use Rattle.region_lock.proofs.part.RegionPart.begin.Goals as goal
 
 pub push-requires-clause-whole : goal.push-requires-clause-whole
@@ -76,3 +77,11 @@ returns-in-Ok-clause-begun g c =
     let all : Follows s.base.last (edits_in s.region (s.lines ++ x ∷ [])) = subst (λ (t : State). Follows t.base.last (edits_in t.region t.lines)) st c.journal-lines.ensures.journal.numbers in
     let below = own_upto s.region s.base.last (c.args.hand.now.number - 1) c.self.inside.desk.records s.lines c.args.hand.now.record (follows_front s.region s.base.last s.lines (x ∷ []) all) i.0.own c.meet.ensures.met in
     rw (← c.self.view_is) (drew, ap (λ (t : State). record { state = t; mark = c.self.inside.mark }) now, hand, (λ y is. let lt : y.number < write_point s + 1 = below y is in omega (arith, drew, lt)))
+
+pub returns-in-Err-Append-clause-begun : goal.returns-in-Err-Append-clause-begun
+returns-in-Err-Append-clause-begun g c =
+    let limit : write_point c.self.inside.state + 1 < 2 ^ 48 = subst (λ (p : Part). write_point p.state + 1 < 2 ^ 48) (sym c.self.view_is) c.requires.number in
+    let is : c.in-Err-Append.field-0.item ≡ items.Append c.in-Err-Append.truck = search in
+    let job = came_back c.args.self.now.state.region (c.write_point-number.result + 1) c.args.job c.deref_mut.result.now c.stamp.new.truck c.in-Err-Append.truck _ (sym is ∙ c.in-Err-Append.ensures.pushed.0) refl
+    c.requires.job c.deref_mut.ensures.value c.stamp.ensures.truck c.stamp.ensures.bytes (omega arith) (omega (arith, limit, c.write_point-number.ensures.point)) in
+    (c.self.view_is, search, (job, refl))
