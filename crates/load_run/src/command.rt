@@ -58,7 +58,7 @@ pub fn run<R: Threads + Wait + Sync, D: Disk + Send, S: Source, K: Sink, G: Gate
     // Only a command that takes a script reads the source.
     ensures leaves_source { TakesNoScript (word_of (map (λ w. w.now) words.now)) → script.new ≡ script.old }
 
-    // Which statuses there are, and which comes only where. Want of memory is free.
+    // Which statuses there are, and which comes only where. Out of memory is free.
     ensures range { IsStatusFor (word_of (map (λ w. w.now) words.now)) result.status }
     ensures usage_only { result.status ≡ Status.Usage → word_of (map (λ w. w.now) words.now) ≡ None }
     ensures script_only { IsTrue S.told → (word : TheWord) → word_of (map (λ w. w.now) words.now) ≡ Some word

@@ -49,7 +49,7 @@ pub fn read_load<'a>(alloc: Global, words: &'a [&'a str]) -> Result<LoadOptions,
     }
 }
 
-/// Want of memory alone is no fault of the words.
+/// Being out of memory alone is no fault of the words.
 fn refusal_of(error: Error) -> WordsRefusal
     ensures { (kind_of error ≡ ErrorKind.OutOfMemory → result ≡ WordsRefusal.Memory) × (result ≡ WordsRefusal.Memory → kind_of error ≡ ErrorKind.OutOfMemory) }
 {

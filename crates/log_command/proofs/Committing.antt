@@ -4,7 +4,7 @@ use Rattle.std.specs.List.{AllByRecursion}
 use Rattle.std.proofs.lemmas.List.{length-map}
 use Rattle.log_model.specs.declared.name.Name.{Name}
 use Rattle.log_model.specs.Entry.{Entry, IsEntry, entry_frame}
-use Rattle.log_model.specs.LogText.{IsEntryOf}
+use Rattle.log_model.specs.LogText.{IsEntryOf, in_version}
 use Rattle.log_model.specs.Files.{Files, content, key_of}
 use Rattle.entry_frame.proofs.SpellingLaws.{spelling_bounds}
 use Rattle.disk_images.specs.Crash.{DiskView, IsImageNow, Throughout, OnlyAt}
@@ -21,8 +21,8 @@ use Rattle.command_ends.proofs.Endings.{each_on, looked}
 use Rattle.log_command.specs.Logged.{LogHolds, IsAlone, HasFirst, HasNone}
 use Rattle.log_command.specs.Writing.{WasOrFirst}
 
-pub in_log : (name : Name) (e : Entry) → name ≡ log_name 1 → IsEntry e → IsEntryOf (key_of name) e
-in_log name e is entry = record { entry = entry; region = λ some. absurd (some (ap (λ (n : Name). n.region) is)) }
+pub in_log : (name : Name) (e : Entry) → name ≡ log_name 1 → IsEntry e → IsEntryOf (in_version 2 (key_of name)) e
+in_log name e is entry = record { entry = entry; region = λ some. absurd (some (ap (λ (n : Name). n.region) is)); form = λ first. absurd (omega (arith, first)) }
 
 -- an entry at its place among others
 pub nth : (es : List Entry) (i : ℕ) → i < length es → AllByRecursion IsEntry es

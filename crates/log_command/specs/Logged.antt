@@ -18,7 +18,7 @@ use Rattle.command_ends.specs.declared.status.Status.{Status}
 -- the entries of puts, numbered from n
 abbrev pub entries_from : ℕ → ℕ → List Call → List Entry
 entries_from time n [] = []
-entries_from time n (Put r sync cells ∷ calls) = record { region = r; number = n; time = time; cells = cells } ∷ entries_from time (n + 1) calls
+entries_from time n (Put r sync batch ∷ calls) = record { region = r; number = n; time = time; batch = batch } ∷ entries_from time (n + 1) calls
 entries_from time n (Scan r from to ∷ calls) = entries_from time n calls
 entries_from time n (Flush r ∷ calls) = entries_from time n calls
 entries_from time n (Roll ∷ calls) = entries_from time n calls

@@ -4,8 +4,10 @@ use Rattle.std.specs.List.{flat_map}
 use Rattle.std.proofs.lemmas.List.{take_more, map-append}
 use Rattle.std.proofs.lemmas.List.Sums.{sum_by-append, sum_by-take-le, sum_by-le-sum_by}
 use Rattle.std.proofs.lemmas.Grind.{flat_map-append}
-use Rattle.cell_model.specs.Cell.{Cell, spelling_length}
-use Rattle.cell_model.specs.Batch.{IsBatch}
+use Rattle.cell_model.specs.Cell.{Cell, spelled_length}
+use Rattle.cell_model.specs.Batch.{Batch, batch_form, IsBatch}
+use Rattle.cell_model.specs.declared.form.Form.{Form}
+use Rattle.cell_model.specs.declared.form.Form.TheVariants.{Plain, Tagged}
 use Rattle.region_model.specs.Calls.{Call}
 use Rattle.script_calls.specs.Calls.{call_of}
 use Rattle.script_calls.specs.declared.call.Call.{Call as TheirCall}
@@ -63,7 +65,12 @@ up_to_list i was now more so_far =
     let h = more (i * 17592186044416) so_far in
     record { puts = omega (arith, h.puts); scans = omega (arith, h.scans); flushes = omega (arith, h.flushes); rolls = omega (arith, h.rolls); value_bytes = omega (arith, h.value_bytes) }
 
--- the values of a batch's cells fit in its entry's body
-pub values_fit : (cells : List Cell) (i total : ℕ) → IsBatch cells → total ≡ sum_by value_length (take i cells) → total ≤ 1048576
-values_fit cells i total batch is =
-    omega (arith, is, sum_by-take-le value_length cells i, sum_by-le-sum_by value_length spelling_length cells (λ (c : Cell). omega arith), batch.body)
+-- the values of a batch's cells fit in its entry's body, however they are spelled there
+value_below : (form : Form) (c : Cell) → value_length c ≤ spelled_length form c
+value_below Plain c = omega arith
+value_below Tagged c = omega arith
+
+pub values_fit : (batch : Batch) (cells : List Cell) (i total : ℕ) → cells ≡ batch.cells → IsBatch batch → total ≡ sum_by value_length (take i cells) → total ≤ 1048576
+values_fit batch cells i total same within is =
+    let all : sum_by value_length cells ≡ sum_by value_length batch.cells = ap (sum_by value_length) same in
+    omega (arith, is, all, sum_by-take-le value_length cells i, sum_by-le-sum_by value_length (spelled_length (batch_form batch)) batch.cells (value_below (batch_form batch)), within.body)

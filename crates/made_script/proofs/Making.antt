@@ -1,10 +1,13 @@
 -- Steps of making a script.
-use Rattle.std.proofs.Common.{◌≡◌, ℕ, suc, ◌+◌, ◌-◌, ◌/◌, ◌%◌, ◌^◌, ◌<◌, List, [], ◌∷◌, ◌++◌, map, Some, None, refl, sym, ap, ◌∙◌, subst, arith, append_assoc}
+use Rattle.std.proofs.Common.{◌≡◌, ◌≢◌, ℕ, suc, ◌+◌, ◌-◌, ◌/◌, ◌%◌, ◌^◌, ◌<◌, List, [], ◌∷◌, ◌++◌, map, Option, None, refl, sym, ap, ◌∙◌, subst, arith, append_assoc}
 use Rattle.std.proofs.lemmas.List.{map-append, append-nil, length-replicate}
 use Rattle.std.proofs.lemmas.Bool.{le-ltb}
 use Rattle.byteorder.specs.Numbers.{length-bytes_high_first}
 use Rattle.cell_model.specs.Cell.{Cell}
-use Rattle.cell_model.specs.Batch.{body_length, first_batch_limit}
+use Rattle.cell_model.specs.Batch.{batch_of, body_length, first_batch_limit}
+use Rattle.kv_cell.specs.Refusal.{IsBatchRefusal}
+use Rattle.kv_cell.specs.declared.error.BatchError.{BatchError}
+use Rattle.kv_cell.specs.declared.error.BatchError.TheVariants as errors
 use Rattle.region_model.specs.Calls.{Call}
 use Rattle.script_calls.specs.Calls.{call_of}
 use Rattle.script_calls.specs.declared.call.Call.{Call as TheirCall}
@@ -41,12 +44,18 @@ pub all_handlers : (lists all : List (List Call)) (o : LoadOptions) (n h : ℕ) 
 all_handlers lists all o n h none is = sym (append-nil lists) ∙ subst (λ k. lists ++ made_handlers o k h ≡ all) none is
 
 -- a batch of it alone breaks no limit
-one_cell_fits : (call x : ℕ) → x < 2 ^ 64 → first_batch_limit (made_cell call x ∷ []) ≡ None
+one_cell_fits : (call x : ℕ) → x < 2 ^ 64 → first_batch_limit (batch_of (made_cell call x ∷ [])) ≡ None
 unfolding first_batch_limit
-one_cell_fits call x small = rw (le-ltb 1048576 (body_length (made_cell call x ∷ [])) (omega (arith, length-bytes_high_first 8 x, length-replicate (1 + x / 2 ^ 60) (x % 256), small))) refl
+one_cell_fits call x small = rw (le-ltb 1048576 (body_length (batch_of (made_cell call x ∷ []))) (omega (arith, length-bytes_high_first 8 x, length-replicate (1 + x / 2 ^ 60) (x % 256), small))) refl
 
-pub not_refused : (cells pushed : List Cell) (c : Cell) (call x limit : ℕ) → x < 2 ^ 64 → cells ≡ [] → pushed ≡ cells ++ c ∷ [] → c ≡ made_cell call x → first_batch_limit pushed ≡ Some limit → ⊥
-not_refused cells pushed c call x limit small none push is refused =
+no_cause : (e : BatchError) (first : Option ℕ) → first ≡ None → e ≢ errors.Memory → IsBatchRefusal e first → ⊥
+no_cause errors.Count first none memory is = cc (none, is)
+no_cause errors.EntryLength first none memory is = cc (none, is)
+no_cause errors.TableLength first none memory is = cc (none, is)
+no_cause errors.Memory first none memory is = memory refl
+
+pub not_refused : (cells pushed : List Cell) (c : Cell) (call x : ℕ) (e : BatchError) → x < 2 ^ 64 → cells ≡ [] → pushed ≡ cells ++ c ∷ [] → c ≡ made_cell call x
+    → e ≢ errors.Memory → IsBatchRefusal e (first_batch_limit (batch_of pushed)) → ⊥
+not_refused cells pushed c call x e small none push is memory refused =
     let same : pushed ≡ made_cell call x ∷ [] = push ∙ ap (λ l. l ++ c ∷ []) none ∙ ap (λ (d : Cell). d ∷ []) is in
-    let no : None ≡ Some limit = sym (one_cell_fits call x small) ∙ sym (ap first_batch_limit same) ∙ refused in
-    absurd cc
+    no_cause e (first_batch_limit (batch_of pushed)) (ap (λ (l : List Cell). first_batch_limit (batch_of l)) same ∙ one_cell_fits call x small) memory refused

@@ -1,5 +1,6 @@
 -- The numbers of a load from 0, its first two calls, and the kinds of a handler's calls.
 use Rattle.std.proofs.Common.{◌≡◌, true, [], ◌∷◌, refl}
+use Rattle.cell_model.specs.Batch.{batch_of}
 use Rattle.region_model.specs.Calls.{Put, Scan, Flush, Roll}
 use Rattle.made_script.specs.declared.options.LoadOptions.{LoadOptions}
 use Rattle.made_script.specs.Made.{next_x, first_x, made_call, made_script}
@@ -23,8 +24,8 @@ two_calls = record { start = 0; handlers = 1; regions = 1; count = 2 }
 two_puts : made_script two_calls ≡ record {
   time = 0;
   regions = 1;
-  handlers = (Put 1 true (record { row = 20 ∷ 5 ∷ 123 ∷ 126 ∷ 247 ∷ 103 ∷ 129 ∷ 79 ∷ []; family = 102 ∷ []; qualifier = 113 ∷ []; ts = 1; kind = 4; value = 79 ∷ 79 ∷ [] } ∷ [])
-      ∷ Put 1 true (record { row = 26 ∷ 8 ∷ 238 ∷ 17 ∷ 132 ∷ 186 ∷ 109 ∷ 50 ∷ []; family = 102 ∷ []; qualifier = 113 ∷ []; ts = 2; kind = 4; value = 50 ∷ 50 ∷ [] } ∷ [])
+  handlers = (Put 1 true (batch_of (record { row = 20 ∷ 5 ∷ 123 ∷ 126 ∷ 247 ∷ 103 ∷ 129 ∷ 79 ∷ []; family = 102 ∷ []; qualifier = 113 ∷ []; ts = 1; kind = 4; value = 79 ∷ 79 ∷ []; tags = [] } ∷ []))
+      ∷ Put 1 true (batch_of (record { row = 26 ∷ 8 ∷ 238 ∷ 17 ∷ 132 ∷ 186 ∷ 109 ∷ 50 ∷ []; family = 102 ∷ []; qualifier = 113 ∷ []; ts = 2; kind = 4; value = 50 ∷ 50 ∷ []; tags = [] } ∷ []))
       ∷ [])
       ∷ [];
 }

@@ -7,7 +7,7 @@ use Rattle.script_model.specs.Calls.{Script}
 use Rattle.made_script.specs.declared.counts.CallCounts.{CallCounts}
 
 abbrev pub is_put : Call → Bool
-is_put (Put region sync cells) = true
+is_put (Put region sync batch) = true
 is_put _ = false
 
 abbrev pub is_scan : Call → Bool
@@ -26,7 +26,7 @@ abbrev pub value_length : Cell → ℕ
 value_length c = length c.value
 
 abbrev pub values_length : Call → ℕ
-values_length (Put region sync cells) = sum_by value_length cells
+values_length (Put region sync batch) = sum_by value_length batch.cells
 values_length _ = 0
 
 -- of these calls

@@ -1,6 +1,7 @@
 -- The script that a load is made of, from a number.
 use Rattle.std.specs.Prelude.{ℕ, zero, suc, ◌+◌, ◌-◌, ◌*◌, ◌/◌, ◌%◌, ◌^◌, ◌≤◌, ◌<◌, ◌==◌, ◌&&◌, if◌then◌else◌, replicate, true, List, [], ◌∷◌}
 use Rattle.byteorder.specs.Endian.{big_bytes}
+use Rattle.cell_model.specs.Batch.{batch_of}
 use Rattle.cell_model.specs.Cell.{Cell}
 use Rattle.region_model.specs.Calls.{Call, Put, Scan, Flush, Roll}
 use Rattle.script_model.specs.Calls.{Script}
@@ -34,7 +35,7 @@ abbrev pub to_row : ℕ → List ℕ
 to_row x = if x / 2 ^ 56 == 255 then [] else (x / 2 ^ 56 + 1) ∷ []
 
 abbrev pub made_cell : ℕ → ℕ → Cell
-made_cell i x = record { row = big_bytes 8 x; family = 102 ∷ []; qualifier = 113 ∷ []; ts = i; kind = 4; value = replicate (1 + x / 2 ^ 60) (x % 256) }
+made_cell i x = record { row = big_bytes 8 x; family = 102 ∷ []; qualifier = 113 ∷ []; ts = i; kind = 4; value = replicate (1 + x / 2 ^ 60) (x % 256); tags = [] }
 
 -- call i of handler h, by its number x
 unfoldable pub made_call : (regions h i x : ℕ) → Call
@@ -42,7 +43,7 @@ made_call regions h i x =
     if i % 8 == 0 then Scan (region_for regions x) (from_row x) (to_row x)
     else (if i % 64 == 31 then Flush (region_for regions x)
     else (if (h == 1) && (i % 256 == 129) then Roll
-    else Put (region_for regions x) true (made_cell i x ∷ [])))
+    else Put (region_for regions x) true (batch_of (made_cell i x ∷ []))))
 
 -- so many calls from number i on, behind the number x
 abbrev pub made_calls : (regions h n i x : ℕ) → List Call

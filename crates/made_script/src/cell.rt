@@ -1,13 +1,14 @@
 //! The cell and the batch of a put.
 
 ghost use Rattle.std.specs.Prelude.{◌≡◌, ◌^◌, ◌<◌, [], ◌∷◌, IfOk};
+ghost use Rattle.cell_model.specs.Batch.{batch_of};
 ghost use Rattle.made_script.specs.Made.{made_cell};
 
-use kv_cell::{Batch, Cell, Kind, NoMemory, Octets};
+use kv_cell::{Batch, Cell, Kind, NoMemory, Octets, RareOctets};
 use std::alloc::Global;
 use std::vec;
 
-/// The cell of a handler's call with this number, made from `x`.
+/// The cell of a handler's call with this number, made from `x`. It has no tags.
 pub fn make_cell(alloc: Global, call: u32, x: u64) -> Result<Cell, NoMemory>
     ensures { IfOk result (λ cell. cell ≡ made_cell call x) }
 {
@@ -19,12 +20,13 @@ pub fn make_cell(alloc: Global, call: u32, x: u64) -> Result<Cell, NoMemory>
         ts: u64::from(call),
         kind: Kind::Put,
         value: Octets::of(value),
+        tags: RareOctets::none(),
     })
 }
 
-/// The batch of that cell alone.
+/// The batch of that cell alone, of no named table.
 pub fn make_batch(alloc: Global, call: u32, x: u64) -> Result<Batch, NoMemory>
-    ensures { IfOk result (λ batch. batch ≡ made_cell call x ∷ []) }
+    ensures { IfOk result (λ batch. batch ≡ batch_of (made_cell call x ∷ [])) }
 {
     let mut cells = Vec::with_capacity(alloc, 1)?;
     cells.push(make_cell(alloc, call, x)?)?;

@@ -68,7 +68,7 @@ fn count_call(counts: &mut CallCounts, call: &Call)
 
 /// How many bytes the values of these cells have together.
 fn values_length(batch: &Batch) -> u64
-    ensures is { result ≡ sum_by value_length batch.now }
+    ensures is { result ≡ sum_by value_length batch.now.cells }
     ensures most { result ≤ 1048576 }
 {
     let mut total = 0;

@@ -4,7 +4,7 @@ use Rattle.std.specs.List.{flat_map, AllByRecursion, list_all}
 use Rattle.std.specs.Fmt.{decimal}
 use Rattle.cell_model.specs.Order.{NumberedCell}
 use Rattle.region_model.specs.Calls.{Answer, PutOk, PutMemory, PutFault, PutSpent, Scanned, ScanMemory, FlushOk, FlushNothing, FlushBusy, FlushFault, FlushMemory, RollOk, RollNothing, RollFault, RollMemory}
-use Rattle.script_model.specs.Report.{EditLine, RegionLine, ReplyLine, Report, answer_words, cells_told, outcome_name}
+use Rattle.script_model.specs.Report.{EditLine, RegionLine, ReplyLine, Report, tags_word, answer_words, cells_told, outcome_name}
 use Rattle.report_text.specs.Reading.{AreNumbers, numbers_of, IsNumberedCell, IsEditLine, IsRegionLine, IsReplyLine, IsReport}
 use Rattle.report_text.proofs.WordLaws.{is_word, AreLines}
 use Rattle.report_text.proofs.TokenLaws.{decimal_word, printed_word, kind_word}
@@ -23,10 +23,14 @@ lines_of_parts part P h (x ∷ xs) hs = lines-append (part x) (flat_map part xs)
 both_hold : (a b : Bool) → a ≡ true → b ≡ true → a && b ≡ true
 both_hold a b ha hb = rw (ha, hb) refl
 
+tags_clean : (tags : List ℕ) → list_all is_word (tags_word tags) ≡ true
+tags_clean [] = refl
+tags_clean (b ∷ bs) = rw (printed_word (b ∷ bs)) refl
+
 cell_clean : (x : NumberedCell) → IsNumberedCell x → AreLines (cell_part x)
 cell_clean x h =
     let ts : x.1.ts < 2 ^ 64 = omega (arith, h.cell.ts) in
-    (rw (decimal_word x.0 h.number, printed_word x.1.row, printed_word x.1.family, printed_word x.1.qualifier, decimal_word x.1.ts ts, kind_word x.1.kind, printed_word x.1.value) refl, tt)
+    (rw (decimal_word x.0 h.number, printed_word x.1.row, printed_word x.1.family, printed_word x.1.qualifier, decimal_word x.1.ts ts, kind_word x.1.kind, printed_word x.1.value, tags_clean x.1.tags) refl, tt)
 
 outcome_word : (done : Bool) → is_word (outcome_name done) ≡ true
 outcome_word true = refl

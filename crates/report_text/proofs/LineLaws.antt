@@ -7,9 +7,9 @@ use Rattle.std.proofs.Math.Seq.{take-append_seam}
 use Rattle.cell_model.specs.Cell.{Cell}
 use Rattle.cell_model.specs.Order.{NumberedCell}
 use Rattle.region_model.specs.Calls.{Answer, PutOk, PutMemory, PutFault, PutSpent, Scanned, ScanMemory, FlushOk, FlushNothing, FlushBusy, FlushFault, FlushMemory, RollOk, RollNothing, RollFault, RollMemory}
-use Rattle.script_model.specs.Report.{Report, ReplyLine, report_text, region_text, reply_text, replies_text, cell_line, cells_told, answer_words, kind_name}
+use Rattle.script_model.specs.Report.{Report, ReplyLine, report_text, region_text, reply_text, replies_text, cell_line, cells_told, answer_words, kind_name, tags_word}
 use Rattle.script_model.specs.Text.{printed}
-use Rattle.report_text.specs.Texts.{columns_text, stamp_text, answer_text, reply_head}
+use Rattle.report_text.specs.Texts.{columns_text, stamp_text, tags_text, answer_text, reply_head}
 
 -- what begins with something longer begins with its beginning
 pub kept_past : (n m : ℕ) (old more mid new : List ℕ) → n ≡ length old → m ≡ length mid → mid ≡ old ++ more → take m new ≡ mid → take n new ≡ old
@@ -18,16 +18,22 @@ kept_past n m old more mid new a b is h =
     let first : take n (take m new) ≡ take n new = take-take n m new less in
     sym first ∙ ap (take n) (h ∙ is) ∙ rw a (take-append_seam old more)
 
-regroup_cell : (n r f q t k v : List ℕ) → (n ++ (32 ∷ (r ++ (32 ∷ (f ++ (32 ∷ (q ++ (32 ∷ (t ++ (32 ∷ (k ++ (32 ∷ v)))))))))))) ++ (10 ∷ []) ≡ n ++ ((32 ∷ (r ++ (32 ∷ (f ++ (32 ∷ q))))) ++ ((32 ∷ (t ++ (32 ∷ (k ++ (32 ∷ v))))) ++ (10 ∷ [])))
-regroup_cell n r f q t k v = simp append_assoc
+regroup_cell : (n r f q t k v g : List ℕ) → (n ++ (32 ∷ (r ++ (32 ∷ (f ++ (32 ∷ (q ++ (32 ∷ (t ++ (32 ∷ (k ++ (32 ∷ (v ++ g))))))))))))) ++ (10 ∷ []) ≡ n ++ ((32 ∷ (r ++ (32 ∷ (f ++ (32 ∷ q))))) ++ ((32 ∷ (t ++ (32 ∷ (k ++ (32 ∷ v))))) ++ (g ++ (10 ∷ []))))
+regroup_cell n r f q t k v g = simp append_assoc
+
+-- the last words of a cell's line
+tags_joined : (v tags : List ℕ) → join_with_byte 32 (v ∷ tags_word tags) ≡ v ++ tags_text tags
+tags_joined v [] = sym (append-nil v)
+tags_joined v (b ∷ bs) = refl
 
 regroup_reply : (h c a cells : List ℕ) → ((h ++ (32 ∷ (c ++ (32 ∷ a)))) ++ (10 ∷ [])) ++ cells ≡ (h ++ (32 ∷ (c ++ (32 ∷ (a ++ (10 ∷ [])))))) ++ cells
 regroup_reply h c a cells = simp append_assoc
 
-cell_parts : (number : ℕ) (x : NumberedCell) → x.0 ≡ number → cell_line x ≡ codes "cell " ++ (decimal number ++ (columns_text x.1.row x.1.family x.1.qualifier ++ (stamp_text x.1.ts x.1.kind x.1.value ++ codes "\n")))
+cell_parts : (number : ℕ) (x : NumberedCell) → x.0 ≡ number → cell_line x ≡ codes "cell " ++ (decimal number ++ (columns_text x.1.row x.1.family x.1.qualifier ++ (stamp_text x.1.ts x.1.kind x.1.value ++ (tags_text x.1.tags ++ codes "\n"))))
 unfolding cell_line columns_text stamp_text
 cell_parts number x e =
-    rw e (ap (λ (t : List ℕ). codes "cell " ++ t) (regroup_cell (decimal number) (printed x.1.row) (printed x.1.family) (printed x.1.qualifier) (decimal x.1.ts) (kind_name x.1.kind) (printed x.1.value)))
+    rw (e, tags_joined (printed x.1.value) x.1.tags)
+    (ap (λ (t : List ℕ). codes "cell " ++ t) (regroup_cell (decimal number) (printed x.1.row) (printed x.1.family) (printed x.1.qualifier) (decimal x.1.ts) (kind_name x.1.kind) (printed x.1.value) (tags_text x.1.tags)))
 
 answer_joined : (w : List ℕ) (answer : Answer) → join_with_byte 32 (w ∷ answer_words answer) ≡ w ++ (32 ∷ answer_text answer)
 unfolding answer_text
@@ -59,15 +65,16 @@ pub report_parts : (r : Report) → report_text r ≡ codes "hwal 1\n" ++ (flat_
 unfolding report_text digits
 report_parts r = refl
 
-joined_cell : (o w n a b z : List ℕ) → (((o ++ (w ++ n)) ++ a) ++ b) ++ z ≡ o ++ (w ++ (n ++ (a ++ (b ++ z))))
-joined_cell o w n a b z = simp append_assoc
+joined_cell : (o w n a b g z : List ℕ) → ((((o ++ (w ++ n)) ++ a) ++ b) ++ g) ++ z ≡ o ++ (w ++ (n ++ (a ++ (b ++ (g ++ z)))))
+joined_cell o w n a b g z = simp append_assoc
 
 -- a cell's line, appended part by part
-pub cell_appended : (n : ℕ) (x : Cell) (o o1 o2 o3 o4 : List ℕ) → o1 ≡ o ++ (codes "cell " ++ decimal n) → o2 ≡ o1 ++ columns_text x.row x.family x.qualifier
-    → o3 ≡ o2 ++ stamp_text x.ts x.kind x.value → o4 ≡ o3 ++ codes "\n" → o4 ≡ o ++ cell_line (n, x)
-cell_appended n x o o1 o2 o3 o4 e1 e2 e3 e4 =
-    e4 ∙ ap (λ (t : List ℕ). t ++ codes "\n") (e3 ∙ ap (λ (t : List ℕ). t ++ stamp_text x.ts x.kind x.value) (e2 ∙ ap (λ (t : List ℕ). t ++ columns_text x.row x.family x.qualifier) e1))
-    ∙ joined_cell o (codes "cell ") (decimal n) (columns_text x.row x.family x.qualifier) (stamp_text x.ts x.kind x.value) (codes "\n")
+pub cell_appended : (n : ℕ) (x : Cell) (o o1 o2 o3 o4 o5 : List ℕ) → o1 ≡ o ++ (codes "cell " ++ decimal n) → o2 ≡ o1 ++ columns_text x.row x.family x.qualifier
+    → o3 ≡ o2 ++ stamp_text x.ts x.kind x.value → o4 ≡ o3 ++ tags_text x.tags → o5 ≡ o4 ++ codes "\n" → o5 ≡ o ++ cell_line (n, x)
+cell_appended n x o o1 o2 o3 o4 o5 e1 e2 e3 e4 e5 =
+    let stamped = e3 ∙ ap (λ (t : List ℕ). t ++ stamp_text x.ts x.kind x.value) (e2 ∙ ap (λ (t : List ℕ). t ++ columns_text x.row x.family x.qualifier) e1) in
+    e5 ∙ ap (λ (t : List ℕ). t ++ codes "\n") (e4 ∙ ap (λ (t : List ℕ). t ++ tags_text x.tags) stamped)
+    ∙ joined_cell o (codes "cell ") (decimal n) (columns_text x.row x.family x.qualifier) (stamp_text x.ts x.kind x.value) (tags_text x.tags) (codes "\n")
     ∙ ap (λ (t : List ℕ). o ++ t) (sym (cell_parts n (n, x) refl))
 
 joined_head : (x h c a : List ℕ) → (((x ++ (h ++ (32 ∷ c))) ++ (32 ∷ [])) ++ a) ++ (10 ∷ []) ≡ x ++ (h ++ (32 ∷ (c ++ (32 ∷ (a ++ 10 ∷ [])))))

@@ -5,11 +5,11 @@ use Rattle.std.specs.Fmt.{decimal}
 use Rattle.std.proofs.lemmas.Grind.{flat_map-append}
 use Rattle.cell_model.specs.Order.{NumberedCell}
 use Rattle.script_model.specs.Text.{printed}
-use Rattle.script_model.specs.Report.{EditLine, RegionLine, ReplyLine, Report, line, kind_name, cell_line, answer_words, cells_told, outcome_name, edit_text, region_text, reply_text, end_line, report_text}
+use Rattle.script_model.specs.Report.{EditLine, RegionLine, ReplyLine, Report, line, kind_name, tags_word, cell_line, answer_words, cells_told, outcome_name, edit_text, region_text, reply_text, end_line, report_text}
 use Rattle.report_text.proofs.Runs.{Words}
 
 abbrev pub cell_part : NumberedCell → List Words
-cell_part x = (codes "cell" ∷ decimal x.0 ∷ printed x.1.row ∷ printed x.1.family ∷ printed x.1.qualifier ∷ decimal x.1.ts ∷ kind_name x.1.kind ∷ printed x.1.value ∷ []) ∷ []
+cell_part x = (codes "cell" ∷ decimal x.0 ∷ printed x.1.row ∷ printed x.1.family ∷ printed x.1.qualifier ∷ decimal x.1.ts ∷ kind_name x.1.kind ∷ printed x.1.value ∷ tags_word x.1.tags) ∷ []
 
 abbrev pub edit_part : EditLine → List Words
 edit_part e = (codes "edit" ∷ decimal e.number ∷ decimal e.handler ∷ decimal e.call ∷ outcome_name e.done ∷ []) ∷ []

@@ -7,7 +7,7 @@ use Rattle.cell_model.specs.Cell.{is_kind}
 use Rattle.cell_model.specs.Order.{NumberedCell}
 use Rattle.script_model.specs.Text.{printed, token_of}
 use Rattle.script_model.specs.Fields.{code_of}
-use Rattle.script_model.specs.Report.{EditLine, RegionLine, ReplyLine, Report, kind_name, answer_words, cells_told, outcome_name}
+use Rattle.script_model.specs.Report.{EditLine, RegionLine, ReplyLine, Report, kind_name, tags_word, answer_words, cells_told, outcome_name}
 use Rattle.kv_cell.specs.Laws.{AreBytes}
 use Rattle.report_text.specs.Reading.{IsNumberedCell, IsEditLine, IsRegionLine, IsReplyLine, IsReport, HasOneReading}
 use Rattle.report_text.proofs.TokenLaws.{token_back, kind_back}
@@ -25,6 +25,12 @@ tokens_apart : (a b : List ℕ) → AreBytes a → AreBytes b → printed a ≡ 
 unfolding bytes_of_token
 tokens_apart a b ha hb e = ap bytes_of_token (sym (token_back a ha) ∙ ap token_of e ∙ token_back b hb)
 
+tags_apart : (a b : List ℕ) → AreBytes a → AreBytes b → tags_word a ≡ tags_word b → a ≡ b
+tags_apart [] [] ha hb e = refl
+tags_apart [] (y ∷ ys) ha hb e = let no : ⊥ = cc (e) in absurd no
+tags_apart (x ∷ xs) [] ha hb e = let no : ⊥ = cc (e) in absurd no
+tags_apart (x ∷ xs) (y ∷ ys) ha hb e = let same : printed (x ∷ xs) ≡ printed (y ∷ ys) = cc (e) in tokens_apart (x ∷ xs) (y ∷ ys) ha hb same
+
 kinds_apart : (j k : ℕ) → IsTrue (is_kind j) → IsTrue (is_kind k) → kind_name j ≡ kind_name k → j ≡ k
 kinds_apart j k hj hk e = sym (kind_back j hj) ∙ ap code_of e ∙ kind_back k hk
 
@@ -34,8 +40,8 @@ outcomes_apart true false e = let no : ⊥ = omega (arith, ap length e) in absur
 outcomes_apart false true e = let no : ⊥ = omega (arith, ap length e) in absurd no
 outcomes_apart false false e = refl
 
-same_cell : (x y : NumberedCell) → x.0 ≡ y.0 → x.1.row ≡ y.1.row → x.1.family ≡ y.1.family → x.1.qualifier ≡ y.1.qualifier → x.1.ts ≡ y.1.ts → x.1.kind ≡ y.1.kind → x.1.value ≡ y.1.value → x ≡ y
-same_cell x y n r f q t k v = λ i. (n i, record { row = r i; family = f i; qualifier = q i; ts = t i; kind = k i; value = v i })
+same_cell : (x y : NumberedCell) → x.0 ≡ y.0 → x.1.row ≡ y.1.row → x.1.family ≡ y.1.family → x.1.qualifier ≡ y.1.qualifier → x.1.ts ≡ y.1.ts → x.1.kind ≡ y.1.kind → x.1.value ≡ y.1.value → x.1.tags ≡ y.1.tags → x ≡ y
+same_cell x y n r f q t k v g = λ i. (n i, record { row = r i; family = f i; qualifier = q i; ts = t i; kind = k i; value = v i; tags = g i })
 
 cells_apart : (x y : NumberedCell) (s t : List Words) → IsNumberedCell x → IsNumberedCell y → cell_part x ++ s ≡ cell_part y ++ t → (x ≡ y) × (s ≡ t)
 cells_apart x y s t hx hy e =
@@ -46,13 +52,14 @@ cells_apart x y s t hx hy e =
     let ts : decimal x.1.ts ≡ decimal y.1.ts = cc in
     let kind : kind_name x.1.kind ≡ kind_name y.1.kind = cc in
     let value : printed x.1.value ≡ printed y.1.value = cc in
+    let tags : tags_word x.1.tags ≡ tags_word y.1.tags = cc in
     let rest : s ≡ t = cc in
     let same : x ≡ y = same_cell x y
     (decimal_injective x.0 y.0 hx.number hy.number number)
     (tokens_apart x.1.row y.1.row hx.row hy.row row) (tokens_apart x.1.family y.1.family hx.family hy.family family)
     (tokens_apart x.1.qualifier y.1.qualifier hx.qualifier hy.qualifier qualifier)
     (decimal_injective x.1.ts y.1.ts (omega (arith, hx.cell.ts)) (omega (arith, hy.cell.ts)) ts)
-    (kinds_apart x.1.kind y.1.kind hx.cell.kind hy.cell.kind kind) (tokens_apart x.1.value y.1.value hx.value hy.value value) in
+    (kinds_apart x.1.kind y.1.kind hx.cell.kind hy.cell.kind kind) (tokens_apart x.1.value y.1.value hx.value hy.value value) (tags_apart x.1.tags y.1.tags hx.tags hy.tags tags) in
     (same, rest)
 
 edits_apart : (x y : EditLine) (s t : List Words) → IsEditLine x → IsEditLine y → edit_part x ++ s ≡ edit_part y ++ t → (x ≡ y) × (s ≡ t)

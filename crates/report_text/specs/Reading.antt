@@ -41,6 +41,7 @@ pub record IsNumberedCell (x : NumberedCell) : Type 0 where
   pub family : AreBytes x.1.family
   pub qualifier : AreBytes x.1.qualifier
   pub value : AreBytes x.1.value
+  pub tags : AreBytes x.1.tags
 
 abbrev pub IsEditLine : EditLine → Type 0
 IsEditLine e = AreNumbers (e.number ∷ e.handler ∷ e.call ∷ [])

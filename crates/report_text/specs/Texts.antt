@@ -13,6 +13,11 @@ columns_text row family qualifier = 32 ∷ (printed row ++ (32 ∷ (printed fami
 unfoldable pub stamp_text : (ts kind : ℕ) (value : List ℕ) → List ℕ
 stamp_text ts kind value = 32 ∷ (decimal ts ++ (32 ∷ (kind_name kind ++ (32 ∷ printed value))))
 
+-- the tags behind a space, where there are some
+abbrev pub tags_text : List ℕ → List ℕ
+tags_text [] = []
+tags_text (b ∷ bs) = 32 ∷ printed (b ∷ bs)
+
 unfoldable pub answer_text : Answer → List ℕ
 answer_text answer = spaced (answer_words answer)
 

@@ -9,7 +9,7 @@ ghost use Rattle.script_model.specs.Report.{cell_line};
 ghost use Rattle.script_model.specs.Report.{kind_name as name_of_code};
 ghost use Rattle.script_model.specs.Text.{printed};
 ghost use Rattle.report_text.specs.Reading.{IsNumberedCell};
-ghost use Rattle.report_text.specs.Texts.{columns_text, stamp_text};
+ghost use Rattle.report_text.specs.Texts.{columns_text, stamp_text, tags_text};
 
 use crate::tokens::append_token;
 use crate::words::{append, append_number};
@@ -66,7 +66,19 @@ fn append_stamp(out: &mut Vec<u8>, ts: u64, kind: Kind, value: &[u8]) -> Result<
     append_word(out, value)
 }
 
-/// Appends the line of a cell with the number of its edit. After a refusal the vector begins with what it had.
+/// Appends the tags behind a space, nothing where there are none.
+fn append_tags(out: &mut Vec<u8>, tags: &[u8]) -> Result<(), NoMemory>
+    ensures ok { OnOk result (out.new.items ≡ out.old.items ++ tags_text tags.now) }
+    ensures reads { OnOk result (AreBytes tags.now) }
+    ensures kept { take (vec_len out.old) out.new.items ≡ out.old.items }
+{
+    if tags.is_empty() {
+        return Ok(());
+    }
+    append_word(out, tags)
+}
+
+/// Appends the line of a cell with the number of its edit: its tags are the last word exactly where it has some. After a refusal the vector begins with what it had.
 pub fn append_cell(out: &mut Vec<u8>, number: u64, cell: &Cell) -> Result<(), NoMemory>
     ensures ok { OnOk result (out.new.items ≡ out.old.items ++ cell_line (number, cell.now)) }
     ensures reads { OnOk result (IsNumberedCell (number, cell.now)) }
@@ -76,9 +88,11 @@ pub fn append_cell(out: &mut Vec<u8>, number: u64, cell: &Cell) -> Result<(), No
     let family = cell.family.as_slice();
     let qualifier = cell.qualifier.as_slice();
     let value = cell.value.as_slice();
+    let tags = cell.tags.as_slice();
     append_number(out, b"cell ", number)?;
     append_columns(out, row, family, qualifier)?;
     append_stamp(out, cell.ts, cell.kind, value)?;
+    append_tags(out, tags)?;
     append(out, b"\n")?;
     Ok(())
 }

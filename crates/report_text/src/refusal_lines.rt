@@ -1,4 +1,4 @@
-//! The text of the lines that refuse. It takes no memory, so that want of memory can be told.
+//! The text of the lines that refuse. It takes no memory, so that being out of memory can be told.
 
 ghost use Rattle.std.specs.Prelude.{◌≡◌, ◌+◌, ◌≤◌, ◌++◌, length};
 ghost use Rattle.script_model.specs.Outputs.{refused_damaged, refused_disagree, refused_script, refused_store};

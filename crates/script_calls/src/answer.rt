@@ -7,9 +7,9 @@ use mem_segments::SharedCells;
 pub enum Answer {
     /// The put's edit has this number.
     PutOk { number: u64 },
-    /// Want of memory, before an edit was begun.
+    /// Out of memory, before an edit was begun.
     PutMemory,
-    /// Want of memory, after the edit with this number was done.
+    /// Out of memory, after the edit with this number was done.
     PutMemoryAt { number: u64 },
     /// The log is broken, and no edit was begun.
     PutFault,

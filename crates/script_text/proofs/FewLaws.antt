@@ -1,10 +1,10 @@
 -- A text says at most as many calls as it has bytes.
-use Rattle.std.proofs.Common.{◌≡◌, ℕ, ◌+◌, ◌≤◌, Bool, true, false, if◌then◌else◌, ◌==◌, nat_lt, Option, Some, None, is_none, unwrap_or, List, [], ◌∷◌, ◌++◌, length, arith}
+use Rattle.std.proofs.Common.{◌≡◌, ℕ, ◌+◌, ◌≤◌, Bool, true, false, if◌then◌else◌, ◌==◌, nat_lt, Option, Some, None, is_none, unwrap_or, List, [], ◌∷◌, ◌++◌, length, arith, codes}
 use Rattle.std.proofs.lemmas.List.{length-append}
 use Rattle.cell_model.specs.Cell.{Cell}
 use Rattle.region_model.specs.Calls.{Call}
 use Rattle.script_model.specs.Text.{lines_of, add_byte, words_of, is_skipped}
-use Rattle.script_model.specs.Tables.{Spoken, Calls, Opens, cell_in, spoken_of, second_number}
+use Rattle.script_model.specs.Tables.{Spoken, Calls, Opens, begins_with, cell_in, spoken_of, table_in, second_number}
 use Rattle.script_model.specs.Script.{Said, after_cell, after_spoken, say, after_line, said_by, nothing_said}
 
 either : (b : Bool) (n : ℕ) (x y : Said) → length x.calls ≤ n → length y.calls ≤ n → length (if b then x else y).calls ≤ n
@@ -24,16 +24,24 @@ call_says said (Some (Calls h call)) = one_more said (h, call)
 call_says said (Some (Opens h r sync count)) = omega arith
 
 -- a line behind the head lines
+unnamed : (said : Said) (words : List (List ℕ)) → Said
+unnamed said words = if begins_with (codes "table") words then record said { table = table_in words } else after_spoken said (spoken_of words)
+
+unnamed_says : (said : Said) (words : List (List ℕ)) → length (unnamed said words).calls ≤ length said.calls + 1
+unfolding unnamed
+unnamed_says said words =
+    either (begins_with (codes "table") words) (length said.calls + 1) (record said { table = table_in words }) (after_spoken said (spoken_of words)) (omega arith) (call_says said (spoken_of words))
+
 behind_head : (said : Said) (words : List (List ℕ)) → Said
-behind_head said words = if nat_lt 0 said.due then after_cell said (cell_in (unwrap_or said.time 0) words) else after_spoken said (spoken_of words)
+behind_head said words = if nat_lt 0 said.due then after_cell said (cell_in (unwrap_or said.time 0) words) else unnamed said words
 
 behind_says : (said : Said) (words : List (List ℕ)) → length (behind_head said words).calls ≤ length said.calls + 1
 unfolding behind_head
 behind_says said words =
-    either (nat_lt 0 said.due) (length said.calls + 1) (after_cell said (cell_in (unwrap_or said.time 0) words)) (after_spoken said (spoken_of words)) (cell_says said (cell_in (unwrap_or said.time 0) words)) (call_says said (spoken_of words))
+    either (nat_lt 0 said.due) (length said.calls + 1) (after_cell said (cell_in (unwrap_or said.time 0) words)) (unnamed said words) (cell_says said (cell_in (unwrap_or said.time 0) words)) (unnamed_says said words)
 
 words_say : (said : Said) (words : List (List ℕ)) → length (say said words).calls ≤ length said.calls + 1
-unfolding behind_head
+unfolding behind_head unnamed
 words_say said words =
     let n : ℕ = length said.calls + 1 in
     let third : Said = if is_none said.handlers then record said { handlers = Some (second_number words) } else behind_head said words in

@@ -1,3 +1,4 @@
 pub mod FewLaws
+pub mod FillingLaws
 pub mod GroupLaws
 pub mod TextLaws

@@ -1,7 +1,8 @@
 -- What the lines so far have said, as the parser keeps it.
-use Rattle.std.specs.Prelude.{◌≡◌, ℕ, ◌+◌, ◌-◌, ◌^◌, ◌<◌, ◌≤◌, List, [], length, All, Option, None, IfSome, unwrap_or}
-use Rattle.cell_model.specs.Cell.{Cell}
-use Rattle.cell_model.specs.Batch.{body_length}
+use Rattle.std.specs.Prelude.{◌≡◌, ℕ, ◌+◌, ◌-◌, ◌^◌, ◌<◌, ◌≤◌, Bool, List, [], length, sum_by, All, Option, None, IfSome, unwrap_or}
+use Rattle.cell_model.specs.Cell.{Cell, spelled_length}
+use Rattle.cell_model.specs.Batch.{Batch, are_untagged, body_length}
+use Rattle.cell_model.specs.declared.form.Form.TheVariants.{Tagged}
 use Rattle.region_model.specs.Calls.{Call}
 use Rattle.script_calls.specs.Calls.{call_of}
 use Rattle.script_text.specs.Spoken.{IsCallOf}
@@ -24,10 +25,17 @@ pub record IsOpen (handlers regions : Option ℕ) (handler region due : ℕ) : T
   pub handler_within : 0 < due → (1 ≤ handler) × (handler ≤ unwrap_or handlers 0)
   pub region_within : 0 < due → (1 ≤ region) × (region ≤ unwrap_or regions 0)
 
--- the cells of the open put, and how long the body of its entry is with them
-pub record IsFilling (cells : List Cell) (due body : ℕ) : Type 0 where
-  pub body_is : body ≡ body_length cells
-  pub body_below : body ≤ 1048576
+-- the cells of the open put, with their tagged spellings' length and whether none has tags: with the name of the table
+-- they are within the limits of a batch
+pub record IsFilling (batch : Batch) (tagged_len : ℕ) (untagged : Bool) : Type 0 where
+  pub len_is : tagged_len ≡ sum_by (spelled_length Tagged) batch.cells
+  pub untagged_is : untagged ≡ are_untagged batch.cells
+  pub table_below : length batch.table ≤ 255
+  pub count_below : length batch.cells ≤ 1024
+  pub body_below : body_length batch ≤ 1048576
+
+-- so many cells are still due of a put
+pub record IsDue (cells : List Cell) (due : ℕ) : Type 0 where
   pub count_below : length cells + due ≤ 1024
   pub none_open : due ≡ 0 → cells ≡ []
 

@@ -10,7 +10,7 @@ use crate::faults::{LineError, ScriptWhy};
 use kv_cell::{Durability, Kind};
 use script_model::Command;
 
-/// No call but a put.
+/// No call but a put, no name of a table, and no tags.
 #[tactic(auto, unfolding(script_model::specs::Fields::here_fault))]
 pub fn here(command: Command) -> Result<(), LineError>
     ensures exact { Tells result (here_fault command) }

@@ -7,6 +7,7 @@ mod calls;
 mod cells;
 mod faults;
 mod fields;
+mod filling;
 mod grouping;
 mod here;
 mod numbers;
@@ -14,6 +15,7 @@ mod parse;
 mod pieces;
 mod saying;
 mod state;
+mod table;
 mod tokens;
 mod walk;
 

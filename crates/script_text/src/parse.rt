@@ -13,7 +13,7 @@ use script_model::Command;
 use std::alloc::Global;
 
 /// The script that the bytes are for the command, or their first wrong line with its cause: a right text is never
-/// refused for another reason than want of memory. The time is linear in the bytes.
+/// refused for another reason than being out of memory. The time is linear in the bytes.
 #[tactic(auto, using(std::proofs::lemmas::Bool::Decides::nat_tests), unfolding(script_model::specs::Script::script_fault))]
 pub fn parse_script(alloc: Global, bytes: &[u8], command: Command) -> Result<Script, ParseRefusal>
     ensures ok { IfOk result (λ script. Says command bytes.now script) }

@@ -1,15 +1,15 @@
 //! What a line says, behind those so far.
 
 ghost use Rattle.std.specs.Prelude.{◌≡◌, ◌<◌, OnOk, Some, map};
-ghost use Rattle.cell_model.specs.Batch.{body_length};
-ghost use Rattle.script_model.specs.Script.{after_cell, after_spoken, end_fault, say, words_fault};
-ghost use Rattle.script_model.specs.Tables.{begins_with, call_fault, cell_in, due_fault, spoken_of};
+ghost use Rattle.script_model.specs.Script.{after_cell, after_spoken, batch_so_far, end_fault, named_fault, say, words_fault};
+ghost use Rattle.script_model.specs.Tables.{begins_with, call_fault, cell_in, due_fault, spoken_of, table_in};
 ghost use Rattle.script_text.specs.Why.{Tells};
 
 use crate::calls::{Spoken, call_line};
 use crate::cells::due_line;
 use crate::faults::{LineError, ScriptWhy};
 use crate::state::State;
+use crate::table::table_line;
 use script_model::Command;
 use std::alloc::Global;
 
@@ -24,12 +24,30 @@ impl State {
     ) -> Result<(), LineError>
         requires due { 0 < self.old.due }
         requires time { time < 9223372036854775808 }
-        ensures exact { Tells result (due_fault command time (body_length self.old.cells) (map (λ w. w.now) words.now)) }
+        ensures exact { Tells result (due_fault command time (batch_so_far self.old) (map (λ w. w.now) words.now)) }
         ensures said { OnOk result (self.new ≡ after_cell self.old (cell_in time (map (λ w. w.now) words.now))) }
     {
-        let body = self.body();
-        let cell = due_line(alloc, command, time, body, words)?;
+        let cell = due_line(alloc, command, time, self.filling(), words)?;
         self.add_cell(alloc, cell)?;
+        Ok(())
+    }
+
+    /// Says the line of the table's name.
+    fn say_table(
+        &mut self,
+        alloc: Global,
+        command: Command,
+        words: &[&[u8]],
+    ) -> Result<(), LineError>
+        requires none { self.old.due ≡ 0 }
+        ensures exact { Tells result (named_fault command self.old (map (λ w. w.now) words.now)) }
+        ensures said { OnOk result (self.new ≡ record self.old { table = table_in (map (λ w. w.now) words.now) }) }
+    {
+        if !self.is_head_alone() {
+            return Err(LineError::Wrong(ScriptWhy::Word));
+        }
+        let table = table_line(alloc, command, words)?;
+        self.name_table(table);
         Ok(())
     }
 
@@ -79,6 +97,9 @@ impl State {
         }
         if begins_with(b"cell", words) {
             return Err(LineError::Wrong(ScriptWhy::Count));
+        }
+        if begins_with(b"table", words) {
+            return self.say_table(alloc, command, words);
         }
         self.say_call(alloc, command, handlers, regions, words)
     }

@@ -2,9 +2,9 @@
 
 ghost use Rattle.std.specs.Prelude.{◌≡◌, ◌+◌, ◌-◌, ◌^◌, ◌<◌, ◌≤◌, ◌∷◌, [], ◌++◌, All, IfNone, IfOk, IfSome, None, OnOk, Some, length, map, unwrap_or, codes};
 ghost use Rattle.cell_model.specs.Batch.{body_length};
-ghost use Rattle.cell_model.specs.Cell.{spelling_length};
 ghost use Rattle.script_model.specs.Calls.{IsScript, by_handler, script_of};
-ghost use Rattle.script_model.specs.Script.{end_fault, nothing_said, with_call, with_cell};
+ghost use Rattle.script_model.specs.Fields.{one_more};
+ghost use Rattle.script_model.specs.Script.{batch_so_far, end_fault, is_head_alone, nothing_said, with_call, with_cell};
 ghost use Rattle.script_model.specs.Tables.{counted_fault, head_fault, second_number};
 ghost use Rattle.script_calls.specs.Calls.{call_of, is_sync};
 ghost use Rattle.script_text.specs.Spoken.{IsCallOf};
@@ -13,8 +13,9 @@ ghost use Rattle.script_text.specs.Why.{Tells};
 
 use crate::calls::{counted_line, head_line};
 use crate::faults::LineError;
+use crate::filling::Filling;
 use crate::grouping::group;
-use kv_cell::{Batch, Cell, Durability, NoMemory};
+use kv_cell::{Cell, Durability, NoMemory, Octets};
 use script_calls::{Call, Script};
 use script_model::Command;
 use std::alloc::Global;
@@ -27,7 +28,8 @@ pub struct HandlerCall {
     pub call: Call,
 }
 
-/// The head lines so far, the calls so far, and the put whose cells are not all there.
+/// The head lines so far, the calls so far, and the put whose cells are not all there. The name of the table stands
+/// with the cells of that put.
 #[derive(Debug, Drop)]
 pub struct State {
     time: Option<u64>,
@@ -37,9 +39,8 @@ pub struct State {
     handler: u64,
     region: u32,
     durability: Durability,
-    cells: Vec<Cell>,
     due: u64,
-    body: usize,
+    filling: Filling,
 }
 
 impl Model for State {
@@ -49,11 +50,11 @@ impl Model for State {
     ghost Value = { Said };
 
     ghost use Rattle.script_calls.specs.Calls.{is_sync};
-    ghost use Rattle.script_text.specs.State.{IsBehindHead, IsFilling, IsHead, IsOpen, handler_call};
+    ghost use Rattle.script_text.specs.State.{IsBehindHead, IsDue, IsHead, IsOpen, handler_call};
 
-    ghost view = { λ s. record { time = s.time; regions = s.regions; handlers = s.handlers; calls = map handler_call s.calls.items; open_put = (s.handler, s.region, is_sync s.durability); cells = s.cells.items; due = s.due } };
+    ghost view = { λ s. record { time = s.time; regions = s.regions; handlers = s.handlers; table = s.filling.table; calls = map handler_call s.calls.items; open_put = (s.handler, s.region, is_sync s.durability); cells = s.filling.cells; due = s.due } };
 
-    ghost invariant = { λ s. (IsHead s.time s.regions s.handlers) × ((IsBehindHead s.regions s.handlers (map handler_call s.calls.items) s.due) × ((IsOpen s.handlers s.regions s.handler s.region s.due) × (IsFilling s.cells.items s.due s.body))) };
+    ghost invariant = { λ s. (IsHead s.time s.regions s.handlers) × ((IsBehindHead s.regions s.handlers (map handler_call s.calls.items) s.due) × ((IsOpen s.handlers s.regions s.handler s.region s.due) × (IsDue s.filling.cells s.due))) };
 }
 
 impl State {
@@ -69,9 +70,8 @@ impl State {
             handler: 0,
             region: 0,
             durability: Durability::Async,
-            cells: Vec::new(alloc),
             due: 0,
-            body: 24,
+            filling: Filling::new(alloc),
         }
     }
 
@@ -103,12 +103,18 @@ impl State {
         self.due
     }
 
-    /// The length in bytes of the body of the open put's log entry so far.
-    pub(crate) fn body(&self) -> usize
-        ensures value { result ≡ body_length self.now.cells }
-        ensures within { result ≤ 1048576 }
+    /// The name of the table, and the cells of the open put so far.
+    pub(crate) fn filling(&self) -> &Filling
+        ensures { result.now ≡ batch_so_far self.now }
     {
-        self.body
+        &self.filling
+    }
+
+    /// Whether neither the name of the table nor a call was said.
+    pub(crate) fn is_head_alone(&self) -> bool
+        ensures { result ≡ is_head_alone self.now }
+    {
+        !self.filling.is_named() && self.calls.is_empty()
     }
 
     pub(crate) fn say_time(&mut self, words: &[&[u8]]) -> Result<(), LineError>
@@ -145,6 +151,15 @@ impl State {
         Ok(())
     }
 
+    /// Says the name of the table.
+    pub(crate) fn name_table(&mut self, table: Octets)
+        requires none { self.old.due ≡ 0 }
+        requires short { length table ≤ 255 }
+        ensures { self.new ≡ record self.old { table = table } }
+    {
+        self.filling.name(table);
+    }
+
     /// Says a call.
     pub(crate) fn add_call(&mut self, handler: u64, call: Call) -> Result<(), NoMemory>
         requires within { InScript self.old.handlers self.old.regions (handler, call_of call) }
@@ -170,7 +185,7 @@ impl State {
         requires count { count ≤ 1024 }
         ensures { OnOk result (self.new ≡ record self.old { open_put = (handler, region, is_sync durability); due = count }) }
     {
-        self.cells = Vec::with_capacity(alloc, count as usize)?;
+        self.filling.open(alloc, count as usize)?;
         self.handler = handler;
         self.region = region;
         self.durability = durability;
@@ -181,20 +196,16 @@ impl State {
     /// Says a cell of the open put, and with the last of them the put.
     pub(crate) fn add_cell(&mut self, alloc: Global, cell: Cell) -> Result<(), NoMemory>
         requires due { 0 < self.old.due }
-        requires room { body_length self.old.cells + spelling_length cell ≤ 1048576 }
+        requires room { body_length (one_more (batch_so_far self.old) cell) ≤ 1048576 }
         ensures { OnOk result (self.new ≡ with_cell self.old cell) }
     {
-        let more = cell.encoded_len();
-        self.cells.push(cell)?;
-        self.body += more;
+        self.filling.push(cell)?;
         self.due -= 1;
         if self.due == 0 {
-            let cells = std::mem::replace(&mut self.cells, Vec::new(alloc));
-            self.body = 24;
             let call = Call::Put {
                 region: self.region,
                 durability: self.durability,
-                batch: batch_of(cells),
+                batch: self.filling.take(alloc)?,
             };
             self.add_call(self.handler, call)?;
         }
@@ -241,15 +252,4 @@ fn make_script(
         regions,
         handlers,
     })
-}
-
-/// The batch of cells that are within its limits.
-#[tactic(auto, using(std::proofs::lemmas::Bool::Decides::nat_tests), unfolding(cell_model::specs::Batch::first_batch_limit))]
-fn batch_of(cells: Vec<Cell>) -> Batch
-    requires given { 1 ≤ length cells.items }
-    requires count { length cells.items ≤ 1024 }
-    requires body { body_length cells.items ≤ 1048576 }
-    ensures { result ≡ cells.items }
-{
-    Batch::new(cells).unwrap()
 }

@@ -17,12 +17,12 @@ abbrev in_region : List Entry → ℕ → List NumberedCell
 in_region es r = numbered_cells (entries_of r es)
 
 -- an entry more of this region
-region_same : (r : ℕ) (e : Entry) (es : List Entry) → e.region ≡ r → in_region (es ++ e ∷ []) r ≡ in_region es r ++ at_number e.number e.cells
-region_same r e [] is = rw (eq-eqb e.region r is) (append-nil (at_number e.number e.cells))
+region_same : (r : ℕ) (e : Entry) (es : List Entry) → e.region ≡ r → in_region (es ++ e ∷ []) r ≡ in_region es r ++ at_number e.number e.batch.cells
+region_same r e [] is = rw (eq-eqb e.region r is) (append-nil (at_number e.number e.batch.cells))
 region_same r e (d ∷ es) is = by (d.region == r) refl (region_same r e es is)
   where
-    by : (t : Bool) → (d.region == r) ≡ t → in_region (es ++ e ∷ []) r ≡ in_region es r ++ at_number e.number e.cells → in_region ((d ∷ es) ++ e ∷ []) r ≡ in_region (d ∷ es) r ++ at_number e.number e.cells
-    by true t rest = rw (t, rest) (sym (append_assoc (at_number d.number d.cells) (in_region es r) (at_number e.number e.cells)))
+    by : (t : Bool) → (d.region == r) ≡ t → in_region (es ++ e ∷ []) r ≡ in_region es r ++ at_number e.number e.batch.cells → in_region ((d ∷ es) ++ e ∷ []) r ≡ in_region (d ∷ es) r ++ at_number e.number e.batch.cells
+    by true t rest = rw (t, rest) (sym (append_assoc (at_number d.number d.batch.cells) (in_region es r) (at_number e.number e.batch.cells)))
     by false t rest = rw (t, rest) refl
 
 -- or of another one
@@ -44,7 +44,7 @@ below (suc n) a e es lt =
     (λ i. region_other a e es ne i ∷ below n (a + 1) e es (omega arith) i)
 
 more : (n a k : ℕ) (e : Entry) (es : List Entry) → e.region ≡ a + k → k < n
-    → regions_from (es ++ e ∷ []) a n ≡ set (regions_from es a n) k (get_or (regions_from es a n) k [] ++ at_number e.number e.cells)
+    → regions_from (es ++ e ∷ []) a n ≡ set (regions_from es a n) k (get_or (regions_from es a n) k [] ++ at_number e.number e.batch.cells)
 more zero a k e es is lt = absurd omega arith
 more (suc n) a zero e es is lt =
     let here : e.region ≡ a = omega arith in
@@ -54,18 +54,18 @@ more (suc n) a (suc k) e es is lt =
     (λ i. region_other a e es ne i ∷ more n (a + 1) k e es (omega arith) (omega arith) i)
 
 pub entry_added : (e : Entry) (es : List Entry) (lists new : List (List NumberedCell)) → 1 ≤ e.region → e.region ≤ 64 → lists ≡ by_region es
-    → new ≡ set lists (e.region - 1) (get_or lists (e.region - 1) [] ++ at_number e.number e.cells) → new ≡ by_region (es ++ e ∷ [])
+    → new ≡ set lists (e.region - 1) (get_or lists (e.region - 1) [] ++ at_number e.number e.batch.cells) → new ≡ by_region (es ++ e ∷ [])
 entry_added e es lists new given within is step =
-    step ∙ ap (λ (l : List (List NumberedCell)). set l (e.region - 1) (get_or l (e.region - 1) [] ++ at_number e.number e.cells)) is
+    step ∙ ap (λ (l : List (List NumberedCell)). set l (e.region - 1) (get_or l (e.region - 1) [] ++ at_number e.number e.batch.cells)) is
     ∙ sym (more 64 1 (e.region - 1) e es (omega arith) (omega arith))
 
 -- the content of entries is that of their cells
 pub content_numbered : (m : Content) (es : List Entry) → put_entries m es ≡ put_numbered m (numbered_cells es)
 content_numbered m [] = refl
 content_numbered m (e ∷ es) =
-    ap (λ (c : Content). put_entries c es) (put_cells-numbered m e.number e.cells)
-    ∙ content_numbered (put_numbered m (at_number e.number e.cells)) es
-    ∙ sym (put_numbered-append m (at_number e.number e.cells) (numbered_cells es))
+    ap (λ (c : Content). put_entries c es) (put_cells-numbered m e.number e.batch.cells)
+    ∙ content_numbered (put_numbered m (at_number e.number e.batch.cells)) es
+    ∙ sym (put_numbered-append m (at_number e.number e.batch.cells) (numbered_cells es))
 
 -- ---- what is printed
 

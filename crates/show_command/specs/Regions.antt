@@ -10,7 +10,7 @@ use Rattle.script_model.specs.Outputs.{cells_text}
 
 -- each with the number of its entry, in the order of the list
 abbrev pub numbered_cells : List Entry → List NumberedCell
-numbered_cells es = flat_map (λ e. at_number e.number e.cells) es
+numbered_cells es = flat_map (λ e. at_number e.number e.batch.cells) es
 
 -- those of regions 1 to 64
 abbrev pub by_region : List Entry → List (List NumberedCell)

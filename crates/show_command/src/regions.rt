@@ -36,7 +36,7 @@ fn add_entry(lists: &mut Vec<NumberedCells>, entry: Entry) -> Result<(), NoMemor
     requires { vec_len lists.old ≡ 64 }
     ensures in_range { (1 ≤ entry.region) × (entry.region ≤ 64) }
     ensures added { OnOk result (lists.new.items
-        ≡ slice_set lists.old.items (entry.region - 1) (slice_index_or lists.old.items (entry.region - 1) [] ++ at_number entry.number entry.cells)) }
+        ≡ slice_set lists.old.items (entry.region - 1) (slice_index_or lists.old.items (entry.region - 1) [] ++ at_number entry.number entry.batch.cells)) }
 {
     let Entry {
         region,

@@ -6,18 +6,19 @@ ghost use Rattle.std.specs.Fmt.{decimal};
 ghost use Rattle.cell_model.specs.Cell.{Cell as TheCell};
 ghost use Rattle.log_model.specs.declared.name.NameKind.TheVariants as kinds;
 ghost use Rattle.script_model.specs.Report.{line, cell_line};
-ghost use Rattle.script_model.specs.Outputs.{entry_text, ended_line, dump_text as text_of};
+ghost use Rattle.script_model.specs.Outputs.{table_line, entry_text, ended_line, dump_text as text_of};
 ghost use Rattle.wal_dump.specs.Kinds.{kind_word};
 
 use disk_images::{Name, NameKind};
 use entry_frame::Entry;
 use kv_cell::{Cell, NoMemory, Octets};
 use log_file::LogText;
-use report_text::{append, append_cell, append_end, append_number, append_numbers};
+use report_text::{append, append_cell, append_end, append_number, append_numbers, append_token};
 use std::alloc::Global;
 
-/// The text of a log or old log of this name: its name, its entries in the order of the file, each with its cells as they
-/// are stored, the count of the end frame, if it has one, and the line that ends all.
+/// The text of a log or old log of this name: its name, its entries in the order of the file, each with the name of its
+/// table, if it has one, and its cells as they are stored, the count of the end frame, if it has one, and the line that
+/// ends all.
 pub fn dump_text(alloc: Global, name: Name, text: &LogText) -> Result<Octets, NoMemory>
     requires { (name.kind ≡ kinds.Log) ⊎ (name.kind ≡ kinds.Old) }
     ensures { IfOk result (λ bytes. bytes ≡ text_of (kind_word name.kind) name.number text.now.entries text.now.ended) }
@@ -59,7 +60,7 @@ fn append_entries(out: &mut Vec<u8>, entries: &[Entry]) -> Result<(), NoMemory>
     Ok(())
 }
 
-/// Appends an entry's line, and the lines of its cells.
+/// Appends an entry's line, that of its table's name, and the lines of its cells.
 #[tactic(auto, unfolding(script_model::specs::Outputs::entry_text))]
 fn append_entry(out: &mut Vec<u8>, entry: &Entry) -> Result<(), NoMemory>
     ensures { OnOk result (out.new.items ≡ out.old.items ++ entry_text entry.now) }
@@ -67,7 +68,20 @@ fn append_entry(out: &mut Vec<u8>, entry: &Entry) -> Result<(), NoMemory>
     append_numbers(out, b"entry ", entry.region as u64, entry.number)?;
     append_numbers(out, b" ", entry.time, entry.batch.len() as u64)?;
     append(out, b"\n")?;
+    append_table(out, entry.batch.table())?;
     append_cells(out, entry.number, entry.batch.as_slice())
+}
+
+/// Appends the line of a table's name, nothing where it is empty.
+fn append_table(out: &mut Vec<u8>, name: &[u8]) -> Result<(), NoMemory>
+    ensures { OnOk result (out.new.items ≡ out.old.items ++ table_line name.now) }
+{
+    if name.is_empty() {
+        return Ok(());
+    }
+    append(out, b"table ")?;
+    append_token(out, name)?;
+    append(out, b"\n")
 }
 
 /// Appends the lines of the cells of one edit.
