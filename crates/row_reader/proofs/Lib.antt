@@ -1,0 +1,4 @@
+pub mod Splits
+pub mod Columns
+pub mod Families
+pub mod Passes
