@@ -1,5 +1,5 @@
-//! Trials of cells, of entries and their frames, of segments and of chains of trucks: bytes worked by hand, files cut anywhere, and
-//! sizes that no proof bounds. A library of tests alone, on which nothing stands.
+//! Trials of cells, of entries and their frames, of segments, of what deletes mask, and of chains of trucks: bytes worked by
+//! hand, files cut anywhere, and sizes that no proof bounds. A library of tests alone, on which nothing stands.
 #![tactic(auto)]
 
 #[cfg(test)]
@@ -8,6 +8,8 @@ mod cells;
 mod chains;
 #[cfg(test)]
 mod frames;
+#[cfg(test)]
+mod masks;
 #[cfg(test)]
 mod pages;
 #[cfg(test)]

@@ -11,45 +11,45 @@ use std::test::*;
 
 /// The header of the second log, and a closed gate.
 const EMPTY_LOG_2: &[u8] = &[
-    b'H', b'W', b'L', b'1', 0, 0, 0, 1, 0, 0, 0, 0, 0, 0, 0, 2, 0,
+    b'H', b'W', b'L', b'1', 0, 0, 0, 2, 0, 0, 0, 0, 0, 0, 0, 2, 0,
 ];
 
 /// The first log with one put into region 1 at time 1000, with number 1: row `r`, column `f:q`, timestamp 1, value `v`.
 /// It is closed: behind the put stands the end frame of one entry.
 const CLOSED_LOG_1: &[u8] = &[
-    b'H', b'W', b'L', b'1', 0, 0, 0, 1, 0, 0, 0, 0, 0, 0, 0, 1, 0xA5, 1, 0, 0, 0, 0x30, 0, 0, 0, 1,
+    b'H', b'W', b'L', b'1', 0, 0, 0, 2, 0, 0, 0, 0, 0, 0, 0, 1, 0xA5, 1, 0, 0, 0, 0x30, 0, 0, 0, 1,
     0, 0, 0, 0, 0, 0, 0, 1, 0, 0, 0, 0, 0, 0, 3, 0xE8, 0, 0, 0, 1, 0, 0, 0, 0x0F, 0, 0, 0, 1, 0, 1,
     b'r', 1, b'f', b'q', 0, 0, 0, 0, 0, 0, 0, 1, 4, b'v', 0xA5, 2, 0, 0, 0, 8, 0, 0, 0, 0, 0, 0, 0,
     1, 0,
 ];
 
-/// What stands before the cells in a store of region 1 that covers the numbers 1 to 5 and has five cells.
+/// What stands before the cells in a store of region 1, of scope 0 and no family, that covers the numbers 1 to 5 and has five cells.
 const STORE_HEAD: &[u8] = &[
-    0xA5, b'H', b'W', b'S', b'1', 0, 0, 0, 1, 0, 0, 0, 0, 0, 0, 0, 1, 0, 0, 0, 0, 0, 0, 0, 5, 0, 0,
-    0, 0, 0, 0, 0, 5,
+    0xA5, b'H', b'W', b'S', b'2', 0, 0, 0, 1, 0, 0, 0, 0, 0, 0, 0, 0, 0, 1, 0, 0, 0, 0, 0, 0, 0, 5,
+    0, 0, 0, 0, 0, 0, 0, 5,
 ];
 
-/// The number and the cell of each of five puts of row `r`, column `f:q`, value `v`, with the number as timestamp.
+/// The number and the cell of each of five puts of row `r`, column `f:q`, value `v`, with the number as timestamp and no tags.
 const FIVE_PUTS: [&[u8]; 5] = [
     &[
         0, 0, 0, 0, 0, 0, 0, 5, 0, 0, 0, 0x0F, 0, 0, 0, 1, 0, 1, b'r', 1, b'f', b'q', 0, 0, 0, 0,
-        0, 0, 0, 5, 4, b'v',
+        0, 0, 0, 5, 4, b'v', 0, 0,
     ],
     &[
         0, 0, 0, 0, 0, 0, 0, 4, 0, 0, 0, 0x0F, 0, 0, 0, 1, 0, 1, b'r', 1, b'f', b'q', 0, 0, 0, 0,
-        0, 0, 0, 4, 4, b'v',
+        0, 0, 0, 4, 4, b'v', 0, 0,
     ],
     &[
         0, 0, 0, 0, 0, 0, 0, 3, 0, 0, 0, 0x0F, 0, 0, 0, 1, 0, 1, b'r', 1, b'f', b'q', 0, 0, 0, 0,
-        0, 0, 0, 3, 4, b'v',
+        0, 0, 0, 3, 4, b'v', 0, 0,
     ],
     &[
         0, 0, 0, 0, 0, 0, 0, 2, 0, 0, 0, 0x0F, 0, 0, 0, 1, 0, 1, b'r', 1, b'f', b'q', 0, 0, 0, 0,
-        0, 0, 0, 2, 4, b'v',
+        0, 0, 0, 2, 4, b'v', 0, 0,
     ],
     &[
         0, 0, 0, 0, 0, 0, 0, 1, 0, 0, 0, 0x0F, 0, 0, 0, 1, 0, 1, b'r', 1, b'f', b'q', 0, 0, 0, 0,
-        0, 0, 0, 1, 4, b'v',
+        0, 0, 0, 1, 4, b'v', 0, 0,
     ],
 ];
 

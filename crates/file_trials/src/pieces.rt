@@ -6,19 +6,20 @@ use std::alloc::{AllocError, Global};
 use std::test::*;
 use store_file::{ReadRefusal, read_store};
 
-/// A store of region 1 with five puts of 65,536 bytes each, of rows `a` to `e`: 33 and five times 65,567 bytes.
+/// A store of region 1 with five puts of 65,536 bytes each, of rows `a` to `e`: 36 and five times 65,569 bytes.
 fn five_long_cells(alloc: Global) -> Result<Vec<u8>, AllocError> {
-    let mut bytes = Vec::from_slice(alloc, &TWO_CELLS[..32])?;
+    let mut bytes = Vec::from_slice(alloc, &TWO_CELLS[..35])?;
     bytes.push(5)?;
     for row in b"abcde" {
         bytes.extend_from_slice(&[
             0, 0, 0, 0, 0, 0, 0, 1, 0, 0, 0, 0x0F, 0, 1, 0, 0, 0, 1, *row,
         ])?;
-        bytes.extend_from_slice(&TWO_CELLS[52..64])?;
+        bytes.extend_from_slice(&TWO_CELLS[55..67])?;
         let len = bytes.len();
         if len < 1_000_000 {
             bytes.resize(len + 65_536, *row)?;
         }
+        bytes.extend_from_slice(&[0, 0])?;
     }
     Ok(bytes)
 }
@@ -27,7 +28,7 @@ fn five_long_cells(alloc: Global) -> Result<Vec<u8>, AllocError> {
 fn file_of_two_pieces_is_read(rt: HostRuntime) -> Result<(), Fail> {
     let alloc = rt.alloc();
     let mut disk = OneFile::of(five_long_cells(alloc)?);
-    assert_eq!(rt; disk.bytes.len(), 327_868);
+    assert_eq!(rt; disk.bytes.len(), 327_881);
     let text = read_store(alloc, &mut disk, STORE_1)?.ok_or("there")?;
     assert_eq!(rt; disk.calls, 3, "the size and two pieces");
     assert_eq!(rt; text.cells.len(), 5);

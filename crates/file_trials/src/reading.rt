@@ -12,9 +12,17 @@ pub(crate) const STORE_1: Name = Name {
     number: 1,
 };
 
-/// The store of region 1 with the sequence ids 1 to 2, and two puts of column `f:q` at timestamp 1: row `a`, value `v`
-/// with sequence id 2 from offset 33 on, and row `b`, value `w` with sequence id 1 from 65 on.
-pub(crate) const TWO_CELLS: [u8; 97] = [
+/// The store of region 1 and family `f` with the sequence ids 1 to 2, and two puts of column `f:q` at timestamp 1: row `a`,
+/// value `v`, tags `ab` with sequence id 2 from offset 36 on, and row `b`, value `w` with sequence id 1 from 72 on.
+pub(crate) const TWO_CELLS: [u8; 106] = [
+    0xA5, b'H', b'W', b'S', b'2', 0, 0, 0, 1, 0, 1, b'f', 0, 0, 0, 0, 0, 0, 0, 1, 0, 0, 0, 0, 0, 0,
+    0, 2, 0, 0, 0, 0, 0, 0, 0, 2, 0, 0, 0, 0, 0, 0, 0, 2, 0, 0, 0, 0x0F, 0, 0, 0, 1, 0, 1, b'a', 1,
+    b'f', b'q', 0, 0, 0, 0, 0, 0, 0, 1, 4, b'v', 0, 2, b'a', b'b', 0, 0, 0, 0, 0, 0, 0, 1, 0, 0, 0,
+    0x0F, 0, 0, 0, 1, 0, 1, b'b', 1, b'f', b'q', 0, 0, 0, 0, 0, 0, 0, 1, 4, b'w', 0, 0,
+];
+
+/// The same two puts without tags as `HWS1`, from the offsets 33 and 65 on.
+const FORMER: [u8; 97] = [
     0xA5, b'H', b'W', b'S', b'1', 0, 0, 0, 1, 0, 0, 0, 0, 0, 0, 0, 1, 0, 0, 0, 0, 0, 0, 0, 2, 0, 0,
     0, 0, 0, 0, 0, 2, 0, 0, 0, 0, 0, 0, 0, 2, 0, 0, 0, 0x0F, 0, 0, 0, 1, 0, 1, b'a', 1, b'f', b'q',
     0, 0, 0, 0, 0, 0, 0, 1, 4, b'v', 0, 0, 0, 0, 0, 0, 0, 1, 0, 0, 0, 0x0F, 0, 0, 0, 1, 0, 1, b'b',
@@ -35,22 +43,30 @@ fn damage(alloc: Global, bytes: &[u8]) -> Option<u64> {
     }
 }
 
-/// The numbers of a store's fields, and of its cells the sequence ids, rows and values.
-fn shown(alloc: Global, text: &StoreText) -> Result<Vec<u8>, AllocError> {
+/// A store's scope, its family, the numbers of its fields, and of its cells the sequence ids, rows, values and tags.
+pub(crate) fn shown(alloc: Global, text: &StoreText) -> Result<Vec<u8>, AllocError> {
     let mut all = Vec::new(alloc);
+    all.push(text.scope)?;
+    all.extend_from_slice(text.family.as_slice())?;
     all.extend_from_slice(&text.from.to_be_bytes())?;
     all.extend_from_slice(&text.to.to_be_bytes())?;
     for (number, cell) in text.cells.as_slice() {
         all.extend_from_slice(&number.to_be_bytes())?;
         all.extend_from_slice(cell.row.as_slice())?;
         all.extend_from_slice(cell.value.as_slice())?;
+        all.extend_from_slice(cell.tags.as_slice())?;
     }
     Ok(all)
 }
 
-/// The two cells with some bytes changed.
-fn changed(alloc: Global, changes: &[(usize, u8)]) -> Result<Vec<u8>, AllocError> {
-    let mut bytes = Vec::from_slice(alloc, &TWO_CELLS)?;
+/// At most so many bytes of a file, with some of them changed.
+fn changed(
+    alloc: Global,
+    file: &[u8],
+    changes: &[(usize, u8)],
+    len: usize,
+) -> Result<Vec<u8>, AllocError> {
+    let mut bytes = Vec::from_slice(alloc, &file[..len.min(file.len())])?;
     for (at, byte) in changes {
         if *at < bytes.len() {
             bytes[*at] = *byte;
@@ -59,43 +75,51 @@ fn changed(alloc: Global, changes: &[(usize, u8)]) -> Result<Vec<u8>, AllocError
     Ok(bytes)
 }
 
-/// At most so many of these bytes.
-fn front(bytes: &[u8], len: usize) -> &[u8] {
-    &bytes[..len.min(bytes.len())]
-}
+const WHOLE: [(&[u8], &[u8]); 2] = [
+    (
+        &TWO_CELLS,
+        b"\0f\0\0\0\0\0\0\0\x01\0\0\0\0\0\0\0\x02\0\0\0\0\0\0\0\x02avab\0\0\0\0\0\0\0\x01bw",
+    ),
+    (
+        &FORMER,
+        b"\0\0\0\0\0\0\0\0\x01\0\0\0\0\0\0\0\x02\0\0\0\0\0\0\0\x02av\0\0\0\0\0\0\0\x01bw",
+    ),
+];
 
 #[test]
 fn two_cells_are_read(rt: HostRuntime) -> Result<(), Fail> {
     let alloc = rt.alloc();
-    let text = read(alloc, &TWO_CELLS)?.ok_or("there")?;
-    assert_eq!(rt; text.cells.len(), 2);
-    assert_eq!(rt;
-        shown(alloc, &text)?.as_slice(),
-        b"\0\0\0\0\0\0\0\x01\0\0\0\0\0\0\0\x02\0\0\0\0\0\0\0\x02av\0\0\0\0\0\0\0\x01bw".as_slice()
-    );
+    for (file, want) in WHOLE {
+        let text = read(alloc, file)?.ok_or("there")?;
+        assert_eq!(rt; text.cells.len(), 2);
+        assert_eq!(rt; shown(alloc, &text)?.as_slice(), want);
+    }
     Ok(())
 }
 
-/// What is changed and how many bytes are read, and which numbers and how many cells they are then, or None where no store
-/// is there.
-const FRONTS: &[(&[(usize, u8)], usize, Option<(u64, u64, usize)>)] = &[
+/// A file, what is changed and how many bytes are read, and which numbers and how many cells they are then, or None where
+/// no store is there.
+const FRONTS: &[(&[u8], &[(usize, u8)], usize, Option<(u64, u64, usize)>)] = &[
     // No byte, an open gate alone, a closed gate, and another byte for the gate.
-    (&[], 0, None),
-    (&[], 1, None),
-    (&[(0, 0)], 97, None),
-    (&[(0, 0xA4), (1, 0)], 2, None),
+    (&TWO_CELLS, &[], 0, None),
+    (&TWO_CELLS, &[], 1, None),
+    (&TWO_CELLS, &[(0, 0)], 106, None),
+    (&TWO_CELLS, &[(0, 0xA4), (1, 0)], 2, None),
+    (&FORMER, &[(0, 0)], 97, None),
     // No cell.
-    (&[(32, 0)], 33, Some((1, 2, 0))),
+    (&TWO_CELLS, &[(35, 0)], 36, Some((1, 2, 0))),
+    (&FORMER, &[(32, 0)], 33, Some((1, 2, 0))),
     // Two versions of one key, the one with the higher sequence id first.
-    (&[(83, b'a')], 97, Some((1, 2, 2))),
+    (&TWO_CELLS, &[(90, b'a')], 106, Some((1, 2, 2))),
+    (&FORMER, &[(83, b'a')], 97, Some((1, 2, 2))),
 ];
 
 #[test]
 fn stores_are_read_or_are_not_there(rt: HostRuntime) -> Result<(), Fail> {
     let alloc = rt.alloc();
-    for (changes, len, want) in FRONTS {
-        let bytes = changed(alloc, changes)?;
-        let found = match read(alloc, front(&bytes, *len))? {
+    for (file, changes, len, want) in FRONTS {
+        let bytes = changed(alloc, file, changes, *len)?;
+        let found = match read(alloc, &bytes)? {
             Some(text) => Some((text.from, text.to, text.cells.len())),
             None => None,
         };
@@ -104,86 +128,128 @@ fn stores_are_read_or_are_not_there(rt: HostRuntime) -> Result<(), Fail> {
     Ok(())
 }
 
-/// What is changed, and where the file is damaged then.
-const CHANGES: &[(&[(usize, u8)], u64)] = &[
+/// A file, what is changed, how many bytes are read, and where it is damaged then.
+const DAMAGED: &[(&[u8], &[(usize, u8)], usize, u64)] = &[
     // Another word, region, or order of the sequence ids.
-    (&[(1, b'X')], 1),
-    (&[(4, b'2')], 1),
-    (&[(8, 2)], 5),
-    (&[(16, 0)], 9),
-    (&[(16, 3)], 9),
-    (&[(18, 1)], 17),
+    (&FORMER, &[(1, b'X')], 97, 1),
+    (&FORMER, &[(8, 2)], 97, 5),
+    (&FORMER, &[(16, 0)], 97, 9),
+    (&FORMER, &[(16, 3)], 97, 9),
+    (&FORMER, &[(18, 1)], 97, 17),
+    (&TWO_CELLS, &[(1, b'X')], 106, 1),
+    (&TWO_CELLS, &[(4, b'3')], 106, 1),
+    (&TWO_CELLS, &[(8, 2)], 106, 5),
+    (&TWO_CELLS, &[(19, 0)], 106, 12),
+    (&TWO_CELLS, &[(19, 3)], 106, 12),
+    (&TWO_CELLS, &[(21, 1)], 106, 20),
+    // Each word over what the other one begins.
+    (&FORMER, &[(4, b'2')], 97, 35),
+    (&TWO_CELLS, &[(4, b'1')], 106, 9),
+    // Another scope; a family of 128 bytes; one that runs behind the file; one that the cells don't have.
+    (&TWO_CELLS, &[(9, 1)], 106, 9),
+    (&TWO_CELLS, &[(9, 255)], 106, 9),
+    (&TWO_CELLS, &[(10, 128)], 106, 10),
+    (&TWO_CELLS, &[(10, 255)], 106, 10),
+    (&TWO_CELLS, &[(10, 127)], 106, 11),
+    (&TWO_CELLS, &[(11, b'g')], 106, 36),
+    (&TWO_CELLS, &[(56, b'g')], 106, 36),
+    (&TWO_CELLS, &[(92, b'g')], 106, 72),
     // One more and one less counted.
-    (&[(32, 3)], 97),
-    (&[(32, 1)], 65),
-    (&[(25, 1)], 97),
+    (&FORMER, &[(32, 3)], 97, 97),
+    (&FORMER, &[(32, 1)], 97, 65),
+    (&FORMER, &[(25, 1)], 97, 97),
+    (&TWO_CELLS, &[(35, 3)], 106, 106),
+    (&TWO_CELLS, &[(35, 1)], 106, 72),
+    (&TWO_CELLS, &[(28, 1)], 106, 106),
     // A sequence id that isn't covered.
-    (&[(40, 3)], 33),
-    (&[(40, 0)], 33),
-    (&[(72, 3)], 65),
-    (&[(72, 0)], 65),
-    // Another length of a key, another type.
-    (&[(44, 0)], 33),
-    (&[(95, 5)], 65),
+    (&FORMER, &[(40, 3)], 97, 33),
+    (&FORMER, &[(40, 0)], 97, 33),
+    (&FORMER, &[(72, 3)], 97, 65),
+    (&FORMER, &[(72, 0)], 97, 65),
+    (&TWO_CELLS, &[(43, 3)], 106, 36),
+    (&TWO_CELLS, &[(79, 0)], 106, 72),
+    // Another length of a key, another type, tags of 4,097 bytes, tags that run behind the file.
+    (&FORMER, &[(44, 0)], 97, 33),
+    (&FORMER, &[(95, 5)], 97, 65),
+    (&TWO_CELLS, &[(47, 0)], 106, 36),
+    (&TWO_CELLS, &[(102, 5)], 106, 72),
+    (&TWO_CELLS, &[(68, 0x10), (69, 1)], 106, 36),
+    (&TWO_CELLS, &[(105, 1)], 106, 72),
     // The second row is below the first, or is the first with its sequence id or a higher one.
-    (&[(51, b'c')], 65),
-    (&[(83, b'a'), (72, 2)], 65),
-    (&[(83, b'a'), (40, 1), (72, 2)], 65),
+    (&FORMER, &[(51, b'c')], 97, 65),
+    (&FORMER, &[(83, b'a'), (72, 2)], 97, 65),
+    (&FORMER, &[(83, b'a'), (40, 1), (72, 2)], 97, 65),
+    (&TWO_CELLS, &[(54, b'c')], 106, 72),
+    (&TWO_CELLS, &[(90, b'a'), (79, 2)], 106, 72),
     // Of two causes the first counts; the order of the sequence ids comes before the limit of the last.
-    (&[(1, b'X'), (8, 2)], 1),
-    (&[(8, 2), (16, 0)], 5),
-    (&[(10, 2), (18, 1)], 9),
-    (&[(18, 1), (32, 3)], 17),
-    (&[(40, 3), (83, b'a'), (72, 2)], 33),
-    (&[(95, 5), (32, 1)], 65),
+    (&FORMER, &[(1, b'X'), (8, 2)], 97, 1),
+    (&FORMER, &[(8, 2), (16, 0)], 97, 5),
+    (&FORMER, &[(10, 2), (18, 1)], 97, 9),
+    (&FORMER, &[(18, 1), (32, 3)], 97, 17),
+    (&FORMER, &[(40, 3), (83, b'a'), (72, 2)], 97, 33),
+    (&FORMER, &[(95, 5), (32, 1)], 97, 65),
+    (&TWO_CELLS, &[(8, 2), (9, 1)], 106, 5),
+    (&TWO_CELLS, &[(9, 1), (10, 128)], 106, 9),
+    (&TWO_CELLS, &[(19, 0), (56, b'g')], 106, 12),
+    (&TWO_CELLS, &[(13, 2), (21, 1)], 106, 12),
+    // Cut in the word or in a field, which isn't whole then.
+    (&FORMER, &[], 2, 1),
+    (&FORMER, &[], 4, 1),
+    (&FORMER, &[], 5, 5),
+    (&FORMER, &[], 8, 5),
+    (&FORMER, &[], 9, 9),
+    (&FORMER, &[], 16, 9),
+    (&FORMER, &[], 17, 17),
+    (&FORMER, &[], 24, 17),
+    (&FORMER, &[], 25, 25),
+    (&FORMER, &[], 32, 25),
+    (&TWO_CELLS, &[], 4, 1),
+    (&TWO_CELLS, &[], 5, 5),
+    (&TWO_CELLS, &[], 8, 5),
+    (&TWO_CELLS, &[], 9, 9),
+    (&TWO_CELLS, &[], 10, 10),
+    (&TWO_CELLS, &[], 11, 11),
+    (&TWO_CELLS, &[], 12, 12),
+    (&TWO_CELLS, &[], 19, 12),
+    (&TWO_CELLS, &[], 20, 20),
+    (&TWO_CELLS, &[], 27, 20),
+    (&TWO_CELLS, &[], 28, 28),
+    (&TWO_CELLS, &[], 35, 28),
+    // Where the last sequence id isn't whole the first can't be above it.
+    (&FORMER, &[(9, 1)], 24, 17),
+    (&TWO_CELLS, &[(12, 1)], 27, 20),
+    // Cut in a pair.
+    (&FORMER, &[], 33, 33),
+    (&FORMER, &[], 40, 33),
+    (&FORMER, &[], 64, 33),
+    (&FORMER, &[], 65, 65),
+    (&FORMER, &[], 96, 65),
+    (&TWO_CELLS, &[], 36, 36),
+    (&TWO_CELLS, &[], 67, 36),
+    (&TWO_CELLS, &[], 68, 36),
+    (&TWO_CELLS, &[], 69, 36),
+    (&TWO_CELLS, &[], 71, 36),
+    (&TWO_CELLS, &[], 72, 72),
+    (&TWO_CELLS, &[], 105, 72),
 ];
 
 #[test]
 fn damage_is_told_at_its_first_place(rt: HostRuntime) -> Result<(), Fail> {
     let alloc = rt.alloc();
-    for (changes, at) in CHANGES {
-        let bytes = changed(alloc, changes)?;
-        assert_eq!(rt; damage(alloc, &bytes), Some(*at));
+    for (file, changes, len, at) in DAMAGED {
+        let bytes = changed(alloc, file, changes, *len)?;
+        assert_eq!(rt; damage(alloc, &bytes), Some(*at), "{changes:?} {len}");
     }
-    Ok(())
-}
-
-/// After how many bytes the file is cut, and where it is damaged then.
-const CUTS: &[(usize, u64)] = &[
-    (2, 1),
-    (4, 1),
-    (5, 5),
-    (8, 5),
-    (9, 9),
-    (16, 9),
-    (17, 17),
-    (24, 17),
-    (25, 25),
-    (32, 25),
-    (33, 33),
-    (40, 33),
-    (64, 33),
-    (65, 65),
-    (96, 65),
-];
-
-#[test]
-fn cut_is_told_at_the_field_or_pair_that_is_not_whole(rt: HostRuntime) -> Result<(), Fail> {
-    let alloc = rt.alloc();
-    for (len, at) in CUTS {
-        assert_eq!(rt; damage(alloc, front(&TWO_CELLS, *len)), Some(*at));
-    }
-    // Where the last sequence id isn't whole the first can't be above it.
-    let bytes = changed(alloc, &[(9, 1)])?;
-    assert_eq!(rt; damage(alloc, front(&bytes, 24)), Some(17));
     Ok(())
 }
 
 #[test]
 fn byte_behind_is_damage(rt: HostRuntime) -> Result<(), Fail> {
     let alloc = rt.alloc();
-    let mut bytes = Vec::from_slice(alloc, &TWO_CELLS)?;
-    bytes.push(0)?;
-    assert_eq!(rt; damage(alloc, &bytes), Some(97));
+    for (file, _) in WHOLE {
+        let mut bytes = Vec::from_slice(alloc, file)?;
+        bytes.push(0)?;
+        assert_eq!(rt; damage(alloc, &bytes), Some(file.len() as u64));
+    }
     Ok(())
 }

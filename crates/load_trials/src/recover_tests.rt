@@ -19,7 +19,7 @@ const EDITS_1_2: Name = Name {
     number: 2,
 };
 
-/// A log of one put: edit 1 of region 1, of one cell.
+/// A log of version 1, which is read and written no more, with one put: edit 1 of region 1, of one cell.
 const ONE_PUT_LOG: &[u8] = &[
     b'H', b'W', b'L', b'1', 0, 0, 0, 1, 0, 0, 0, 0, 0, 0, 0, 1, 0xA5, 1, 0, 0, 0, 0x30, 0, 0, 0, 1,
     0, 0, 0, 0, 0, 0, 0, 1, 0, 0, 0, 0, 0, 0, 3, 0xE8, 0, 0, 0, 1, 0, 0, 0, 0x0F, 0, 0, 0, 1, 0, 1,
@@ -48,10 +48,11 @@ fn two_regions() -> [u8; 125] {
     bytes
 }
 
-/// The edits of region 1 of that log.
+/// The edits of region 1 of that log, in a file of version 2 and number 2.
 fn edits_of_one() -> [u8; 71] {
     let mut bytes = [0; 71];
     bytes.copy_from_slice(ONE_PUT_LOG);
+    bytes[7] = 2;
     bytes[15] = 2;
     bytes
 }

@@ -17,4 +17,6 @@ mod texts;
 #[cfg(test)]
 mod unsound;
 #[cfg(test)]
+mod versions;
+#[cfg(test)]
 mod worked;

@@ -8,6 +8,7 @@ use crate::files::{File, assert_files, disk_of, name_of};
 use crate::opened::{Kept, ONE_EDIT, assert_kept, kept_at};
 use crate::texts::{LOG_1, LOG_2, OTHER_LOG_2, STORE_OF_1, STORE_OF_2};
 use crate::unsound::{OTHER_KIND, TOO_GREAT};
+use crate::versions::OF_BOTH_VERSIONS;
 use crate::worked::WORKED;
 use disk_fakes::MemDisk;
 use disk_images::NameKind;
@@ -102,7 +103,7 @@ fn refusal_of(alloc: Global, disk: &mut MemDisk, region: u32) -> Result<SplitRef
 #[test]
 fn split_and_each_region_replayed(rt: HostRuntime) -> Result<(), TestFail> {
     let alloc = rt.alloc();
-    for (files, want) in WORKED {
+    for (files, want) in WORKED.iter().chain(&OF_BOTH_VERSIONS) {
         let mut disk = disk_of(alloc, files, &[])?;
         split_whole(alloc, &mut disk)?;
         assert_all_replay(&rt, alloc, &mut disk, want.regions)?;

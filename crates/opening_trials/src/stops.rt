@@ -8,6 +8,7 @@ ghost use Rattle.disk_fakes.specs.Views.{view_of};
 use crate::files::{File, crash_at, disk_of};
 use crate::opened::{Kept, ONE_EDIT, assert_opens_again};
 use crate::replays::split_whole;
+use crate::versions::{FORMER, FOUR_EDITS, MIXED, THREE_EDITS};
 use crate::worked::{ALL_FLUSHED, BETWEEN_TWO_EDITS_FILES, STORED_AND_LOGGED, TWO_EDITS};
 use disk_fakes::{CallKind, Fail, MemDisk};
 use found_files::SplitRefusal;
@@ -34,7 +35,7 @@ struct Trial {
     regions: &'static [Kept],
 }
 
-const TRIALS: [Trial; 7] = [
+const TRIALS: [Trial; 9] = [
     Trial {
         files: BETWEEN_TWO_EDITS_FILES,
         step: Step::Open,
@@ -69,6 +70,16 @@ const TRIALS: [Trial; 7] = [
         files: ALL_FLUSHED,
         step: Step::Replay(64),
         regions: &[ONE_EDIT],
+    },
+    Trial {
+        files: FORMER,
+        step: Step::Open,
+        regions: &[THREE_EDITS],
+    },
+    Trial {
+        files: MIXED,
+        step: Step::Replay(1),
+        regions: &[FOUR_EDITS],
     },
 ];
 

@@ -12,21 +12,28 @@ use std::test::Fail as TestFail;
 /// The least number of a name that is too great.
 pub(crate) const TOO_GREAT: u64 = 0x4000_0000_0000_0001;
 
-/// A header of version 2.
+/// A header of version 3.
 const OTHER_VERSION: &[u8] = &[
-    b'H', b'W', b'L', b'1', 0, 0, 0, 2, 0, 0, 0, 0, 0, 0, 0, 1, 0, 0,
+    b'H', b'W', b'L', b'1', 0, 0, 0, 3, 0, 0, 0, 0, 0, 0, 0, 1, 0, 0,
 ];
 
-/// A frame of kind 3.
+/// A frame of kind 4.
 pub(crate) const OTHER_KIND: &[u8] = &[
-    b'H', b'W', b'L', b'1', 0, 0, 0, 1, 0, 0, 0, 0, 0, 0, 0, 1, 0xA5, 3, 0, 0, 0, 0,
+    b'H', b'W', b'L', b'1', 0, 0, 0, 2, 0, 0, 0, 0, 0, 0, 0, 1, 0xA5, 4, 0, 0, 0, 0,
+];
+
+/// Edit 1 of region 1 with tags, of a named table, in a log of version 1.
+const TAGGED_IN_1: &[u8] = &[
+    b'H', b'W', b'L', b'1', 0, 0, 0, 1, 0, 0, 0, 0, 0, 0, 0, 1, 0xA5, 3, 0, 0, 0, 0x36, 0, 0, 0, 1,
+    0, 0, 0, 0, 0, 0, 0, 1, 0, 0, 0, 0, 0, 0, 3, 0xE8, 1, b't', 0, 0, 0, 1, 0, 0, 0, 0x0F, 0, 0, 0,
+    1, 0, 1, b'r', 1, b'f', b'q', 0, 0, 0, 0, 0, 0, 0, 1, 4, b'v', 0, 2, b'a', b'b', 0,
 ];
 
 /// A store that begins with other letters.
-const OTHER_LETTERS: &[u8] = &[0xA5, b'H', b'W', b'S', b'2', 0];
+const OTHER_LETTERS: &[u8] = &[0xA5, b'H', b'W', b'S', b'3', 0];
 
 /// A file, and the place where it is damaged.
-const ONE_FILE: [(File, u64); 13] = [
+const ONE_FILE: [(File, u64); 14] = [
     ((NameKind::Log, 0, TOO_GREAT, LOG_1), 0),
     ((NameKind::Old, 0, TOO_GREAT, LOG_1), 0),
     ((NameKind::Store, 1, TOO_GREAT, STORE_OF_1), 0),
@@ -38,6 +45,7 @@ const ONE_FILE: [(File, u64); 13] = [
     ((NameKind::Log, 0, 1, OTHER_VERSION), 0),
     ((NameKind::Log, 0, 2, LOG_1), 0),
     ((NameKind::Log, 0, 1, OTHER_KIND), 16),
+    ((NameKind::Log, 0, 1, TAGGED_IN_1), 16),
     ((NameKind::Edits, 2, 1, LOG_1), 16),
     ((NameKind::Store, 1, 1, OTHER_LETTERS), 1),
 ];

@@ -6,6 +6,7 @@ use crate::texts::{
     LOG_1, LOG_2, OTHER_LOG_2, STORE_OF_1, STORE_OF_2, STORE_OF_EDIT_2, TWO_EDITS_LOG_1,
     TWO_REGIONS_LOG_1,
 };
+use crate::versions::OF_BOTH_VERSIONS;
 use disk_images::NameKind;
 use found_files::{Damage, SplitRefusal};
 use std::test::Fail as TestFail;
@@ -95,10 +96,10 @@ const TWO_THAT_DIFFER: [File; 2] = [
 #[test]
 fn opened_and_opened_again(rt: HostRuntime) -> Result<(), TestFail> {
     let alloc = rt.alloc();
-    for (files, want) in WORKED {
+    for (files, want) in WORKED.iter().chain(&OF_BOTH_VERSIONS) {
         let mut disk = disk_of(alloc, files, &[])?;
-        assert_opens(&rt, alloc, &mut disk, &want)?;
-        assert_opens(&rt, alloc, &mut disk, &want)?;
+        assert_opens(&rt, alloc, &mut disk, want)?;
+        assert_opens(&rt, alloc, &mut disk, want)?;
     }
     Ok(())
 }

@@ -18,19 +18,17 @@ pub(crate) struct Ended<D> {
     pub(crate) text: String,
 }
 
-/// A call of the program where reads and writes of these numbers fail.
-pub(crate) fn call<R: Threads + Wait + Sync + AllocGlobal, D: Disk + Send + Drop, G: Gate + Sync>(
+/// A call of the program with this word.
+fn call<R: Threads + Wait + Sync + AllocGlobal, D: Disk + Send + Drop, G: Gate + Sync>(
     rt: &R,
     word: &str,
     script: &str,
     disk: D,
     gate: &G,
-    reads: &[u64],
-    writes: &[u64],
 ) -> Result<Ended<D>, TestFail> {
     let alloc = rt.alloc();
-    let mut source = MemSource::new(alloc, script.as_bytes(), reads)?;
-    let mut out = MemSink::new(alloc, writes)?;
+    let mut source = MemSource::new(alloc, script.as_bytes(), &[])?;
+    let mut out = MemSink::new(alloc, &[])?;
     let outcome = run(rt, alloc, &[word], &mut source, disk, &mut out, gate);
     Ok(Ended {
         status: outcome.status,
@@ -45,7 +43,7 @@ pub(crate) fn run_past<
     D: Disk + Send + Drop,
     G: Gate + Sync,
 >(rt: &R, script: &str, disk: D, gate: &G) -> Result<Ended<D>, TestFail> {
-    call(rt, "run", script, disk, gate, &[], &[])
+    call(rt, "run", script, disk, gate)
 }
 
 /// A run of a script whose handlers nobody holds.
@@ -62,7 +60,7 @@ pub(crate) fn recover<R: Threads + Wait + Sync + AllocGlobal>(
     rt: &R,
     disk: MemDisk,
 ) -> Result<Ended<MemDisk>, TestFail> {
-    call(rt, "recover", "", disk, &FreeGate, &[], &[])
+    call(rt, "recover", "", disk, &FreeGate)
 }
 
 /// Asserts that the output has each of these lines.

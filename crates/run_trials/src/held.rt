@@ -2,7 +2,7 @@
 
 use crate::bench::{assert_lines, has_line, run_past};
 use crate::disks::empty_disk;
-use crate::gates::{DiskGate, MeetingGate, SyncGate};
+use crate::gates::{DiskGate, MeetingGate, SyncGate, TurnGate};
 use disk_fakes::WatchDisk;
 use load_run::Status;
 use std::sync::Arc;
@@ -91,6 +91,35 @@ fn second_flush_meets_first(rt: HostRuntime) -> Result<(), TestFail> {
     assert_eq!(rt; gate.vain(), 0);
     assert_eq!(rt; ran.status, Status::Done);
     let lines = ["reply 1 2 flush ok 1", "reply 2 1 flush busy 1 2", "end 0"];
+    assert_lines(&rt, ran.text.as_str(), &lines);
+    Ok(())
+}
+
+const FLUSHED_TWICE: &str = "time 1000
+regions 1
+handlers 2
+put 1 1 sync 1
+cell r f q 1 put v
+put 1 1 sync 1
+cell r f q 1 put v
+flush 1 1
+flush 1 1
+roll 1
+flush 2 1
+";
+
+// The second handler is held until both flushes of the first one are behind it.
+#[test]
+fn another_handlers_flush_finds_nothing(rt: HostRuntime) -> Result<(), TestFail> {
+    let gate = TurnGate::new(5);
+    let ran = run_past(&rt, FLUSHED_TWICE, empty_disk(rt.alloc(), &[])?, &gate)?;
+    assert_eq!(rt; gate.vain(), 0);
+    assert_eq!(rt; ran.status, Status::Done);
+    let lines = [
+        "reply 1 3 flush ok 2",
+        "reply 1 4 flush nothing 2",
+        "reply 2 1 flush nothing 2",
+    ];
     assert_lines(&rt, ran.text.as_str(), &lines);
     Ok(())
 }

@@ -1,6 +1,6 @@
-//! Trials of whole runs on disks in memory: what a script's handlers are answered and what the disk has then, faults of
-//! each disk call, crashes at each moment, handlers that are held, and many scripts whose reports are judged. A library of
-//! tests alone, at the top, so that no crate waits for it.
+//! Trials of whole runs on disks in memory: faults of each disk call, crashes at each moment, handlers that are held, and many scripts
+//! whose reports are judged. What fixed scripts print stands in the rows. A library of tests alone, at the top, so that no crate waits
+//! for it.
 #![tactic(auto)]
 
 #[cfg(test)]
@@ -20,10 +20,8 @@ mod many;
 #[cfg(test)]
 mod plans;
 #[cfg(test)]
+mod prefixes;
+#[cfg(test)]
 mod report;
 #[cfg(test)]
-mod stores;
-#[cfg(test)]
 mod sweeps;
-#[cfg(test)]
-mod worked;

@@ -33,30 +33,6 @@ pub(crate) fn journal_last(report: &str, region: u64) -> u64 {
     last
 }
 
-/// The number up to which a reply line says that its region is durable, where its put was one that waits: 0 if it doesn't.
-fn receipt(line: &str) -> u64 {
-    let call = word(line, 3);
-    let how = word(line, 4);
-    let is_put = call == "put" && (how == "ok" || how == "memory");
-    let is_flush = call == "flush" && how == "ok";
-    if is_put || is_flush {
-        number(line, 5)
-    } else {
-        0
-    }
-}
-
-/// The greatest number that a handler was told is durable.
-pub(crate) fn receipted(report: &str, handler: u64) -> u64 {
-    let mut most: u64 = 0;
-    for line in report.lines() {
-        if word(line, 0) == "reply" && number(line, 1) == handler {
-            most = most.max(receipt(line));
-        }
-    }
-    most
-}
-
 /// The last number and the count of cells that `recover` printed of a region.
 pub(crate) fn recovered(text: &str, region: u64) -> (u64, u64) {
     for line in text.lines() {

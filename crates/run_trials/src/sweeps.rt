@@ -1,10 +1,10 @@
-//! A fault of each disk call, and a crash at each moment, of one script: its handlers 1 and 2 put into the regions 1 and 2,
-//! each into one alone.
+//! A fault of each disk call, and a crash at each moment, of one script: what is found again are of each region the cells of its first
+//! edits, with those that were receipted among them.
 
 use crate::bench::{Ended, recover, run_free};
 use crate::disks::{crash_at, empty_disk};
-use crate::report::{journal_last, receipted, recovered};
-use crate::worked::TWO_HANDLERS;
+use crate::prefixes::{SCANS, SCRIPT, durable, shown};
+use crate::report::journal_last;
 use disk_fakes::{CallKind, Fail, MemDisk};
 use load_run::Status;
 use std::process::Abort;
@@ -12,8 +12,27 @@ use std::sync::Wait;
 use std::test::Fail as TestFail;
 use std::thread::Threads;
 
-/// Asserts that a crash at this moment leaves of each region what recovers to at least its receipted number, where a
-/// receipt had come by then, and to at most the last one of its journal.
+/// Recovers what a crash at this moment leaves, and shows it: up to which number each region stands. Its cells are those of its edits up
+/// to that one, and no other.
+fn found_at<R: Threads + Wait + Sync + AllocGlobal + Abort>(
+    rt: &R,
+    disk: &MemDisk,
+    moment: u64,
+    choice: u64,
+) -> Result<(u64, u64), TestFail> {
+    let image = crash_at(rt.alloc(), disk, moment, choice)?;
+    let again = recover(rt, image)?;
+    let seen = run_free(rt, SCANS, again.disk)?;
+    let text = seen.text.as_str();
+    let (first, second) = (journal_last(text, 1), journal_last(text, 2));
+    let wanted = shown(rt.alloc(), first, second)?;
+    assert_eq!(rt; text, wanted.as_str(), "moment {moment} choice {choice}");
+    assert_eq!(rt; (again.status, seen.status), (Status::Done, Status::Done));
+    Ok((first, second))
+}
+
+/// Asserts that a crash at this moment leaves of each region the cells of its first edits: at least those up to its receipted number,
+/// where a receipt had come by then, and none that isn't in its journal.
 fn assert_stop<R: Threads + Wait + Sync + AllocGlobal + Abort>(
     rt: &R,
     ran: &Ended<MemDisk>,
@@ -21,21 +40,10 @@ fn assert_stop<R: Threads + Wait + Sync + AllocGlobal + Abort>(
     choice: u64,
     receipts: bool,
 ) -> Result<(), TestFail> {
-    let image = crash_at(rt.alloc(), &ran.disk, moment, choice)?;
-    let again = recover(rt, image)?;
-    assert_eq!(rt;
-        again.status,
-        Status::Done,
-        "moment {moment} choice {choice}"
-    );
+    let (first, second) = found_at(rt, &ran.disk, moment, choice)?;
     let report = ran.text.as_str();
-    for region in 1..3 {
-        let (last, _) = recovered(again.text.as_str(), region);
-        let least = if receipts {
-            receipted(report, region)
-        } else {
-            0
-        };
+    for (region, last) in [(1, first), (2, second)] {
+        let least = if receipts { durable(report, region) } else { 0 };
         assert!(rt;
             least <= last && last <= journal_last(report, region),
             "moment {moment} choice {choice}: {last} in {report}"
@@ -51,7 +59,7 @@ fn fails_once<R: Threads + Wait + Sync + AllocGlobal + Abort>(
     nth: u64,
 ) -> Result<bool, TestFail> {
     let disk = empty_disk(rt.alloc(), &[Fail { call, nth }])?;
-    let ran = run_free(rt, TWO_HANDLERS, disk)?;
+    let ran = run_free(rt, SCRIPT, disk)?;
     let failed = ran.disk.calls(call) >= nth;
     let status = if failed {
         Status::DiskFault
@@ -104,7 +112,7 @@ fn fails_everywhere(rt: HostRuntime) -> Result<(), TestFail> {
 
 #[test]
 fn stops_everywhere(rt: HostRuntime) -> Result<(), TestFail> {
-    let ran = run_free(&rt, TWO_HANDLERS, empty_disk(rt.alloc(), &[])?)?;
+    let ran = run_free(&rt, SCRIPT, empty_disk(rt.alloc(), &[])?)?;
     assert_eq!(rt; ran.status, Status::Done);
     let clock = ran.disk.clock();
     assert!(rt; clock < 1_000);
@@ -113,5 +121,6 @@ fn stops_everywhere(rt: HostRuntime) -> Result<(), TestFail> {
             assert_stop(&rt, &ran, moment, choice, moment == clock)?;
         }
     }
+    assert_eq!(rt; found_at(&rt, &ran.disk, clock, 0)?, (3, 3));
     Ok(())
 }

@@ -78,7 +78,7 @@ fn put(
     Ok(())
 }
 
-/// Puts the cells again, and shows them. An error is want of memory, or a call that isn't the next one, which no run
+/// Puts the cells again, and shows them. An error is out of memory, or a call that isn't the next one, which no run
 /// shows.
 pub(crate) fn show_next<N: Naming, W: Wait + Drop>(
     region: Region<N, W>,
