@@ -61,7 +61,7 @@ among_regions o right a is = asked_among (made_script o) a (made_right o right).
 
 spent_put : (call : Call) (answer : Answer) → IsAnswerTo call answer → IsSpent answer → (r : ℕ) × (sync : Bool) × (batch : Batch) × (n : ℕ) × (call ≡ Put r sync batch) × (answer ≡ PutSpent n)
 spent_put (Put r sync batch) (PutSpent n) fits spent = (r, sync, batch, n, refl, refl)
-spent_put (Scan r from to) (PutSpent n) fits spent = absurd cc
+spent_put (Scan view r from to) (PutSpent n) fits spent = absurd cc
 spent_put (Flush r) (PutSpent n) fits spent = absurd cc
 spent_put Roll (PutSpent n) fits spent = absurd cc
 spent_put call answer fits spent = absurd spent

@@ -24,7 +24,7 @@ use Rattle.load_model.proofs.Cells.{cells_counted}
 
 abbrev pub HasOneCell : Call → Type 0
 HasOneCell (Put region sync batch) = length batch.cells ≡ 1
-HasOneCell (Scan region from to) = Unit {0}
+HasOneCell (Scan view region from to) = Unit {0}
 HasOneCell (Flush region) = Unit {0}
 HasOneCell Roll = Unit {0}
 

@@ -100,13 +100,13 @@ tally_length p (a ∷ xs) = elim (p a.call) as (λ b. cond b 1 0 + tally p xs �
 -- the call is a put into the region
 abbrev pub puts_on : ℕ → Call → Bool
 puts_on r (Put region sync batch) = region == r
-puts_on r (Scan region from to) = false
+puts_on r (Scan view region from to) = false
 puts_on r (Flush region) = false
 puts_on r Roll = false
 
 one_call : (n : ℕ) (c : Call) → IsAmong n c → sum_over (λ r. cond (puts_on r c) 1 0) 1 n ≡ cond (is_put c) 1 0
 one_call n (Put region sync batch) among = sum_one region 1 n among.0 (omega (arith, among.1))
-one_call n (Scan region from to) among = sum_zeros 1 n
+one_call n (Scan view region from to) among = sum_zeros 1 n
 one_call n (Flush region) among = sum_zeros 1 n
 one_call n Roll among = sum_zeros 1 n
 
@@ -126,7 +126,7 @@ none_above n r (a ∷ xs) above among =
   where
     not_here : (c : Call) → IsAmong n c → ◌≡◌ {A = ℕ} (cond (puts_on r c) 1 0) 0
     not_here (Put region sync batch) within = ap (λ b. cond b 1 0) (ne_eqb region r (λ is. omega (arith, is, within.1, above)))
-    not_here (Scan region from to) within = refl
+    not_here (Scan view region from to) within = refl
     not_here (Flush region) within = refl
     not_here Roll within = refl
 
@@ -137,7 +137,7 @@ puts_there r (Put region sync batch) is = elim (cases_eq region r) [
   | inl same ↦ (sync, batch, ap (λ q. Put q sync batch) same)
   | inr other ↦ let no : true ≡ false = sym is ∙ ne_eqb region r other in absurd cc
 ]
-puts_there r (Scan region from to) is = absurd cc
+puts_there r (Scan view region from to) is = absurd cc
 puts_there r (Flush region) is = absurd cc
 puts_there r Roll is = absurd cc
 

@@ -26,9 +26,9 @@ module _ (r : ℕ) (base : Base) (edits : List Edit) (replies : List Reply) (jou
         subst (Contains (history_from r replies base.last ps)) one p.1
     | inr scan ↦
         let call = scan_of r x.call has.position scan.0 has.on (subst (IsAnswerTo x.call) scan.1 (law.answers x is)) in
-        let seen = law.scans x call.0 call.1 has.position scan.0 is call.2 scan.1 in
+        let seen = law.scans x call.0 call.1 call.2 has.position scan.0 is call.3 scan.1 in
         scan_is_in r replies base.last has.position ps x seen.0 (omega (arith, seen.1, length_made replies edits ps made)) is
-        record { from = call.0; to = call.1; call = call.2; cells = scan.0; answer = scan.1 }
+        record { view = call.0; from = call.1; to = call.2; call = call.3; cells = scan.0; answer = scan.1 }
   ]
 
   pub history_of : (history : List Reply) × IsHistory r base edits replies history

@@ -5,7 +5,7 @@ use Rattle.cell_model.specs.Order.{NumberedCell}
 use Rattle.cell_model.specs.Batch.{batch_of}
 use Rattle.cell_model.specs.Cell.{Cell}
 use Rattle.region_model.specs.Journal.{Base, Edit, Done, last_of}
-use Rattle.region_model.specs.Calls.{Put, Scan, PutOk, Scanned, Reply}
+use Rattle.region_model.specs.Calls.{Put, Scan, Raw, PutOk, Scanned, Reply}
 use Rattle.region_model.specs.Lawful.{number_of}
 use Rattle.region_model.specs.OneThread.{Step, Puts, Scans, Run}
 use Rattle.one_thread.specs.History.{ArePlaced, IsHistory}
@@ -29,7 +29,7 @@ answers r base old new x (Puts e made region number is) =
       read = λ p cells answer. absurd (not_both x.answer e.entry.number p cells made.number answer);
       grown = omega (arith, long);
     }
-answers r base old new x (Scans from to call answer is) =
+answers r base old new x (Scans view from to call answer is) =
     let long : last_of base.last new ≡ last_of base.last old = ap (last_of base.last) is in
     record {
       drew = λ n told. absurd (not_both x.answer n (last_of base.last old) _ told answer);
@@ -73,7 +73,7 @@ abbrev puts : Reply
 puts = record { handler = 1; number = 1; call = Put 1 true (batch_of (cell ∷ [])); answer = PutOk 1 }
 
 abbrev sees_nothing : Reply
-sees_nothing = record { handler = 1; number = 2; call = Scan 1 [] []; answer = Scanned 0 [] }
+sees_nothing = record { handler = 1; number = 2; call = Scan Raw 1 [] []; answer = Scanned 0 [] }
 
 pub older_than_own_put : (history : List Reply) → IsHistory 1 base (first ∷ []) (puts ∷ sees_nothing ∷ []) history → ⊥
 older_than_own_put history h =

@@ -2,7 +2,7 @@
 use Rattle.std.proofs.Common.{◌≡◌, ℕ, ◌==◌, ◌&&◌, ◌⊎◌, Bool, true, false, List, filter, Contains, Some, None, refl, sym, ap, ◌∙◌, inl, inr}
 use Rattle.std.proofs.lemmas.Bool.{eqb-true, eq-eqb, and_parts, and_from}
 use Rattle.cell_model.specs.Order.{NumberedCell}
-use Rattle.region_model.specs.Calls.{Call, Put, Scan, Flush, Roll, Answer, PutOk, PutMemory, PutFault, PutSpent, Scanned, ScanMemory, FlushOk, FlushNothing, FlushBusy, FlushFault, FlushMemory, RollOk, RollNothing, RollFault, RollMemory, Reply, IsAnswerTo}
+use Rattle.region_model.specs.Calls.{Call, Put, Scan, Flush, Roll, Answer, PutOk, PutMemory, PutFault, PutSpent, Scanned, ScanMemory, FlushOk, FlushNothing, FlushBusy, FlushFault, FlushMemory, RollOk, RollNothing, RollFault, RollMemory, Reply, IsAnswerTo, View}
 use Rattle.region_model.specs.Lawful.{IsOn, place_of, number_of}
 use Rattle.one_thread.specs.History.{position_of}
 use Rattle.one_thread.proofs.Lists.{filter_kept, filter_passed, filter_has}
@@ -88,7 +88,7 @@ not_both a n p cells number scan = let none : None ≡ Some n = sym (ap number_o
 -- the call is a scan of the region
 abbrev pub is_scan_on : ℕ → Call → Bool
 is_scan_on r (Put region sync cells) = false
-is_scan_on r (Scan region from to) = region == r
+is_scan_on r (Scan view region from to) = region == r
 is_scan_on r (Flush region) = false
 is_scan_on r Roll = false
 
@@ -101,9 +101,9 @@ is_at p _ = false
 abbrev pub scans_at : ℕ → ℕ → List Reply → List Reply
 scans_at r p replies = filter (λ (x : Reply). is_scan_on r x.call && is_at p x.answer) replies
 
-scan_there : (r : ℕ) (c : Call) → is_scan_on r c ≡ true → (from : List ℕ) × (to : List ℕ) × (c ≡ Scan r from to)
+scan_there : (r : ℕ) (c : Call) → is_scan_on r c ≡ true → (view : View) × (from : List ℕ) × (to : List ℕ) × (c ≡ Scan view r from to)
 scan_there r (Put region sync cells) e = absurd cc
-scan_there r (Scan region from to) e = (from, to, ap (λ q. Scan q from to) (eqb-true region r e))
+scan_there r (Scan view region from to) e = (view, from, to, ap (λ q. Scan view q from to) (eqb-true region r e))
 scan_there r (Flush region) e = absurd cc
 scan_there r Roll e = absurd cc
 
@@ -126,9 +126,10 @@ answer_there p RollMemory e = absurd cc
 
 -- a scan of the region that read at this point
 pub record IsScanAt (r p : ℕ) (reply : Reply) : Type 0 where
+  pub view : View
   pub from : List ℕ
   pub to : List ℕ
-  pub call : reply.call ≡ Scan r from to
+  pub call : reply.call ≡ Scan view r from to
   pub cells : List NumberedCell
   pub answer : reply.answer ≡ Scanned p cells
 
@@ -137,7 +138,7 @@ is_scan_in r p replies x is =
     let both = and_parts (is_scan_on r x.call) (is_at p x.answer) (filter_passed (λ (y : Reply). is_scan_on r y.call && is_at p y.answer) replies x is) in
     let call = scan_there r x.call both.0 in
     let answer = answer_there p x.answer both.1 in
-    record { from = call.0; to = call.1; call = call.2; cells = answer.0; answer = answer.1 }
+    record { view = call.0; from = call.1; to = call.2; call = call.3; cells = answer.0; answer = answer.1 }
 
 pub is_reply : (r p : ℕ) (replies : List Reply) (x : Reply) → Contains (scans_at r p replies) x → Contains replies x
 is_reply r p replies x is = filter_kept (λ (y : Reply). is_scan_on r y.call && is_at p y.answer) replies x is
@@ -148,8 +149,8 @@ has_scan r p replies x is scan =
     (and_from (is_scan_on r x.call) (is_at p x.answer) (ap (is_scan_on r) scan.call ∙ eq-eqb r r refl) (ap (is_at p) scan.answer ∙ eq-eqb p p refl))
 
 -- a call of the region that was answered with cells is a scan of it
-pub scan_of : (r : ℕ) (c : Call) (p : ℕ) (cells : List NumberedCell) → IsOn r c → IsAnswerTo c (Scanned p cells) → (from : List ℕ) × (to : List ℕ) × (c ≡ Scan r from to)
+pub scan_of : (r : ℕ) (c : Call) (p : ℕ) (cells : List NumberedCell) → IsOn r c → IsAnswerTo c (Scanned p cells) → (view : View) × (from : List ℕ) × (to : List ℕ) × (c ≡ Scan view r from to)
 scan_of r (Put region sync cs) p cells on answers = absurd cc
-scan_of r (Scan region from to) p cells on answers = (from, to, ap (λ q. Scan q from to) on)
+scan_of r (Scan view region from to) p cells on answers = (view, from, to, ap (λ q. Scan view q from to) on)
 scan_of r (Flush region) p cells on answers = absurd cc
 scan_of r Roll p cells on answers = absurd on

@@ -5,7 +5,7 @@ use Rattle.cell_model.specs.Batch.{batch_of}
 use Rattle.cell_model.specs.Cell.{Cell}
 use Rattle.cell_model.specs.Order.{NumberedCell}
 use Rattle.region_model.specs.Journal.{Base, Edit, Outcome, Done, Failed, last_of, visible, is_in_range}
-use Rattle.region_model.specs.Calls.{Put, Scan, PutOk, PutFault, Scanned, Reply}
+use Rattle.region_model.specs.Calls.{Put, Scan, Raw, PutOk, PutFault, Scanned, Reply}
 use Rattle.region_model.specs.Lawful.{IsEditOf}
 use Rattle.region_model.specs.OneThread.{Step, Puts, Scans, Run}
 use Rattle.region_model.proofs.Rows.{from_empty}
@@ -39,7 +39,7 @@ abbrev puts_second : Reply
 puts_second = record { handler = 1; number = 1; call = Put 1 true (batch_of (cell ∷ [])); answer = PutOk 2 }
 
 abbrev sees_second : Reply
-sees_second = record { handler = 1; number = 2; call = Scan 1 [] []; answer = Scanned 2 both }
+sees_second = record { handler = 1; number = 2; call = Scan Raw 1 [] []; answer = Scanned 2 both }
 
 abbrev puts_first : Reply
 puts_first = record { handler = 2; number = 1; call = Put 1 true (batch_of (cell ∷ [])); answer = PutOk 1 }
@@ -48,7 +48,7 @@ abbrev faults_third : Reply
 faults_third = record { handler = 2; number = 2; call = Put 1 true (batch_of (cell ∷ [])); answer = PutFault (Some 3) }
 
 abbrev sees_third : Reply
-sees_third = record { handler = 2; number = 3; call = Scan 1 [] []; answer = Scanned 3 both }
+sees_third = record { handler = 2; number = 3; call = Scan Raw 1 [] []; answer = Scanned 3 both }
 
 abbrev replies : List Reply
 replies = puts_second ∷ sees_second ∷ puts_first ∷ faults_third ∷ sees_third ∷ []
@@ -80,13 +80,13 @@ one_thread_answers_so = (
     made puts_second second record { handler = refl; call = refl; sync = true; put = refl; number = refl; outcome = refl } refl (first ∷ []) refl,
     (
       first ∷ second ∷ [],
-      Scans [] [] refl (ap (Scanned 2) seen) refl,
+      Scans Raw [] [] refl (ap (Scanned 2) seen) refl,
       (
         first ∷ second ∷ third ∷ [],
         made faults_third third record { handler = refl; call = refl; sync = true; put = refl; number = refl; outcome = refl } refl (first ∷ second ∷ []) refl,
         (
           first ∷ second ∷ third ∷ [],
-          Scans [] [] refl (ap (Scanned 3) seen_again) refl,
+          Scans Raw [] [] refl (ap (Scanned 3) seen_again) refl,
           refl,
         ),
       ),
@@ -99,7 +99,7 @@ one_thread_answers_so = (
 -- a scan can't stand before the put whose sequence id it read at
 step_first : (new : List Edit) → Step 1 base [] sees_second new → ⊥
 step_first new (Puts e made region number is) = absurd cc
-step_first new (Scans from to call answer is) = absurd cc
+step_first new (Scans view from to call answer is) = absurd cc
 
 pub not_before_its_put : (new : List Edit) → Run 1 base [] (sees_second ∷ puts_first ∷ puts_second ∷ []) new → ⊥
 not_before_its_put new run = step_first run.0 run.1

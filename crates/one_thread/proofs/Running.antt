@@ -2,7 +2,7 @@
 use Rattle.std.proofs.Common.{◌≡◌, ℕ, ◌+◌, List, [], ◌∷◌, ◌++◌, Contains, refl, sym, ap, ◌∙◌, subst, arith, append_assoc, append-nil, length-append}
 use Rattle.std.proofs.lemmas.List.Elements.{Contains-append_right}
 use Rattle.region_model.specs.Journal.{Base, Edit, Follows, IsJournal, last_of, visible}
-use Rattle.region_model.specs.Calls.{Scanned, Reply}
+use Rattle.region_model.specs.Calls.{Scanned, Reply, viewed}
 use Rattle.region_model.specs.Lawful.{IsEditOf, IsLawful}
 use Rattle.region_model.specs.OneThread.{Step, Puts, Scans, Run}
 use Rattle.one_thread.proofs.Lists.{contains_cons}
@@ -25,10 +25,10 @@ module _ (r : ℕ) (base : Base) (edits : List Edit) (replies : List Reply) (jou
   scan_step : (old rest : List Edit) → edits ≡ old ++ rest → (x : Reply) → Contains (scans_at r (last_of base.last old) replies) x → Step r base old x old
   scan_step old rest parts x is =
       let scan = is_scan_in r (last_of base.last old) replies x is in
-      let seen = law.scans x scan.from scan.to (last_of base.last old) scan.cells (is_reply r (last_of base.last old) replies x is) scan.call scan.answer in
-      let here = seen.2 ∙ ap (λ (es : List Edit). visible base.content es (last_of base.last old) scan.from scan.to) parts
-      ∙ same_view base old rest scan.from scan.to (subst (λ (es : List Edit). Follows base.last es) parts journal.numbers) in
-      Scans scan.from scan.to scan.call (scan.answer ∙ ap (λ cells. Scanned (last_of base.last old) cells) here) refl
+      let seen = law.scans x scan.view scan.from scan.to (last_of base.last old) scan.cells (is_reply r (last_of base.last old) replies x is) scan.call scan.answer in
+      let here = seen.2 ∙ ap (λ (es : List Edit). viewed scan.view (visible base.content es (last_of base.last old) scan.from scan.to)) parts
+      ∙ ap (viewed scan.view) (same_view base old rest scan.from scan.to (subst (λ (es : List Edit). Follows base.last es) parts journal.numbers)) in
+      Scans scan.view scan.from scan.to scan.call (scan.answer ∙ ap (λ cells. Scanned (last_of base.last old) cells) here) refl
 
   put_step : (old : List Edit) (e : Edit) (rest : List Edit) (p : Reply) → edits ≡ old ++ e ∷ rest → IsEditOf p e → Step r base old p (old ++ e ∷ [])
   put_step old e rest p parts made =

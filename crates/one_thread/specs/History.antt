@@ -1,4 +1,4 @@
--- Lawful replies as a history of one thread.
+-- Lawful replies as a history of one thread. A get is a scan.
 use Rattle.std.specs.Prelude.{◌≡◌, ◌≢◌, ℕ, ◌<◌, List, [], AllPairs, Contains, Option, Some, None}
 use Rattle.region_model.specs.Journal.{Base, Edit, IsJournal}
 use Rattle.region_model.specs.Calls.{Answer, PutOk, PutMemory, PutFault, Scanned, Reply}

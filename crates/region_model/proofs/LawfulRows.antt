@@ -7,7 +7,7 @@ use Rattle.cell_model.specs.Batch.{batch_of}
 use Rattle.cell_model.specs.Cell.{Cell}
 use Rattle.cell_model.specs.Order.{version_cmp}
 use Rattle.region_model.specs.Journal.{Base, Edit, Outcome, Done, Failed, InCallOrder, IsJournal, visible, is_in_range}
-use Rattle.region_model.specs.Calls.{Put, Scan, Flush, PutOk, PutFault, PutSpent, Scanned, FlushBusy, Reply, IsAnswerTo}
+use Rattle.region_model.specs.Calls.{Put, Scan, Raw, viewed, Flush, PutOk, PutFault, PutSpent, Scanned, FlushBusy, Reply, IsAnswerTo}
 use Rattle.region_model.specs.Lawful.{IsOn, IsLawful, InOrder, KeepsPlaces, StopsAtFault, IsEditOf, number_of, flushed_of}
 use Rattle.region_model.proofs.Rows.{from_empty}
 
@@ -58,8 +58,8 @@ with_a_fault = record {
       (λ a b d p q e. ((λ f. absurd cc), (λ f. absurd cc), (λ f. absurd cc)))
       (λ a b d p q e. ((λ f. absurd cc), (λ f. absurd cc), (λ f. absurd cc)))
       (λ a b d p q e. absurd cc);
-  scans = λ reply from to p cells is. each puts_first faults refused
-      (λ r. r.call ≡ Scan 1 from to → r.answer ≡ Scanned p cells → (0 ≤ p) × (p ≤ 2) × (cells ≡ visible empty (edit 1 1 1 Done ∷ edit 2 1 2 Failed ∷ []) p from to))
+  scans = λ reply view from to p cells is. each puts_first faults refused
+      (λ r. r.call ≡ Scan view 1 from to → r.answer ≡ Scanned p cells → (0 ≤ p) × (p ≤ 2) × (cells ≡ viewed view (visible empty (edit 1 1 1 Done ∷ edit 2 1 2 Failed ∷ []) p from to)))
       (λ e. absurd cc) (λ e. absurd cc) (λ e. absurd cc) reply is;
   puts = λ reply n is. each puts_first faults refused
       (λ r. IsOn 1 r.call → number_of r.answer ≡ Some n → (e : Edit) × Contains (edit 1 1 1 Done ∷ edit 2 1 2 Failed ∷ []) e × (e.entry.number ≡ n) × IsEditOf r e)
@@ -86,7 +86,7 @@ abbrev puts_before : Reply
 puts_before = record { handler = 2; number = 1; call = Put 1 true (batch_of (cell ∷ [])); answer = PutOk 1 }
 
 abbrev sees_both : Reply
-sees_both = record { handler = 2; number = 2; call = Scan 1 [] []; answer = Scanned 2 ((2, cell) ∷ (1, cell) ∷ []) }
+sees_both = record { handler = 2; number = 2; call = Scan Raw 1 [] []; answer = Scanned 2 ((2, cell) ∷ (1, cell) ∷ []) }
 
 abbrev both_edits : List Edit
 both_edits = edit 1 2 1 Done ∷ edit 2 1 1 Done ∷ []
@@ -102,11 +102,11 @@ by_two_handlers = record {
       (λ a b d p q e. let never : 1 ≡ 2 = a in absurd (omega (arith, never)))
       (λ a b d p q e. let never : 1 ≡ 2 = a in absurd (omega (arith, never)))
       (λ a b d p q e. ((λ f. let x : 1 ≡ p = cc in let y : 2 ≡ q = cc in omega arith), (λ f. absurd cc), (λ f. absurd cc)));
-  scans = λ reply from to p cells is. each puts_second puts_before sees_both
-      (λ r. r.call ≡ Scan 1 from to → r.answer ≡ Scanned p cells → (0 ≤ p) × (p ≤ 2) × (cells ≡ visible empty both_edits p from to))
+  scans = λ reply view from to p cells is. each puts_second puts_before sees_both
+      (λ r. r.call ≡ Scan view 1 from to → r.answer ≡ Scanned p cells → (0 ≤ p) × (p ≤ 2) × (cells ≡ viewed view (visible empty both_edits p from to)))
       (λ e. absurd cc) (λ e. absurd cc)
-      (λ e f. let hf : [] ≡ from = cc in let ht : [] ≡ to = cc in let hp : 2 ≡ p = cc in let hc : (2, cell) ∷ (1, cell) ∷ [] ≡ cells = cc in
-      (omega arith, omega arith, sym hc ∙ sym seen ∙ (λ i. visible empty both_edits (hp i) (hf i) (ht i)))) reply is;
+      (λ e f. let hv : Raw ≡ view = cc in let hf : [] ≡ from = cc in let ht : [] ≡ to = cc in let hp : 2 ≡ p = cc in let hc : (2, cell) ∷ (1, cell) ∷ [] ≡ cells = cc in
+      (omega arith, omega arith, sym hc ∙ sym seen ∙ (λ i. viewed (hv i) (visible empty both_edits (hp i) (hf i) (ht i))))) reply is;
   puts = λ reply n is. each puts_second puts_before sees_both
       (λ r. IsOn 1 r.call → number_of r.answer ≡ Some n → (e : Edit) × Contains both_edits e × (e.entry.number ≡ n) × IsEditOf r e)
       (λ o e. (edit 2 1 1 Done, (1, omega arith, refl), cc, record { handler = refl; call = refl; sync = true; put = refl; number = refl; outcome = refl }))

@@ -4,7 +4,7 @@ use Rattle.std.specs.FinMap.{empty}
 use Rattle.cell_model.specs.Batch.{batch_of}
 use Rattle.cell_model.specs.Cell.{Cell}
 use Rattle.region_model.specs.Journal.{Base, Edit, Outcome, Done, Failed, IsJournal, is_in_range}
-use Rattle.region_model.specs.Calls.{Put, Scan, Flush, PutOk, PutFault, PutSpent, Scanned, FlushOk, FlushBusy, Reply}
+use Rattle.region_model.specs.Calls.{Put, Scan, Raw, viewed, Flush, PutOk, PutFault, PutSpent, Scanned, FlushOk, FlushBusy, Reply}
 use Rattle.region_model.specs.Lawful.{IsLawful}
 
 abbrev base : Base
@@ -21,7 +21,7 @@ abbrev puts_ok : ℕ → ℕ → Reply
 puts_ok call n = record { handler = 1; number = call; call = Put 1 true (batch_of (cell ∷ [])); answer = PutOk n }
 
 abbrev scans_at : ℕ → ℕ → Reply
-scans_at call p = record { handler = 1; number = call; call = Scan 1 [] []; answer = Scanned p [] }
+scans_at call p = record { handler = 1; number = call; call = Scan Raw 1 [] []; answer = Scanned p [] }
 
 some_none : (n : ℕ) → Some n ≡ None → ⊥
 some_none n e = absurd cc
@@ -50,7 +50,7 @@ drawn_behind_a_fault law = some_none 2 (law.faults 0 1 faults (omega arith) (ome
 
 -- a scan is past the journal's end
 pub past_the_end : IsLawful 1 base [] (scans_at 1 1 ∷ []) → ⊥
-past_the_end law = let p : 1 ≤ 0 = (law.scans (scans_at 1 1) [] [] 1 [] (0, omega arith, refl) refl refl).1 in absurd (omega arith)
+past_the_end law = let p : 1 ≤ 0 = (law.scans (scans_at 1 1) Raw [] [] 1 [] (0, omega arith, refl) refl refl).1 in absurd (omega arith)
 
 -- a busy flush names its own handler
 abbrev busy_itself : Reply

@@ -1,5 +1,5 @@
 -- The calls of a script stand by handler and then number, and its flushes are listed.
-use Rattle.std.proofs.Common.{◌≡◌, ℕ, zero, suc, ◌+◌, ◌<◌, ◌≤◌, ◌⊎◌, Bool, true, false, List, [], ◌∷◌, map, filter, All, Contains, AllPairs, cond, refl, sym, ap, ◌∙◌, subst, arith, inl, inr, true≢false}
+use Rattle.std.proofs.Common.{◌≡◌, ℕ, zero, suc, ◌+◌, ◌≤◌, Bool, true, false, List, [], ◌∷◌, map, filter, All, Contains, AllPairs, cond, refl, sym, ap, ◌∙◌, subst, arith, inl, inr, true≢false}
 use Rattle.std.proofs.lemmas.Bool.{eq-eqb, ne_eqb, cases_eq}
 use Rattle.std.proofs.lemmas.List.Elements.{Contains-append_cases}
 use Rattle.region_model.specs.Journal.{Caller}
@@ -8,12 +8,8 @@ use Rattle.region_model.specs.Lawful.{InOrder}
 use Rattle.script_model.specs.Calls.{Script, Asked, asked_of, asked_from, asked, asked_by, IsAmong}
 use Rattle.server_model.specs.Closing.{Pairs}
 use Rattle.server_model.proofs.JournalLaws.{pairs_all, pairs_append, filter_has, filter_kept}
-use Rattle.run_model.specs.Closed.{is_flush_of, caller_of, flushes_in}
+use Rattle.run_model.specs.Closed.{is_flush_of, caller_of, flushes_in, Before, AreCallsOn}
 use Rattle.run_model.proofs.Lists.{mapped, map_contains, pairs_through}
-
--- by handler, then number
-abbrev pub Before : Asked → Asked → Type 0
-Before a b = (a.handler < b.handler) ⊎ ((a.handler ≡ b.handler) × (a.number < b.number))
 
 no_member : {A : Type 0} (x : A) → Contains [] x → ⊥
 no_member x is = omega (arith, is.1)
@@ -39,17 +35,24 @@ all_handlers h [] = tt
 all_handlers h (cs ∷ css) = pairs_append Before (asked_of h 1 cs) (asked_from (h + 1) css) (one_handler h 1 cs) (all_handlers (h + 1) css)
     (λ a b is it. inl (omega (arith, (of_handler h 1 cs a is).0, from_handler (h + 1) css b it)))
 
+-- replies to calls in order are in order
+pub ordered_replies : (asks : List Asked) (replies : List Reply) → map asked_by replies ≡ asks → Pairs Before asks → AllPairs InOrder replies
+ordered_replies asks replies calls order = pairs_all InOrder replies (pairs_through asked_by Before replies (subst (Pairs Before) (sym calls) order))
+
+-- all calls of a script
+pub whole_script : (script : Script) → AreCallsOn (λ r. Unit {0}) script (asked script)
+whole_script script = record { part = λ a is. is; order = all_handlers 1 script.handlers; flushes = λ a r on is flush. is }
+
 -- replies to a script's calls are in order
 pub replies_order : (script : Script) (replies : List Reply) → map asked_by replies ≡ asked script → AllPairs InOrder replies
-replies_order script replies calls =
-    pairs_all InOrder replies (pairs_through asked_by Before replies (subst (Pairs Before) (sym calls) (all_handlers 1 script.handlers)))
+replies_order script replies calls = ordered_replies (asked script) replies calls (whole_script script).order
 
 -- ---- flushes
 
 flush_is : (r : ℕ) (call : Call) → is_flush_of r call ≡ true → call ≡ Flush r
 flush_is r (Flush region) is = elim (cases_eq region r) [ inl same ↦ ap Flush same | inr other ↦ absurd (true≢false (sym is ∙ ne_eqb region r other)) ]
 flush_is r (Put region sync batch) is = absurd (true≢false (sym is))
-flush_is r (Scan region from to) is = absurd (true≢false (sym is))
+flush_is r (Scan view region from to) is = absurd (true≢false (sym is))
 flush_is r Roll is = absurd (true≢false (sym is))
 
 is_flush : (r : ℕ) (call : Call) → call ≡ Flush r → is_flush_of r call ≡ true
@@ -72,13 +75,13 @@ filter_true {A} p (y ∷ ys) x is = go (p y) refl (filter_true p ys x) is
     go false e rest is' = rest (subst (λ b. Contains (cond b (y ∷ filter p ys) (filter p ys)) x) e is')
 
 -- what is listed is a flush that was asked for, so it has a reply
-pub listed_reply : (script : Script) (replies : List Reply) (r : ℕ) (c : Caller) → map asked_by replies ≡ asked script → Contains (flushes_in r script) c
+pub listed_reply : {on : ℕ → Type 0} (script : Script) (asks : List Asked) (replies : List Reply) (r : ℕ) (c : Caller) → AreCallsOn on script asks → on r → map asked_by replies ≡ asks → Contains (flushes_in r script) c
     → (x : Reply) × Contains replies x × (x.handler ≡ c.handler) × (x.number ≡ c.call) × (x.call ≡ Flush r)
-listed_reply script replies r c calls is =
+listed_reply script asks replies r c these here calls is =
     let a = mapped caller_of (filter (λ (x : Asked). is_flush_of r x.call) (asked script)) c is in
-    let asks = filter_kept (λ (x : Asked). is_flush_of r x.call) (asked script) a.0 a.1 in
+    let member = filter_kept (λ (x : Asked). is_flush_of r x.call) (asked script) a.0 a.1 in
     let flush = flush_is r a.0.call (filter_true (λ (x : Asked). is_flush_of r x.call) (asked script) a.0 a.1) in
-    let x = mapped asked_by replies a.0 (subst (λ l. Contains l a.0) (sym calls) asks) in (
+    let x = mapped asked_by replies a.0 (subst (λ l. Contains l a.0) (sym calls) (these.flushes a.0 r here member flush)) in (
       x.0,
       x.1,
       ap (λ (y : Asked). y.handler) x.2 ∙ ap (λ (d : Caller). d.handler) a.2,

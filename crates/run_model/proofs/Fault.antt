@@ -14,7 +14,7 @@ use Rattle.log_model.specs.Entry.{Entry}
 use Rattle.log_model.specs.Files.{Files, name_cmp, IsFit, IsSound, IsLogFile, IsLogged, IsLastLog}
 use Rattle.log_model.specs.Recovered.{IsRecovered, IsStored, IsContent, IsLast, FlushesTo, RecoversAlike}
 use Rattle.region_model.specs.Journal.{Edit, Done, InCallOrder, visible, is_in_range}
-use Rattle.region_model.specs.Calls.{Call, Put, Scan, Roll, Answer, PutOk, Scanned, RollFault, Reply}
+use Rattle.region_model.specs.Calls.{Call, Put, Scan, Raw, Roll, Answer, PutOk, Scanned, RollFault, Reply}
 use Rattle.region_model.specs.Crash.{Fits}
 use Rattle.disk_images.specs.Crash.{DiskView}
 use Rattle.script_model.specs.Calls.{Script, IsScript, IsAmong}
@@ -150,7 +150,7 @@ seen_cells = (1, record { row = 114 ∷ []; family = 102 ∷ []; qualifier = 113
 scanned : visible empty ones 1 [] [] ≡ seen_cells
 scanned = ap (λ (es : List (VersionKey × Payload)). filter (is_in_range [] []) (map cell_of es)) (entries-put_cells empty 1 cells ∙ ap (λ es. put_in es 1 cells) entries-empty)
 
-scans : Step naming 1000 (pass 1 ones false) (reply 2 (Scan 1 [] []) (Scanned 1 seen_cells)) (pass 1 ones false)
+scans : Step naming 1000 (pass 1 ones false) (reply 2 (Scan Raw 1 [] []) (Scanned 1 seen_cells)) (pass 1 ones false)
 scans = record {
   handler = refl;
   does = record {
@@ -176,7 +176,7 @@ rolls = record {
 }
 
 abbrev replies : List Reply
-replies = reply 1 (Put 1 false (batch_of cells)) (PutOk 1) ∷ reply 2 (Scan 1 [] []) (Scanned 1 seen_cells) ∷ reply 3 Roll RollFault ∷ []
+replies = reply 1 (Put 1 false (batch_of cells)) (PutOk 1) ∷ reply 2 (Scan Raw 1 [] []) (Scanned 1 seen_cells) ∷ reply 3 Roll RollFault ∷ []
 
 runs : Runs naming 1000 (pass 0 [] false) replies (pass 1 ones true)
 runs = (pass 1 ones false, puts, (pass 1 ones false, scans, (pass 1 ones true, rolls, refl)))
@@ -250,7 +250,7 @@ leaves = record {
 }
 
 abbrev script : Script
-script = record { time = 1000; regions = 1; handlers = (Put 1 false (batch_of cells) ∷ Scan 1 [] [] ∷ Roll ∷ []) ∷ [] }
+script = record { time = 1000; regions = 1; handlers = (Put 1 false (batch_of cells) ∷ Scan Raw 1 [] [] ∷ Roll ∷ []) ∷ [] }
 
 is_script : IsScript script
 is_script = record {
@@ -259,7 +259,7 @@ is_script = record {
   regions_below = omega arith;
   some_handler = omega arith;
   handlers_below = omega arith;
-  calls_among = All-from_recursion (All (IsAmong 1)) script.handlers (All-from_recursion (IsAmong 1) (Put 1 false (batch_of cells) ∷ Scan 1 [] [] ∷ Roll ∷ []) ((omega arith, omega arith), ((omega arith, omega arith), (tt, tt))), tt);
+  calls_among = All-from_recursion (All (IsAmong 1)) script.handlers (All-from_recursion (IsAmong 1) (Put 1 false (batch_of cells) ∷ Scan Raw 1 [] [] ∷ Roll ∷ []) ((omega arith, omega arith), ((omega arith, omega arith), (tt, tt))), tt);
   calls_few = All-from_recursion (λ (calls : List Call). length calls ≤ 16777216) script.handlers (omega arith, tt);
 }
 

@@ -10,7 +10,7 @@ use Rattle.log_model.specs.Recovered.{IsRecovered, IsContent, IsLast, RecoversAl
 use Rattle.region_model.specs.Calls.{Call, Put, Flush, Answer, PutFault, Reply}
 use Rattle.region_model.specs.Lawful.{IsLawful}
 use Rattle.script_model.specs.Report.{report_text}
-use Rattle.script_model.specs.Calls.{Script}
+use Rattle.script_model.specs.Calls.{Script, Asked}
 use Rattle.disk_images.specs.Crash.{DiskView, IsImageNow}
 use Rattle.server_model.specs.Pass.{Pass, Naming}
 use Rattle.server_model.specs.Steps.{Does, Step, Runs}
@@ -19,8 +19,9 @@ use Rattle.server_model.proofs.JournalLaws.{pairs_all, contains_cons}
 use Rattle.server_model.proofs.RepliesLaw.{survives, flush_was_done, RollCovers, rolls_cover, has_pass, kept_of}
 use Rattle.region_model.specs.Crash.{Fits}
 use Rattle.run_model.specs.Headline.{History, report_of, IsOneJournal, Endures, AreDone, IsRolledBehind, FitsStatus, IsHeadline}
-use Rattle.run_model.specs.Closed.{ClosedAt, Closed, FitsFrom, FitsThroughout}
+use Rattle.run_model.specs.Closed.{ClosedAt, ClosedOn, Closed, AreCallsOn, FitsFrom, FitsThroughout}
 use Rattle.run_model.proofs.FromClose.{history_of, same_regions, at_each, lawful_at, one_journal, on_region, base_at}
+use Rattle.run_model.proofs.AskedLaws.{whole_script}
 use Rattle.run_model.proofs.Choices.{each_in}
 use Rattle.std.proofs.Math.Logic.{∥∥₁_map, ∥∥₁_map₂}
 use Rattle.region_model.specs.Calls.{Scan, Roll, PutSpent, IsAnswerTo}
@@ -47,9 +48,9 @@ step_of name time (h ∷ hs) all x is = elim (Contains-append_cases h.replies (r
   | inr later ↦ step_of name time hs all.1 x later
 ]
 
-fault_asked : {script : Script} {found : Files} {left : DiskView} {name : Naming} {hs : List Handled} {xs : List ClosedAt} {broken : Bool} → Closed script found left name hs xs broken
+pub fault_asked : {asks : List Asked} {script : Script} {found : Files} {left : DiskView} {name : Naming} {hs : List Handled} {xs : List ClosedAt} {broken : Bool} → ClosedOn asks script found left name hs xs broken
     → (reply : Reply) (r n : ℕ) (sync : Bool) (batch : Batch) → Contains (replies_of hs) reply → reply.call ≡ Put r sync batch → reply.answer ≡ PutFault (Some n) → sync ≡ true
-fault_asked {script} {found} {left} {name} {hs} c reply r n sync batch is put fault =
+fault_asked {asks} {script} {found} {left} {name} {hs} c reply r n sync batch is put fault =
     let step = step_of name script.time hs c.runs.each reply is in
     let does : Does name script.time (record { handler = reply.handler; call = reply.number }) (Put r sync batch) reply.answer step.0 step.1 =
     subst (λ (call : Call). Does name script.time (record { handler = reply.handler; call = reply.number }) call reply.answer step.0 step.1) put step.2.does in
@@ -57,17 +58,17 @@ fault_asked {script} {found} {left} {name} {hs} c reply r n sync batch is put fa
 
 -- ---- the headline
 
-module _ {script : Script} {found : Files} {left : DiskView} {name : Naming} {hs : List Handled} {xs : List ClosedAt} {broken : Bool} (c : Closed script found left name hs xs broken)
-    (kept : (x : ClosedAt) → Contains xs x → Survives left broken x.region x.it) (left_so : Leaves found left broken script.regions) where
-  endures : (status : ℕ) → (status ≢ 5 → broken ≡ false) → (x : ClosedAt) → Contains xs x → Endures left status (replies_of hs) (history_of x)
+module _ {asks : List Asked} {script : Script} {found : Files} {left : DiskView} {name : Naming} {hs : List Handled} {xs : List ClosedAt} {broken : Bool} (c : ClosedOn asks script found left name hs xs broken)
+    (kept : (x : ClosedAt) → Contains xs x → Survives left broken x.region x.it) (left_so : Leaves found left broken script.regions) {on : ℕ → Type 0} (these : AreCallsOn on script asks) where
+  pub endures : (status : ℕ) → (status ≢ 5 → broken ≡ false) → (x : ClosedAt) → Contains xs x → Endures left status (replies_of hs) (history_of x)
   endures status whole x here = record {
     images = λ J image. let i = survives name script.time x.region hs x.it left broken c.runs (c.regions x here) (kept x here) J image in (i.0, i.1, i.2, (λ no_5. i.3 (whole no_5)));
   }
 
-  are_done : (status : ℕ) → (status ≢ 5 → broken ≡ false) → AreDone left status (replies_of hs)
+  pub are_done : (status : ℕ) → (status ≢ 5 → broken ≡ false) → AreDone left status (replies_of hs)
   are_done status whole = record {
     flushes = λ reply r n is call number.
-        let x = on_region c reply is r (inl call) in
+        let x = on_region c these reply is r (inl call) in
         flush_was_done name script.time r hs x.0.it left broken c.runs (subst (λ k. IsClosedRegion name k (passes_of hs) x.0.it) x.2 (c.regions x.0 x.1)) (subst (λ k. Survives left broken k x.0.it) x.2 (kept x.0 x.1)) reply n is call number;
     rolls = pairs_all _ (replies_of hs) (weaker (replies_of hs) (λ x is. is) (rolls_cover name script.time hs hs (λ h is. is) c.runs));
     archived = λ no_5 log es kind file not_last. left_so.archived (whole no_5) log es file kind not_last;
@@ -78,7 +79,7 @@ module _ {script : Script} {found : Files} {left : DiskView} {name : Naming} {hs
       weaker [] sub p = tt
       weaker (y ∷ ys) sub p = (
         (λ z is r n b J log es e image last file member on.
-            let x = on_region c y (sub y (0, omega arith, refl)) r (inr (true, b.batch, b.put)) in
+            let x = on_region c these y (sub y (0, omega arith, refl)) r (inr (true, b.batch, b.put)) in
             let h = p.0 z is r n b.batch b.handler b.put b.answer b.roll b.rolled in
             let closed = subst (λ k. IsClosedRegion name k (passes_of hs) x.0.it) x.2 (c.regions x.0 x.1) in
             let survives_there = subst (λ k. Survives left broken k x.0.it) x.2 (kept x.0 x.1) in
@@ -86,6 +87,8 @@ module _ {script : Script} {found : Files} {left : DiskView} {name : Naming} {hs
         weaker ys (λ x is. sub x (contains_cons y ys x is)) p.1,
       )
 
+module _ {script : Script} {found : Files} {left : DiskView} {name : Naming} {hs : List Handled} {xs : List ClosedAt} {broken : Bool} (c : Closed script found left name hs xs broken)
+    (kept : (x : ClosedAt) → Contains xs x → Survives left broken x.region x.it) (left_so : Leaves found left broken script.regions) where
   -- the report of these histories and replies is one for which the headline holds
   headline_kept : (before : DiskView) (status : ℕ) → before.files ≡ found → FitsThroughout before left xs → FitsStatus status (replies_of hs) → (status ≢ 5 → broken ≡ false)
       → IsHeadline script before left status (report_text (report_of (map history_of xs) (replies_of hs) status))
@@ -102,14 +105,14 @@ module _ {script : Script} {found : Files} {left : DiskView} {name : Naming} {hs
       content = at_each c (λ h. IsContent (IsRecovered before.files h.region) h.base.content) (λ x is. subst (λ f. IsContent (IsRecovered f x.region) x.it.base.content) (sym same) (base_at c x is).content);
       fault_sync = fault_asked c;
     };
-    journals = at_each c (IsOneJournal script) (one_journal c);
-    lawful = at_each c (λ h. IsLawful h.region h.base h.edits (replies_of hs)) (lawful_at c);
+    journals = at_each c (IsOneJournal script) (λ x is. one_journal c (whole_script script) x is tt);
+    lawful = at_each c (λ h. IsLawful h.region h.base h.edits (replies_of hs)) (λ x is. lawful_at c (whole_script script) x is tt);
     one_thread = at_each c (λ h. (history : List Reply) × IsHistory h.region h.base h.edits (replies_of hs) history)
-        (λ x is. in_one_thread x.region x.it.base x.it.edits (replies_of hs) (one_journal c x is).journal (lawful_at c x is));
-    endures = at_each c (Endures left status (replies_of hs)) (endures status whole);
+        (λ x is. in_one_thread x.region x.it.base x.it.edits (replies_of hs) (one_journal c (whole_script script) x is tt).journal (lawful_at c (whole_script script) x is tt));
+    endures = at_each c (Endures left status (replies_of hs)) (endures c kept left_so (whole_script script) status whole);
     others = λ J r image above. subst (λ f. RecoversAlike f J r) (sym same) (left_so.others J r image above);
     images_sound = λ low J image. left_so.sound J image (subst (λ f. (name : Name) → IsPresent f name → name.number ≤ 2 ^ 61) same low);
-    done = are_done status whole;
+    done = are_done c kept left_so (whole_script script) status whole;
     throughout = ∥∥₁_map moments (λ (s : (start : ℕ) × FitsFrom before left start (λ J. (x : ClosedAt) → Contains xs x → (m : ℕ) × Fits J x.region x.it.base x.it.edits m)). (
       s.0,
       record {
@@ -142,10 +145,10 @@ only_puts {script} {found} {left} {name} {hs} {xs} {broken} c x is spent = of_pu
   where
     of_put : (call : Call) (answer : Answer) → IsAnswerTo call answer → IsSpent answer → (region : ℕ) × (sync : Bool) × (batch : Batch) × (call ≡ Put region sync batch)
     of_put (Put region sync batch) answer fits told = (region, sync, batch, refl)
-    of_put (Scan region from to) (PutSpent n) fits told = absurd cc
+    of_put (Scan view region from to) (PutSpent n) fits told = absurd cc
     of_put (Flush region) (PutSpent n) fits told = absurd cc
     of_put Roll (PutSpent n) fits told = absurd cc
-    of_put (Scan region from to) answer fits told = absurd told
+    of_put (Scan view region from to) answer fits told = absurd told
     of_put (Flush region) answer fits told = absurd told
     of_put Roll answer fits told = absurd told
 

@@ -58,7 +58,7 @@ keeps_base J r base edits m v p f fits low =
 greatest_le : (P : ℕ → Type 0) (m n : ℕ) → IsGreatest P m → IsGreatest P n → m ≤ n
 greatest_le P m n a b = elim a.reached as (λ _. m ≤ n) [ inl there ↦ b.bound m there | inr none ↦ omega (arith, none) ]
 
-one_last : (files : Files) (r m n : ℕ) → IsLast files r m → IsLast files r n → m ≡ n
+pub one_last : (files : Files) (r m n : ℕ) → IsLast files r m → IsLast files r n → m ≡ n
 one_last files r m n a b = omega (arith, greatest_le _ m n a b, greatest_le _ n m b a)
 
 -- Each region of a server stands in the image, or recovers as it did.

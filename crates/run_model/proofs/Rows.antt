@@ -8,7 +8,7 @@ use Rattle.cell_model.specs.Cell.{Cell}
 use Rattle.cell_model.specs.Order.{cells_of, cell_of, VersionKey, Payload}
 use Rattle.cell_model.proofs.OrderLaws.{entries-empty}
 use Rattle.region_model.specs.Journal.{Base, Edit, Done}
-use Rattle.region_model.specs.Calls.{Call, Put, Scan, Flush, Roll, Answer, PutOk, PutSpent, PutMemory, Scanned, FlushOk, RollOk, Reply}
+use Rattle.region_model.specs.Calls.{Call, Put, Scan, Raw, Flush, Roll, Answer, PutOk, PutSpent, PutMemory, Scanned, FlushOk, RollOk, Reply}
 use Rattle.script_model.specs.Fields.{number_fault, token_fault, sized_fault, ts_fault, kind_fault, room_fault, mode_fault, here_fault, one_here_fault, mode_here_fault, kind_here_fault}
 use Rattle.script_model.specs.Script.{script_fault}
 use Rattle.script_model.specs.Calls.{Script, Says, asked, asked_by}
@@ -37,7 +37,7 @@ abbrev script : Script
 script = record {
   time = 1700000000000;
   regions = 2;
-  handlers = (Put 1 true (batch_of (name_cell ∷ mail_cell ∷ [])) ∷ Scan 1 [] [] ∷ Flush 1 ∷ []) ∷ (Put 2 true (batch_of (key_cell ∷ [])) ∷ Roll ∷ Scan 2 (codes "k1") (codes "k2") ∷ []) ∷ [];
+  handlers = (Put 1 true (batch_of (name_cell ∷ mail_cell ∷ [])) ∷ Scan Raw 1 [] [] ∷ Flush 1 ∷ []) ∷ (Put 2 true (batch_of (key_cell ∷ [])) ∷ Roll ∷ Scan Raw 2 (codes "k1") (codes "k2") ∷ []) ∷ [];
 }
 
 two_handlers_say : Says Run text script
@@ -49,8 +49,8 @@ reply h n call answer = record { handler = h; number = n; call = call; answer = 
 
 abbrev replies : List Reply
 replies =
-    reply 1 1 (Put 1 true (batch_of (name_cell ∷ mail_cell ∷ []))) (PutOk 1) ∷ reply 1 2 (Scan 1 [] []) (Scanned 1 ((1, mail_cell) ∷ (1, name_cell) ∷ [])) ∷ reply 1 3 (Flush 1) (FlushOk 1)
-    ∷ reply 2 1 (Put 2 true (batch_of (key_cell ∷ []))) (PutOk 1) ∷ reply 2 2 Roll (RollOk 1 2) ∷ reply 2 3 (Scan 2 (codes "k1") (codes "k2")) (Scanned 1 ((1, key_cell) ∷ [])) ∷ []
+    reply 1 1 (Put 1 true (batch_of (name_cell ∷ mail_cell ∷ []))) (PutOk 1) ∷ reply 1 2 (Scan Raw 1 [] []) (Scanned 1 ((1, mail_cell) ∷ (1, name_cell) ∷ [])) ∷ reply 1 3 (Flush 1) (FlushOk 1)
+    ∷ reply 2 1 (Put 2 true (batch_of (key_cell ∷ []))) (PutOk 1) ∷ reply 2 2 Roll (RollOk 1 2) ∷ reply 2 3 (Scan Raw 2 (codes "k1") (codes "k2")) (Scanned 1 ((1, key_cell) ∷ [])) ∷ []
 
 abbrev edit_in : ℕ → ℕ → List Cell → Edit
 edit_in r h cells = record { entry = record { region = r; number = 1; time = 1700000000000; batch = batch_of cells }; caller = record { handler = h; call = 1 }; outcome = Done }

@@ -1,5 +1,5 @@
 -- What a run has once its server is closed.
-use Rattle.std.specs.Prelude.{◌≡◌, ℕ, ◌≤◌, ◌⊎◌, ◌==◌, Bool, true, false, List, filter, map, Contains}
+use Rattle.std.specs.Prelude.{◌≡◌, ℕ, ◌≤◌, ◌⊎◌, ◌==◌, Bool, true, false, List, filter, map, Contains, ◌<◌}
 use Rattle.std.specs.List.{range_with_len}
 use Rattle.log_model.specs.Files.{Files, IsSound}
 use Rattle.log_model.specs.Recovered.{IsRecovered, IsContent, IsLast}
@@ -10,14 +10,14 @@ use Rattle.region_model.specs.Crash.{Fits}
 use Rattle.disk_images.specs.Crash.{DiskView, IsImageNow}
 use Rattle.script_model.specs.Calls.{Script, Asked, asked, asked_by, IsScript}
 use Rattle.server_model.specs.Pass.{Pass, Naming}
-use Rattle.server_model.specs.Closing.{Region, IsClosedRegion, Survives, Leaves, Handled, AllRun, passes_of, replies_of}
+use Rattle.server_model.specs.Closing.{Region, IsClosedRegion, Survives, Leaves, Handled, AllRun, Pairs, passes_of, replies_of}
 
 -- ---- the script's flushes
 
 abbrev pub is_flush_of : ℕ → Call → Bool
 is_flush_of r (Flush region) = region == r
 is_flush_of r (Put region sync batch) = false
-is_flush_of r (Scan region from to) = false
+is_flush_of r (Scan view region from to) = false
 is_flush_of r Roll = false
 
 abbrev pub caller_of : Asked → Caller
@@ -34,6 +34,10 @@ pub record IsNameFor (script : Script) (name : Naming) : Type 0 where
 
 -- ---- closed
 
+-- by handler, then number
+abbrev pub Before : Asked → Asked → Type 0
+Before a b = (a.handler < b.handler) ⊎ ((a.handler ≡ b.handler) × (a.number < b.number))
+
 -- a region by its number
 pub record ClosedAt : Type 0 where
   pub region : ℕ
@@ -44,13 +48,13 @@ pub record IsFound (files : Files) (r : ℕ) (base : Base) : Type 0 where
   pub last : IsLast files r base.last
   pub content : IsContent (IsRecovered files r) base.content
 
--- What stands of a script's handlers and its server, once it is closed and the disk is handed on. What a crash may leave is there,
--- and which number it is isn't told.
-pub record Closed (script : Script) (found : Files) (left : DiskView) (name : Naming) (hs : List Handled) (xs : List ClosedAt) (broken : Bool) : Type 0 where
+-- What stands of a server and of those calls of a script's handlers that were made on it, once it is closed and the disk is handed on. What a
+-- crash may leave is there, and which number it is isn't told.
+pub record ClosedOn (asks : List Asked) (script : Script) (found : Files) (left : DiskView) (name : Naming) (hs : List Handled) (xs : List ClosedAt) (broken : Bool) : Type 0 where
   pub script_right : IsScript script
   pub named : IsNameFor script name
   pub runs : AllRun name script.time hs
-  pub calls : map asked_by (replies_of hs) ≡ asked script
+  pub calls : map asked_by (replies_of hs) ≡ asks
   pub numbers : map (λ (x : ClosedAt). x.region) xs ≡ range_with_len 1 script.regions
   pub regions : (x : ClosedAt) → Contains xs x → IsClosedRegion name x.region (passes_of hs) x.it
   pub survives : (x : ClosedAt) → Contains xs x → ∥ Survives left broken x.region x.it ∥₁
@@ -59,6 +63,16 @@ pub record Closed (script : Script) (found : Files) (left : DiskView) (name : Na
   pub seen_broken : (p : Pass) → Contains (passes_of hs) p → p.broken ≡ true → broken ≡ true
   pub sound : IsSound found
   pub bases : (r : ℕ) → 1 ≤ r → r ≤ script.regions → IsFound found r (name.bases r)
+
+-- all of the script's calls were made on it
+abbrev pub Closed : Script → Files → DiskView → Naming → List Handled → List ClosedAt → Bool → Type 0
+Closed script found left name hs xs broken = ClosedOn (asked script) script found left name hs xs broken
+
+-- These are calls of the script, and all flushes of some of its regions.
+pub record AreCallsOn (on : ℕ → Type 0) (script : Script) (asks : List Asked) : Type 0 where
+  pub part : (a : Asked) → Contains asks a → Contains (asked script) a
+  pub order : Pairs Before asks
+  pub flushes : (a : Asked) (r : ℕ) → on r → Contains (asked script) a → a.call ≡ Flush r → Contains asks a
 
 -- what a crash may leave of an opening: an image of the disk as found, or files that recover alike for every region
 abbrev pub MayOpen : DiskView → Files → Type 0

@@ -9,7 +9,7 @@ use Rattle.log_model.specs.Entry.{Entry}
 use Rattle.log_model.specs.Files.{Files, IsFit, IsLogFile, IsSound, IsPresent, IsLastLog}
 use Rattle.log_model.specs.Recovered.{IsRecovered, IsContent, IsLast, IsStored, IsFlushed, RecoversAlike}
 use Rattle.region_model.specs.Journal.{Base, Edit, IsJournal, last_of, is_completed, is_done}
-use Rattle.region_model.specs.Calls.{Put, Flush, Roll, Answer, PutOk, PutFault, Scanned, FlushOk, FlushNothing, FlushBusy, RollOk, RollNothing, PutMemory, ScanMemory, FlushMemory, RollMemory, Reply}
+use Rattle.region_model.specs.Calls.{Put, Flush, Roll, Answer, PutOk, PutFault, Scanned, FlushOk, FlushNothing, FlushBusy, RollOk, RollNothing, PutMemory, ScanMemory, FlushMemory, RollMemory, Reply, is_get}
 use Rattle.region_model.specs.Lawful.{IsLawful, flushed_of}
 use Rattle.region_model.specs.Crash.{Fits, Receipted}
 use Rattle.script_model.specs.Report.{EditLine, RegionLine, ReplyLine, Report, report_text}
@@ -36,7 +36,7 @@ abbrev pub region_line : History → RegionLine
 region_line h = record { region = h.region; last = h.base.last; count = length (cells_of h.base.content); edits = map edit_line h.edits }
 
 abbrev pub reply_line : Reply → ReplyLine
-reply_line r = record { handler = r.handler; call = r.number; answer = r.answer }
+reply_line r = record { handler = r.handler; call = r.number; answer = r.answer; got = is_get r.call }
 
 abbrev pub report_of : List History → List Reply → ℕ → Report
 report_of histories replies status = record { regions = map region_line histories; replies = map reply_line replies; status = status }
@@ -125,7 +125,7 @@ pub record IsHeadline (script : Script) (found left : DiskView) (status : ℕ) (
   pub report : IsOneReport script found.files histories replies
   pub journals : (h : History) → Contains histories h → IsOneJournal script h
   pub lawful : (h : History) → Contains histories h → IsLawful h.region h.base h.edits replies
-  -- so of each region the puts and scans of all handlers are a history of one thread
+  -- so of each region the puts, scans and gets of all handlers are a history of one thread
   pub one_thread : (h : History) → Contains histories h → (history : List Reply) × IsHistory h.region h.base h.edits replies history
   pub endures : (h : History) → Contains histories h → Endures left status replies h
   pub others : (J : Files) (r : ℕ) → IsImageNow left J → script.regions < r → RecoversAlike found.files J r

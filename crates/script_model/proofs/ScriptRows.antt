@@ -2,7 +2,7 @@
 use Rattle.std.proofs.Common.{ℕ, true, false, List, [], ◌∷◌, codes, refl}
 use Rattle.cell_model.specs.Batch.{batch_of}
 use Rattle.cell_model.specs.Cell.{Cell}
-use Rattle.region_model.specs.Calls.{Put, Scan, Flush, Roll}
+use Rattle.region_model.specs.Calls.{Put, Scan, Raw, Flush, Roll}
 use Rattle.script_model.specs.Calls.{Says}
 use Rattle.script_model.specs.Fields.{number_fault, token_fault, sized_fault, ts_fault, kind_fault, room_fault, mode_fault, here_fault, one_here_fault, mode_here_fault, kind_here_fault}
 use Rattle.script_model.specs.Script.{script_fault}
@@ -38,13 +38,13 @@ types_of_cells = record { right = refl; is = refl }
 
 -- a dash is no bytes, an escaped one a byte, and the digits are of either case
 tokens : Says Run (codes "time 1000\nregions 1\nhandlers 1\nscan 1 1 - %2D\nscan 1 1 a%4ab k%20%0a\n")
-    (record { time = 1000; regions = 1; handlers = (Scan 1 [] (45 ∷ []) ∷ Scan 1 (97 ∷ 74 ∷ 98 ∷ []) (107 ∷ 32 ∷ 10 ∷ []) ∷ []) ∷ [] })
+    (record { time = 1000; regions = 1; handlers = (Scan Raw 1 [] (45 ∷ []) ∷ Scan Raw 1 (97 ∷ 74 ∷ 98 ∷ []) (107 ∷ 32 ∷ 10 ∷ []) ∷ []) ∷ [] })
 unfolding script_fault number_fault token_fault sized_fault ts_fault kind_fault room_fault mode_fault here_fault one_here_fault mode_here_fault kind_here_fault
 tokens = record { right = refl; is = refl }
 
 -- the calls of two handlers stand apart, each in its order
 two_handlers : Says Run (codes "time 5\nregions 2\nhandlers 2\nroll 2\nflush 1 2\nscan 2 1 - -\nflush 1 1\n")
-    (record { time = 5; regions = 2; handlers = (Flush 2 ∷ Flush 1 ∷ []) ∷ (Roll ∷ Scan 1 [] [] ∷ []) ∷ [] })
+    (record { time = 5; regions = 2; handlers = (Flush 2 ∷ Flush 1 ∷ []) ∷ (Roll ∷ Scan Raw 1 [] [] ∷ []) ∷ [] })
 unfolding script_fault number_fault token_fault sized_fault ts_fault kind_fault room_fault mode_fault here_fault one_here_fault mode_here_fault kind_here_fault
 two_handlers = record { right = refl; is = refl }
 

@@ -26,7 +26,7 @@ script_of said = record { time = unwrap_or said.time 0; regions = unwrap_or said
 -- the call is on one of so many regions
 abbrev pub IsAmong : (regions : ℕ) → Call → Type 0
 IsAmong regions (Put region sync batch) = (1 ≤ region) × (region ≤ regions)
-IsAmong regions (Scan region from to) = (1 ≤ region) × (region ≤ regions)
+IsAmong regions (Scan view region from to) = (1 ≤ region) × (region ≤ regions)
 IsAmong regions (Flush region) = (1 ≤ region) × (region ≤ regions)
 IsAmong regions Roll = Unit {0}
 

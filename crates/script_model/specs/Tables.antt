@@ -2,7 +2,7 @@
 use Rattle.std.specs.Prelude.{ℕ, Bool, false, if◌then◌else◌, List, [], ◌∷◌, Option, Some, None, codes}
 use Rattle.cell_model.specs.Cell.{Cell}
 use Rattle.cell_model.specs.Batch.{Batch}
-use Rattle.region_model.specs.Calls.{Call, Scan, Flush, Roll}
+use Rattle.region_model.specs.Calls.{Call, Scan, Raw, Flush, Roll, get_call}
 use Rattle.script_model.specs.Text.{number_of}
 use Rattle.script_model.specs.declared.command.Command.{Command}
 use Rattle.script_model.specs.Fields.{Why, why, first_of, is, bytes_of, cell_of, tagged_with, number_fault, token_fault, sized_fault, ts_fault, kind_fault, room_fault, table_name_fault, mode_fault, here_fault, one_here_fault, mode_here_fault, kind_here_fault}
@@ -48,6 +48,12 @@ abbrev pub scan_fault : Command → (handlers regions : ℕ) (h r from to : List
 scan_fault command handlers regions h r from to =
     first_of (handler_fault handlers h) (first_of (region_fault regions r) (first_of (token_fault from) (first_of (token_fault to) (here_fault command))))
 
+-- a get of up to 1,000,000 versions of each column of a row
+abbrev pub get_fault : Command → (handlers regions : ℕ) (h r row versions : List ℕ) → Option Why
+get_fault command handlers regions h r row versions =
+    first_of (handler_fault handlers h) (first_of (region_fault regions r)
+    (first_of (sized_fault 1 1 32767 row) (first_of (number_fault 1 1000000 (why 6) versions) (here_fault command))))
+
 -- a line of calls, by its words
 abbrev pub call_fault : Command → (handlers regions : ℕ) → List (List ℕ) → Option Why
 call_fault command handlers regions (a ∷ h ∷ []) =
@@ -56,7 +62,8 @@ call_fault command handlers regions (a ∷ h ∷ r ∷ []) =
     if is a (codes "flush") then first_of (handler_fault handlers h) (first_of (region_fault regions r) (here_fault command)) else misplaced
 call_fault command handlers regions (a ∷ h ∷ r ∷ x ∷ y ∷ []) =
     if is a (codes "put") then put_fault command handlers regions h r x y
-    else (if is a (codes "scan") then scan_fault command handlers regions h r x y else misplaced)
+    else (if is a (codes "scan") then scan_fault command handlers regions h r x y
+    else (if is a (codes "get") then get_fault command handlers regions h r x y else misplaced))
 call_fault command handlers regions _ = misplaced
 
 -- the six fields that each cell has
@@ -104,7 +111,8 @@ spoken_of (a ∷ h ∷ []) = Some (Calls (number_of h) Roll)
 spoken_of (a ∷ h ∷ r ∷ []) = Some (Calls (number_of h) (Flush (number_of r)))
 spoken_of (a ∷ h ∷ r ∷ x ∷ y ∷ []) =
     if is a (codes "put") then Some (Opens (number_of h) (number_of r) (is x (codes "sync")) (number_of y))
-    else Some (Calls (number_of h) (Scan (number_of r) (bytes_of x) (bytes_of y)))
+    else (if is a (codes "scan") then Some (Calls (number_of h) (Scan Raw (number_of r) (bytes_of x) (bytes_of y)))
+    else Some (Calls (number_of h) (get_call (number_of r) (bytes_of x) (number_of y))))
 spoken_of _ = None
 
 abbrev pub cell_of_fields : (time : ℕ) → List (List ℕ) → Option Cell

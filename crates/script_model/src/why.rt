@@ -39,7 +39,8 @@ pub enum ScriptWhy {
     Region,
     /// `handler`: a number that is none of the handlers.
     Handler,
-    /// `count`: a put of no cells or of more than 1,024, another line where a cell is due, or a cell where none is.
+    /// `count`: a put of no cells or of more than 1,024, a get of no version or of more than 1,000,000, another line where a
+    /// cell is due, or a cell where none is.
     Count,
     /// `too-long`: a line of more than 524,288 bytes, or a script of more than 16,777,216.
     TooLong,

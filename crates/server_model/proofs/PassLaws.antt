@@ -5,7 +5,7 @@ use Rattle.std.proofs.lemmas.List.Elements.{Contains-push, Contains-push_cases, 
 use Rattle.cell_model.specs.Batch.{Batch}
 use Rattle.cell_model.specs.Cell.{Cell}
 use Rattle.region_model.specs.Journal.{Edit, Done, Caller, last_of, visible}
-use Rattle.region_model.specs.Calls.{Call, Put, Scan, Flush, Roll, Answer, PutOk, PutMemory, PutFault, PutSpent, Scanned, ScanMemory, FlushOk, FlushNothing, FlushBusy, FlushFault, FlushMemory, RollOk, RollNothing, RollFault, RollMemory, Reply, IsAnswerTo}
+use Rattle.region_model.specs.Calls.{Call, Put, Scan, View, viewed, Flush, Roll, Answer, PutOk, PutMemory, PutFault, PutSpent, Scanned, ScanMemory, FlushOk, FlushNothing, FlushBusy, FlushFault, FlushMemory, RollOk, RollNothing, RollFault, RollMemory, Reply, IsAnswerTo}
 use Rattle.region_model.specs.Lawful.{IsOn, place_of, number_of, outcome_of, flushed_of, IsPutFault, IsEditOf, KeepsPlaces, StopsAtFault}
 use Rattle.region_model.specs.Crash.{IsReceipted, Put_ok, Put_memory, Flushed}
 use Rattle.cell_model.specs.Lists.{IsPrefix}
@@ -22,7 +22,7 @@ pub record Grows (old new : Pass) : Type 0 where
   pub own : (r : ℕ) → IsPrefix (old.known r).own (new.known r).own
   pub spent : (r : ℕ) → IsPrefix (old.known r).spent (new.known r).spent
 
-later_here : (p : Pass) → IsLater p p
+pub later_here : (p : Pass) → IsLater p p
 later_here p = record { handler = refl; calls = omega arith; known = λ r. record { shown = prefix_here (p.known r).shown; synced = omega arith; stored = omega arith; closed = omega arith }; broken = λ b. b }
 
 later_trans : (p q t : Pass) → IsLater p q → IsLater q t → IsLater p t
@@ -71,7 +71,7 @@ put_grows name time r sync batch caller answer old new d = record { later = d.la
 
 does_grows : (name : Naming) (time : ℕ) (caller : Caller) (call : Call) (answer : Answer) (old new : Pass) → Does name time caller call answer old new → Grows old new
 does_grows name time caller (Put r sync batch) answer old new d = put_grows name time r sync batch caller answer old new d
-does_grows name time caller (Scan r from to) answer old new d = quiet_grows old new d.later d.own
+does_grows name time caller (Scan view r from to) answer old new d = quiet_grows old new d.later d.own
 does_grows name time caller (Flush r) answer old new d = quiet_grows old new d.later d.own
 does_grows name time caller Roll answer old new d = quiet_grows old new d.later d.own
 
@@ -164,8 +164,8 @@ fault_roll _ a f = absurd f
 
 pub record Kept (name : Naming) (time : ℕ) (reply : Reply) (p : Pass) : Type 0 where
   pub handler : reply.handler ≡ p.handler
-  pub scans : (r q : ℕ) (from to : List ℕ) (cells : List (ℕ × Cell)) → reply.call ≡ Scan r from to → reply.answer ≡ Scanned q cells
-      → (list : List Edit) × IsPrefix list (p.known r).shown × (q ≡ last_of (name.bases r).last list) × (cells ≡ visible (name.bases r).content list q from to)
+  pub scans : (view : View) (r q : ℕ) (from to : List ℕ) (cells : List (ℕ × Cell)) → reply.call ≡ Scan view r from to → reply.answer ≡ Scanned q cells
+      → (list : List Edit) × IsPrefix list (p.known r).shown × (q ≡ last_of (name.bases r).last list) × (cells ≡ viewed view (visible (name.bases r).content list q from to))
   pub puts : (r n : ℕ) → IsOn r reply.call → number_of reply.answer ≡ Some n → (e : Edit) × Contains (p.known r).own e × (e.entry.number ≡ n) × IsEditOf reply e
   pub places : (r q : ℕ) → IsOn r reply.call → place_of reply.answer ≡ Some q → q ≤ last_of (name.bases r).last (p.known r).shown
   pub flushes : (r n : ℕ) → IsOn r reply.call → flushed_of reply.answer ≡ Some n → ((name.bases r).last ≤ n) × (n ≤ (p.known r).stored)
@@ -180,7 +180,7 @@ pub record Kept (name : Naming) (time : ℕ) (reply : Reply) (p : Pass) : Type 0
 pub kept_later : (name : Naming) (time : ℕ) (reply : Reply) (p q : Pass) → Grows p q → Kept name time reply p → Kept name time reply q
 kept_later name time reply p q g k = record {
   handler = k.handler ∙ sym g.later.handler;
-  scans = λ r n from to cells c a. let h = k.scans r n from to cells c a in (h.0, prefix_trans h.0 (p.known r).shown (q.known r).shown h.1 (g.later.known r).shown, h.2, h.3);
+  scans = λ view r n from to cells c a. let h = k.scans view r n from to cells c a in (h.0, prefix_trans h.0 (p.known r).shown (q.known r).shown h.1 (g.later.known r).shown, h.2, h.3);
   puts = λ r n on is. let h = k.puts r n on is in (h.0, prefix_contains (p.known r).own (q.known r).own h.0 (g.own r) h.1, h.2, h.3);
   places = λ r n on is. omega (arith, k.places r n on is, prefix_length (p.known r).shown (q.known r).shown (g.later.known r).shown);
   flushes = λ r n on is. let h = k.flushes r n on is in (h.0, omega (arith, h.1, (g.later.known r).stored));
@@ -227,7 +227,7 @@ told_by : (name : Naming) (time h c : ℕ) (call : Call) (answer : Answer) (old 
     → Does name time (record { handler = h; call = c }) call answer old new → (s : ℕ) (e : Edit) → Contains (new.known s).own e
     → Contains (old.known s).own e ⊎ (IsEditOf (reply_of h c call answer) e × (e.entry.region ≡ s) × (e.entry.time ≡ time))
 told_by name time h c (Put r sync batch) answer old new d s e is = told_by_put name time r sync batch h c answer old new d s e is
-told_by name time h c (Scan r from to) answer old new d s e is = inl (subst (λ l. Contains l e) (d.own s).own is)
+told_by name time h c (Scan view r from to) answer old new d s e is = inl (subst (λ l. Contains l e) (d.own s).own is)
 told_by name time h c (Flush r) answer old new d s e is = inl (subst (λ l. Contains l e) (d.own s).own is)
 told_by name time h c Roll answer old new d s e is = inl (subst (λ l. Contains l e) (d.own s).own is)
 
@@ -239,7 +239,7 @@ kept_put : (name : Naming) (time r : ℕ) (sync : Bool) (batch : Batch) (h c : �
     → Puts name time r sync batch (record { handler = h; call = c }) answer old new → Kept name time (reply_of h c (Put r sync batch) answer) new
 kept_put name time r sync batch h c answer old new same d = record {
   handler = same;
-  scans = λ s q from to cells is a. absurd cc;
+  scans = λ view s q from to cells is a. absurd cc;
   puts = λ s n on is. subst (λ s. (e : Edit) × Contains (new.known s).own e × (e.entry.number ≡ n) × IsEditOf (reply_of h c (Put r sync batch) answer) e) on
       (edit_of r n time batch (caller_of h c) (outcome_of answer), held n is, refl, record { handler = refl; call = refl; sync = sync; put = refl; number = is; outcome = refl });
   places = λ s q on is. subst (λ s. q ≤ last_of (name.bases s).last (new.known s).shown) on (d.seen q (place_put answer q d.answered is));
@@ -272,15 +272,15 @@ kept_put name time r sync batch h c answer old new same d = record {
         let on : r ≡ s = cc in let is_sync : sync ≡ true = cc in
         subst (λ s. n ≤ (new.known s).synced) on (d.synced n is_sync is done)
 
-kept_scan : (name : Naming) (time r : ℕ) (from to : List ℕ) (h c : ℕ) (answer : Answer) (old new : Pass) → h ≡ new.handler
-    → Scans name r from to answer old new → Kept name time (reply_of h c (Scan r from to) answer) new
-kept_scan name time r from to h c answer old new same d = record {
+kept_scan : (name : Naming) (time : ℕ) (view : View) (r : ℕ) (from to : List ℕ) (h c : ℕ) (answer : Answer) (old new : Pass) → h ≡ new.handler
+    → Scans name view r from to answer old new → Kept name time (reply_of h c (Scan view r from to) answer) new
+kept_scan name time view r from to h c answer old new same d = record {
   handler = same;
-  scans = λ s q from' to' cells is a.
-      let on : r ≡ s = cc in let hf : from ≡ from' = cc in let ht : to ≡ to' = cc in
+  scans = λ view' s q from' to' cells is a.
+      let hv : view ≡ view' = cc in let on : r ≡ s = cc in let hf : from ≡ from' = cc in let ht : to ≡ to' = cc in
       let x = d.cells q cells a in
-      subst (λ s. (list : List Edit) × IsPrefix list (new.known s).shown × (q ≡ last_of (name.bases s).last list) × (cells ≡ visible (name.bases s).content list q from' to')) on
-      ((new.known r).shown, prefix_here (new.known r).shown, x.0, x.1 ∙ (λ i. visible (name.bases r).content (new.known r).shown q (hf i) (ht i)));
+      subst (λ s. (list : List Edit) × IsPrefix list (new.known s).shown × (q ≡ last_of (name.bases s).last list) × (cells ≡ viewed view' (visible (name.bases s).content list q from' to'))) on
+      ((new.known r).shown, prefix_here (new.known r).shown, x.0, x.1 ∙ (λ i. viewed (hv i) (visible (name.bases r).content (new.known r).shown q (hf i) (ht i))));
   puts = λ s n on is. absurd (none n is);
   places = λ s q on is. let x = place_scan answer q d.answered is in let y = d.cells q x.0 x.1 in
       subst (λ s. q ≤ last_of (name.bases s).last (new.known s).shown) on (omega (arith, y.0));
@@ -305,7 +305,7 @@ kept_flush : (name : Naming) (time r h c : ℕ) (answer : Answer) (old new : Pas
     → Flushes name r (record { handler = h; call = c }) answer old new → Kept name time (reply_of h c (Flush r) answer) new
 kept_flush name time r h c answer old new same d = record {
   handler = same;
-  scans = λ s q from' to' cells is a. absurd cc;
+  scans = λ view s q from' to' cells is a. absurd cc;
   puts = λ s n on is. absurd (none n is);
   places = λ s q on is. absurd (place_flush answer q d.answered is);
   flushes = λ s n on is. subst (λ s. ((name.bases s).last ≤ n) × (n ≤ (new.known s).stored)) on (omega (arith, d.above n is), d.stored n is);
@@ -333,7 +333,7 @@ kept_roll : (name : Naming) (time h c : ℕ) (answer : Answer) (old new : Pass) 
     → Rolls answer old new → Kept name time (reply_of h c Roll answer) new
 kept_roll name time h c answer old new same d = record {
   handler = same;
-  scans = λ s q from' to' cells is a. absurd cc;
+  scans = λ view s q from' to' cells is a. absurd cc;
   puts = λ s n on is. absurd on;
   places = λ s q on is. absurd on;
   flushes = λ s n on is. absurd on;
@@ -353,7 +353,7 @@ kept_roll name time h c answer old new same d = record {
 kept_does : (name : Naming) (time h c : ℕ) (call : Call) (answer : Answer) (old new : Pass) → h ≡ new.handler
     → Does name time (record { handler = h; call = c }) call answer old new → Kept name time (reply_of h c call answer) new
 kept_does name time h c (Put r sync batch) answer old new same d = kept_put name time r sync batch h c answer old new same d
-kept_does name time h c (Scan r from to) answer old new same d = kept_scan name time r from to h c answer old new same d
+kept_does name time h c (Scan view r from to) answer old new same d = kept_scan name time view r from to h c answer old new same d
 kept_does name time h c (Flush r) answer old new same d = kept_flush name time r h c answer old new same d
 kept_does name time h c Roll answer old new same d = kept_roll name time h c answer old new same d
 
@@ -400,7 +400,7 @@ above_does name time h c (Put r sync batch) answer old new d = record {
   stops = d.stops;
   roll = λ s call is. absurd cc;
 }
-above_does name time h c (Scan r from to) answer old new d = record {
+above_does name time h c (Scan view r from to) answer old new d = record {
   place = λ s q on is. subst (λ s. last_of (name.bases s).last (old.known s).shown ≤ q) on
       (let x = place_scan answer q d.answered is in omega (arith, (d.cells q x.0 x.1).0, prefix_length (old.known r).shown (new.known r).shown (d.later.known r).shown));
   put = λ s q on is. absurd (true≢false (sym (subst IsScanAnswer is d.answered)));

@@ -8,7 +8,7 @@ use Rattle.log_model.specs.Entry.{Entry}
 use Rattle.log_model.specs.Files.{Files, IsLogFile, IsLastLog}
 use Rattle.log_model.specs.Recovered.{IsRecovered, IsStored}
 use Rattle.region_model.specs.Journal.{Base, Edit, last_of, visible}
-use Rattle.region_model.specs.Calls.{Put, Flush, Roll, PutOk, Reply}
+use Rattle.region_model.specs.Calls.{Put, Flush, Roll, PutOk, Reply, viewed}
 use Rattle.region_model.specs.Lawful.{IsOn, flushed_of, IsLawful, KeepsPlaces, StopsAtFault, InOrder}
 use Rattle.region_model.specs.Crash.{Fits, Receipted}
 use Rattle.disk_images.specs.Crash.{DiskView, IsImageNow}
@@ -91,15 +91,15 @@ lawful name time r hs x a closed order listed = record {
   order = order;
   answers = λ reply is. (kept_of name time hs a reply is).2.answers;
   places = pairs_all (KeepsPlaces r) (replies_of hs) (weaker (replies_of hs) (λ p q both. both.0) (all_order name time r hs a));
-  scans = λ reply from to p cells is call answer.
+  scans = λ reply view from to p cells is call answer.
       let o = kept_of name time hs a reply is in
-      let k = o.2.scans r p from to cells call answer in
+      let k = o.2.scans view r p from to cells call answer in
       let front : IsPrefix k.0 x.edits = prefix_trans k.0 (o.0.pass.known r).shown x.edits k.1 (closed.shown o.0.pass (has_pass hs o.0 o.1)) in
       let place : p ≡ last_of x.base.last k.0 = k.2 ∙ ap (λ (b : Base). last_of b.last k.0) (sym closed.base) in
-      let here : cells ≡ visible x.base.content k.0 p from to = k.3 ∙ ap (λ (b : Base). visible b.content k.0 p from to) (sym closed.base) in
+      let here : cells ≡ viewed view (visible x.base.content k.0 p from to) = k.3 ∙ ap (λ (b : Base). viewed view (visible b.content k.0 p from to)) (sym closed.base) in
       let seen : visible x.base.content k.0 p from to ≡ visible x.base.content x.edits p from to =
       subst (λ p. visible x.base.content k.0 p from to ≡ visible x.base.content x.edits p from to) (sym place) (same_view x.base k.0 x.edits from to closed.journal.numbers front) in
-      (omega (arith, place), omega (arith, place, prefix_length k.0 x.edits front), here ∙ seen);
+      (omega (arith, place), omega (arith, place, prefix_length k.0 x.edits front), here ∙ ap (viewed view) seen);
   puts = λ reply n is on number.
       let o = kept_of name time hs a reply is in
       let k = o.2.puts r n on number in

@@ -9,7 +9,7 @@ use Rattle.cell_model.specs.Cell.{Cell}
 use Rattle.cell_model.specs.Order.{Content, cell_of, NumberedCell, VersionKey, Payload, put_cells, version_cmp}
 use Rattle.cell_model.proofs.OrderLaws.{put_in, entries-empty, entries-put_cells}
 use Rattle.region_model.specs.Journal.{Edit, Outcome, Done, Failed, InCallOrder, visible, put_edits, is_in_range}
-use Rattle.region_model.specs.Calls.{Call, Put, Scan, Answer, PutOk, PutFault, Scanned, Reply}
+use Rattle.region_model.specs.Calls.{Call, Put, Scan, Raw, Answer, PutOk, PutFault, Scanned, Reply}
 use Rattle.region_model.specs.Lawful.{IsLawful, InOrder}
 use Rattle.cell_model.specs.Lists.{IsPrefix}
 use Rattle.server_model.specs.Pass.{Pass, Known, Naming, IsLaterOf, IsQuiet, IsFresh, handled}
@@ -185,7 +185,7 @@ seen_cells = cell_at 3 ∷ cell_at 2 ∷ cell_at 1 ∷ []
 scanned : visible empty fours 4 [] [] ≡ seen_cells
 scanned = ap (λ (es : List (VersionKey × Payload)). filter (is_in_range [] []) (map cell_of es)) (entries-put_edits threes empty ∙ ap (put_all threes) entries-empty)
 
-scans : Step naming 1000 after_5 (reply 6 (Scan 1 [] []) (Scanned 4 seen_cells)) after_6
+scans : Step naming 1000 after_5 (reply 6 (Scan Raw 1 [] []) (Scanned 4 seen_cells)) after_6
 scans = record {
   handler = refl;
   does = record {
@@ -200,7 +200,7 @@ scans = record {
 abbrev replies : List Reply
 replies =
     reply 1 (Put 1 true (batch 1)) (PutOk 1) ∷ reply 2 (Put 1 true (batch 2)) (PutOk 2) ∷ reply 3 (Put 1 true (batch 3)) (PutOk 3)
-    ∷ reply 4 (Put 1 true (batch 4)) (PutFault (Some 4)) ∷ reply 5 (Put 1 true (batch 5)) (PutFault None) ∷ reply 6 (Scan 1 [] []) (Scanned 4 seen_cells) ∷ []
+    ∷ reply 4 (Put 1 true (batch 4)) (PutFault (Some 4)) ∷ reply 5 (Put 1 true (batch 5)) (PutFault None) ∷ reply 6 (Scan Raw 1 [] []) (Scanned 4 seen_cells) ∷ []
 
 runs : Runs naming 1000 (pass 0 (known [] [] 0) false) replies after_6
 runs = (

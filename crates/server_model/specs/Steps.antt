@@ -3,7 +3,7 @@ use Rattle.std.specs.Prelude.{◌≡◌, ◌≢◌, ℕ, ◌-◌, ◌^◌, ◌<�
 use Rattle.cell_model.specs.Batch.{Batch}
 use Rattle.cell_model.specs.Cell.{Cell}
 use Rattle.region_model.specs.Journal.{Edit, Outcome, Done, Caller, last_of, visible}
-use Rattle.region_model.specs.Calls.{Call, Put, Scan, Flush, Roll, Answer, PutOk, PutFault, PutSpent, Scanned, FlushOk, FlushNothing, FlushBusy, FlushFault, RollOk, RollNothing, RollFault, Reply, is_put, is_scan, is_flush, is_roll}
+use Rattle.region_model.specs.Calls.{Call, Put, Scan, Flush, Roll, Answer, PutOk, PutFault, PutSpent, Scanned, FlushOk, FlushNothing, FlushBusy, FlushFault, RollOk, RollNothing, RollFault, Reply, View, viewed, is_put, is_scan, is_flush, is_roll}
 use Rattle.region_model.specs.Lawful.{number_of, outcome_of, flushed_of, IsPutFault}
 use Rattle.server_model.specs.Pass.{Known, Pass, Naming, IsLater, IsQuiet}
 
@@ -67,13 +67,13 @@ pub record Puts (name : Naming) (time r : ℕ) (sync : Bool) (batch : Batch) (ca
   pub limit : (n : ℕ) → answer ≡ PutSpent n → n ≡ 2 ^ 48 - 1
   pub used : new.calls ≡ caller.call
 
--- A scan has the cells of a shown list that the former one begins.
-pub record Scans (name : Naming) (r : ℕ) (from to : List ℕ) (answer : Answer) (old new : Pass) : Type 0 where
+-- A scan or a get has what it asks to see of a shown list that the former one begins.
+pub record Scans (name : Naming) (view : View) (r : ℕ) (from to : List ℕ) (answer : Answer) (old new : Pass) : Type 0 where
   pub answered : IsScanAnswer answer
   pub later : IsLater old new
   pub own : IsQuietPass old new
   pub cells : (p : ℕ) (cells : List (ℕ × Cell)) → answer ≡ Scanned p cells
-      → (p ≡ last_of (name.bases r).last (new.known r).shown) × (cells ≡ visible (name.bases r).content (new.known r).shown p from to)
+      → (p ≡ last_of (name.bases r).last (new.known r).shown) × (cells ≡ viewed view (visible (name.bases r).content (new.known r).shown p from to))
   pub used : new.calls ≡ old.calls
 
 -- a flush that answered its number: it is what is stored now and the last that is durable, and above all that the pass had seen stored
@@ -112,7 +112,7 @@ pub record Rolls (answer : Answer) (old new : Pass) : Type 0 where
 
 abbrev pub Does : Naming → ℕ → Caller → Call → Answer → Pass → Pass → Type 0
 Does name time caller (Put r sync batch) answer old new = Puts name time r sync batch caller answer old new
-Does name time caller (Scan r from to) answer old new = Scans name r from to answer old new
+Does name time caller (Scan view r from to) answer old new = Scans name view r from to answer old new
 Does name time caller (Flush r) answer old new = Flushes name r caller answer old new
 Does name time caller Roll answer old new = Rolls answer old new
 
