@@ -1,0 +1,4 @@
+pub mod Projected
+pub mod Parts
+pub mod Assembled
+pub mod Rows

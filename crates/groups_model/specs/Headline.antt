@@ -1,0 +1,54 @@
+-- What the report of a run on several disks tells, and what any crash leaves on each of them.
+use Rattle.std.specs.Prelude.{◌≡◌, ◌≢◌, ℕ, ◌^◌, ◌<◌, ◌≤◌, ◌⊎◌, Bool, true, List, map, Contains, Some}
+use Rattle.std.specs.List.{range_with_len}
+use Rattle.log_model.specs.declared.name.Name.{Name}
+use Rattle.log_model.specs.Files.{Files, IsSound, IsPresent}
+use Rattle.log_model.specs.Recovered.{IsRecovered, IsContent, IsLast, RecoversAlike}
+use Rattle.cell_model.specs.Batch.{Batch}
+use Rattle.region_model.specs.Calls.{Put, PutFault, Reply}
+use Rattle.region_model.specs.Lawful.{IsLawful}
+use Rattle.region_model.specs.Crash.{Fits}
+use Rattle.script_model.specs.Report.{report_text}
+use Rattle.script_model.specs.Calls.{Script, asked, asked_by}
+use Rattle.disk_images.specs.Crash.{DiskView, IsImageNow}
+use Rattle.one_thread.specs.History.{IsHistory}
+use Rattle.run_model.specs.Headline.{History, report_of, IsOneJournal, Endures, AreDone, FitsStatus}
+use Rattle.run_model.specs.Closed.{FitsFrom}
+use Rattle.groups_model.specs.Groups.{group_of, IsGroup, replies_on}
+
+-- Of one region: its base is what its group's files as found recovered to, its edits are one journal, the replies of the calls on its group are
+-- lawful for it, and a crash leaves on the group's disk the base with a beginning of the edits.
+pub record IsTold (groups : ℕ) (script : Script) (found left : ℕ → DiskView) (status : ℕ) (replies : List Reply) (h : History) : Type 0 where
+  pub last : IsLast (found (group_of groups h.region)).files h.region h.base.last
+  pub content : IsContent (IsRecovered (found (group_of groups h.region)).files h.region) h.base.content
+  pub journal : IsOneJournal script h
+  pub lawful : IsLawful h.region h.base h.edits (replies_on groups (group_of groups h.region) replies)
+  pub one_thread : (history : List Reply) × IsHistory h.region h.base h.edits replies history
+  pub endures : Endures (left (group_of groups h.region)) status replies h
+
+-- Of one group: its files were sound, and what else a crash leaves on its disk.
+pub record IsKept (groups : ℕ) (script : Script) (k : ℕ) (found left : DiskView) (status : ℕ) (histories : List History) (replies : List Reply) : Type 0 where
+  pub sound : IsSound found.files
+  -- a region above these, or of another group, recovers as it was found
+  pub others : (J : Files) (r : ℕ) → IsImageNow left J → (script.regions < r) ⊎ ((1 ≤ r) × (group_of groups r ≢ k)) → RecoversAlike found.files J r
+  pub images_sound : ((name : Name) → IsPresent found.files name → name.number ≤ 2 ^ 61) → (J : Files) → IsImageNow left J → IsSound J
+  -- its flushes and rolls that were told were done, and no log but the last is wholly flushed
+  pub done : AreDone left status (replies_on groups k replies)
+  -- from the moment at which its server was begun a crash leaves of each of its regions the base with a beginning of the edits; up to it, what
+  -- an opening may
+  pub throughout : ∥ ((start : ℕ) × FitsFrom found left start
+      (λ J. (h : History) → Contains histories h → group_of groups h.region ≡ k → (m : ℕ) × Fits J h.region h.base h.edits m)) ∥₁
+
+-- The headline of a run on so many disks. An image is chosen for each disk by itself.
+pub record IsGroupsHeadline (groups : ℕ) (script : Script) (found left : ℕ → DiskView) (status : ℕ) (text : List ℕ) : Type 0 where
+  pub histories : List History
+  pub replies : List Reply
+  pub is : text ≡ report_text (report_of histories replies status)
+  pub statuses : FitsStatus status replies
+  pub regions : map (λ (h : History). h.region) histories ≡ range_with_len 1 script.regions
+  pub calls : map asked_by replies ≡ asked script
+  -- an edit that failed was asked for with `sync`
+  pub fault_sync : (reply : Reply) (r n : ℕ) (sync : Bool) (batch : Batch) → Contains replies reply → reply.call ≡ Put r sync batch
+      → reply.answer ≡ PutFault (Some n) → sync ≡ true
+  pub each_region : (h : History) → Contains histories h → IsTold groups script found left status replies h
+  pub each_group : (k : ℕ) → IsGroup groups k → IsKept groups script k (found k) (left k) status histories replies
