@@ -17,7 +17,7 @@ entries_append time n (Put r sync batch ∷ xs) ys =
     let e : n + 1 + length (entries_from time (n + 1) xs) ≡ n + suc (length (entries_from time (n + 1) xs)) = omega arith in
     ap (λ (es : List Entry). record { region = r; number = n; time = time; batch = batch } ∷ es)
     (entries_append time (n + 1) xs ys ∙ ap (λ (k : ℕ). entries_from time (n + 1) xs ++ entries_from time k ys) e)
-entries_append time n (Scan r from to ∷ xs) ys = entries_append time n xs ys
+entries_append time n (Scan view r from to ∷ xs) ys = entries_append time n xs ys
 entries_append time n (Flush r ∷ xs) ys = entries_append time n xs ys
 entries_append time n (Roll ∷ xs) ys = entries_append time n xs ys
 

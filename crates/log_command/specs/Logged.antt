@@ -1,5 +1,5 @@
 -- The command that writes a log.
-use Rattle.std.specs.Prelude.{◌≡◌, ◌≢◌, ℕ, zero, suc, ◌+◌, ◌-◌, ◌<◌, ◌⊎◌, List, [], ◌∷◌, ◌++◌, length, take, Some, None}
+use Rattle.std.specs.Prelude.{◌≡◌, ◌≢◌, false, ℕ, zero, suc, ◌+◌, ◌-◌, ◌<◌, ◌⊎◌, List, [], ◌∷◌, ◌++◌, length, take, Some, None}
 use Rattle.std.specs.List.{flat_map}
 use Rattle.log_model.specs.declared.name.Name.{Name}
 use Rattle.log_model.specs.Entry.{Entry}
@@ -19,7 +19,7 @@ use Rattle.command_ends.specs.declared.status.Status.{Status}
 abbrev pub entries_from : ℕ → ℕ → List Call → List Entry
 entries_from time n [] = []
 entries_from time n (Put r sync batch ∷ calls) = record { region = r; number = n; time = time; batch = batch } ∷ entries_from time (n + 1) calls
-entries_from time n (Scan r from to ∷ calls) = entries_from time n calls
+entries_from time n (Scan view r from to ∷ calls) = entries_from time n calls
 entries_from time n (Flush r ∷ calls) = entries_from time n calls
 entries_from time n (Roll ∷ calls) = entries_from time n calls
 
@@ -49,7 +49,7 @@ abbrev pub LogMayLeave : List ℕ → DiskView → Files → Type 0
 LogMayLeave text before J = IsImageNow before J ⊎ ((script : Script) × Says Log text script × HasFirst (entries_in script) J)
 
 abbrev pub put_reply : ℕ → Answer → ReplyLine
-put_reply call answer = record { handler = 1; call = call; answer = answer }
+put_reply call answer = record { handler = 1; call = call; answer = answer; got = false }
 
 -- so many puts from call n on, each answered ok with its number
 abbrev pub oks : ℕ → ℕ → List ReplyLine

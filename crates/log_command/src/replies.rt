@@ -1,10 +1,10 @@
 //! The replies to the puts of a log. Their room is taken before the disk is touched, so that a reply is written without
 //! memory.
 
-ghost use Rattle.std.specs.Prelude.{◌≡◌, ◌<◌, ◌≤◌, ◌+◌, ◌*◌, ◌++◌, [], length, vec_capacity, vec_len, IfOk};
+ghost use Rattle.std.specs.Prelude.{◌≡◌, false, ◌<◌, ◌≤◌, ◌+◌, ◌*◌, ◌++◌, [], length, vec_capacity, vec_len, IfOk};
 ghost use Rattle.std.specs.List.{flat_map};
 ghost use Rattle.script_model.specs.Report.{cells_told, end_line, replies_text, reply_text};
-ghost use Rattle.script_calls.specs.Answers.{answer_of};
+ghost use Rattle.script_calls.specs.Answers.{answer_of, is_got};
 ghost use Rattle.log_command.specs.Logged.{oks, faults, put_reply, stopped_replies};
 
 use kv_cell::{NoMemory, put};
@@ -84,6 +84,7 @@ fn put_reply(out: &mut Vec<u8>, call: usize, answer: Answer)
     requires few { call ≤ 268435457 }
     requires room { vec_len out.old + 160 ≤ vec_capacity out.old }
     requires told { cells_told (answer_of answer) ≡ [] }
+    requires put { is_got answer ≡ false }
     ensures text { out.new.items ≡ out.old.items ++ reply_text (put_reply call (answer_of answer)) }
     ensures len { vec_len out.new ≤ vec_len out.old + 160 }
     ensures capacity { vec_capacity out.old ≤ vec_capacity out.new }

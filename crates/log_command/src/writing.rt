@@ -98,7 +98,7 @@ fn add_frame(
             frames.push(frame)?;
             Ok(())
         }
-        Call::Scan { .. } | Call::Flush { .. } | Call::Roll => Ok(()),
+        Call::Scan { .. } | Call::Get { .. } | Call::Flush { .. } | Call::Roll => Ok(()),
     }
 }
 

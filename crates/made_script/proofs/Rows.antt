@@ -1,7 +1,7 @@
 -- The numbers of a load from 0, its first two calls, and the kinds of a handler's calls.
 use Rattle.std.proofs.Common.{◌≡◌, true, [], ◌∷◌, refl}
 use Rattle.cell_model.specs.Batch.{batch_of}
-use Rattle.region_model.specs.Calls.{Put, Scan, Flush, Roll}
+use Rattle.region_model.specs.Calls.{Put, Scan, Raw, Flush, Roll}
 use Rattle.made_script.specs.declared.options.LoadOptions.{LoadOptions}
 use Rattle.made_script.specs.Made.{next_x, first_x, made_call, made_script}
 use Rattle.made_script.specs.Counts.{counts_of}
@@ -37,11 +37,11 @@ unfolding next_x made_call
 two_counted = refl
 
 -- every eighth call is a scan, up to the next byte or to the end
-eighth_scans : made_call 1 1 8 1442695040888963407 ≡ Scan 1 (20 ∷ []) (21 ∷ [])
+eighth_scans : made_call 1 1 8 1442695040888963407 ≡ Scan Raw 1 (20 ∷ []) (21 ∷ [])
 unfolding made_call
 eighth_scans = refl
 
-last_byte_scans : made_call 1 1 8 18446744073709551615 ≡ Scan 1 (255 ∷ []) []
+last_byte_scans : made_call 1 1 8 18446744073709551615 ≡ Scan Raw 1 (255 ∷ []) []
 unfolding made_call
 last_byte_scans = refl
 

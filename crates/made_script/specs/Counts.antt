@@ -10,8 +10,9 @@ abbrev pub is_put : Call → Bool
 is_put (Put region sync batch) = true
 is_put _ = false
 
+-- a scan or a get
 abbrev pub is_scan : Call → Bool
-is_scan (Scan region from to) = true
+is_scan (Scan view region from to) = true
 is_scan _ = false
 
 abbrev pub is_flush : Call → Bool

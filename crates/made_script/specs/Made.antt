@@ -3,7 +3,7 @@ use Rattle.std.specs.Prelude.{ℕ, zero, suc, ◌+◌, ◌-◌, ◌*◌, ◌/◌
 use Rattle.byteorder.specs.Endian.{big_bytes}
 use Rattle.cell_model.specs.Batch.{batch_of}
 use Rattle.cell_model.specs.Cell.{Cell}
-use Rattle.region_model.specs.Calls.{Call, Put, Scan, Flush, Roll}
+use Rattle.region_model.specs.Calls.{Call, Put, Scan, Raw, Flush, Roll}
 use Rattle.script_model.specs.Calls.{Script}
 use Rattle.made_script.specs.declared.options.LoadOptions.{LoadOptions}
 
@@ -40,7 +40,7 @@ made_cell i x = record { row = big_bytes 8 x; family = 102 ∷ []; qualifier = 1
 -- call i of handler h, by its number x
 unfoldable pub made_call : (regions h i x : ℕ) → Call
 made_call regions h i x =
-    if i % 8 == 0 then Scan (region_for regions x) (from_row x) (to_row x)
+    if i % 8 == 0 then Scan Raw (region_for regions x) (from_row x) (to_row x)
     else (if i % 64 == 31 then Flush (region_for regions x)
     else (if (h == 1) && (i % 256 == 129) then Roll
     else Put (region_for regions x) true (batch_of (made_cell i x ∷ []))))

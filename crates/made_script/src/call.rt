@@ -50,7 +50,7 @@ fn region_of(regions: u32, x: u64) -> u32
 
 /// A scan of the rows that begin with the highest byte of `x`.
 fn make_scan(alloc: Global, region: u32, x: u64) -> Result<Call, NoMemory>
-    ensures { IfOk result (λ made. call_of made ≡ model.Scan region (from_row x) (to_row x)) }
+    ensures { IfOk result (λ made. call_of made ≡ model.Scan model.Raw region (from_row x) (to_row x)) }
 {
     let first = (x >> 56) as u8;
     let from = Octets::of(vec![in alloc; first]?);

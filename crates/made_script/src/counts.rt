@@ -12,6 +12,7 @@ use script_calls::{Call, CallList, Script};
 #[derive(Clone, Copy, Debug, PartialEq, Eq)]
 pub struct CallCounts {
     pub puts: u64,
+    /// Of scans and gets.
     pub scans: u64,
     pub flushes: u64,
     pub rolls: u64,
@@ -60,7 +61,7 @@ fn count_call(counts: &mut CallCounts, call: &Call)
             counts.puts += 1;
             counts.value_bytes += values_length(batch);
         }
-        Call::Scan { .. } => counts.scans += 1,
+        Call::Scan { .. } | Call::Get { .. } => counts.scans += 1,
         Call::Flush { .. } => counts.flushes += 1,
         Call::Roll => counts.rolls += 1,
     }

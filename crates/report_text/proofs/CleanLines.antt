@@ -1,10 +1,10 @@
 -- The lines of a report hold words alone.
-use Rattle.std.proofs.Common.{◌≡◌, ℕ, ◌<◌, ◌^◌, Bool, true, false, ◌&&◌, List, [], ◌∷◌, ◌++◌, length, Some, None, refl, arith}
+use Rattle.std.proofs.Common.{◌≡◌, ℕ, ◌<◌, ◌^◌, Bool, true, false, ◌&&◌, List, [], ◌∷◌, ◌++◌, length, codes, Some, None, refl, arith}
 use Rattle.std.specs.List.{flat_map, AllByRecursion, list_all}
 use Rattle.std.specs.Fmt.{decimal}
 use Rattle.cell_model.specs.Order.{NumberedCell}
 use Rattle.region_model.specs.Calls.{Answer, PutOk, PutMemory, PutFault, PutSpent, Scanned, ScanMemory, FlushOk, FlushNothing, FlushBusy, FlushFault, FlushMemory, RollOk, RollNothing, RollFault, RollMemory}
-use Rattle.script_model.specs.Report.{EditLine, RegionLine, ReplyLine, Report, tags_word, answer_words, cells_told, outcome_name}
+use Rattle.script_model.specs.Report.{EditLine, RegionLine, ReplyLine, Report, tags_word, read_name, answer_words, cells_told, outcome_name}
 use Rattle.report_text.specs.Reading.{AreNumbers, numbers_of, IsNumberedCell, IsEditLine, IsRegionLine, IsReplyLine, IsReport}
 use Rattle.report_text.proofs.WordLaws.{is_word, AreLines}
 use Rattle.report_text.proofs.TokenLaws.{decimal_word, printed_word, kind_word}
@@ -51,28 +51,32 @@ one n h = rw (decimal_word n h) refl
 two : (n m : ℕ) → n < 2 ^ 64 → m < 2 ^ 64 → list_all is_word (decimal n ∷ decimal m ∷ []) ≡ true
 two n m h i = both_hold (is_word (decimal n)) (list_all is_word (decimal m ∷ [])) (decimal_word n h) (one m i)
 
-answer_clean : (a : Answer) → AreNumbers (numbers_of a) → list_all is_word (answer_words a) ≡ true
-answer_clean (PutOk n) h = one n h.0
-answer_clean (PutMemory None) h = refl
-answer_clean (PutMemory (Some n)) h = one n h.0
-answer_clean (PutFault None) h = refl
-answer_clean (PutFault (Some n)) h = one n h.0
-answer_clean (PutSpent n) h = one n h.0
-answer_clean (Scanned p cells) h = two p (length cells) h.0 h.1.0
-answer_clean ScanMemory h = refl
-answer_clean (FlushOk n) h = one n h.0
-answer_clean (FlushNothing n) h = one n h.0
-answer_clean (FlushBusy n m) h = two n m h.0 h.1.0
-answer_clean FlushFault h = refl
-answer_clean FlushMemory h = refl
-answer_clean (RollOk n m) h = two n m h.0 h.1.0
-answer_clean (RollNothing n) h = one n h.0
-answer_clean RollFault h = refl
-answer_clean RollMemory h = refl
+read_clean : (got : Bool) (words : List (List ℕ)) → list_all is_word words ≡ true → list_all is_word (read_name got ∷ words) ≡ true
+read_clean true words h = h
+read_clean false words h = h
+
+answer_clean : (got : Bool) (a : Answer) → AreNumbers (numbers_of a) → list_all is_word (answer_words got a) ≡ true
+answer_clean got (PutOk n) h = one n h.0
+answer_clean got (PutMemory None) h = refl
+answer_clean got (PutMemory (Some n)) h = one n h.0
+answer_clean got (PutFault None) h = refl
+answer_clean got (PutFault (Some n)) h = one n h.0
+answer_clean got (PutSpent n) h = one n h.0
+answer_clean got (Scanned p cells) h = read_clean got (decimal p ∷ decimal (length cells) ∷ []) (two p (length cells) h.0 h.1.0)
+answer_clean got ScanMemory h = read_clean got (codes "memory" ∷ []) refl
+answer_clean got (FlushOk n) h = one n h.0
+answer_clean got (FlushNothing n) h = one n h.0
+answer_clean got (FlushBusy n m) h = two n m h.0 h.1.0
+answer_clean got FlushFault h = refl
+answer_clean got FlushMemory h = refl
+answer_clean got (RollOk n m) h = two n m h.0 h.1.0
+answer_clean got (RollNothing n) h = one n h.0
+answer_clean got RollFault h = refl
+answer_clean got RollMemory h = refl
 
 reply_clean : (r : ReplyLine) → IsReplyLine r → AreLines (reply_part r)
 reply_clean r h = (
-  rw (decimal_word r.handler h.numbers.0, decimal_word r.call h.numbers.1.0) (answer_clean r.answer h.answer),
+  rw (decimal_word r.handler h.numbers.0, decimal_word r.call h.numbers.1.0) (answer_clean r.got r.answer h.answer),
   lines_of_parts cell_part IsNumberedCell cell_clean (cells_told r.answer) h.cells,
 )
 

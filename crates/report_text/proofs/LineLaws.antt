@@ -1,5 +1,5 @@
 -- How the lines are put together from their parts.
-use Rattle.std.proofs.Common.{◌≡◌, ℕ, ◌≤◌, List, [], ◌∷◌, ◌++◌, length, take, codes, refl, sym, ap, ◌∙◌, append_assoc, append-nil, arith}
+use Rattle.std.proofs.Common.{◌≡◌, ℕ, ◌≤◌, Bool, List, [], ◌∷◌, ◌++◌, length, take, codes, refl, sym, ap, ◌∙◌, append_assoc, append-nil, arith}
 use Rattle.std.specs.List.{flat_map, join_with_byte}
 use Rattle.std.specs.Fmt.{decimal, digits}
 use Rattle.std.proofs.lemmas.List.{length-append, take-take}
@@ -35,31 +35,32 @@ cell_parts number x e =
     rw (e, tags_joined (printed x.1.value) x.1.tags)
     (ap (λ (t : List ℕ). codes "cell " ++ t) (regroup_cell (decimal number) (printed x.1.row) (printed x.1.family) (printed x.1.qualifier) (decimal x.1.ts) (kind_name x.1.kind) (printed x.1.value) (tags_text x.1.tags)))
 
-answer_joined : (w : List ℕ) (answer : Answer) → join_with_byte 32 (w ∷ answer_words answer) ≡ w ++ (32 ∷ answer_text answer)
+answer_joined : (w : List ℕ) (got : Bool) (answer : Answer) → join_with_byte 32 (w ∷ answer_words got answer) ≡ w ++ (32 ∷ answer_text got answer)
 unfolding answer_text
-answer_joined w (PutOk n) = refl
-answer_joined w (PutMemory n) = refl
-answer_joined w (PutFault n) = refl
-answer_joined w (PutSpent n) = refl
-answer_joined w (Scanned p cells) = refl
-answer_joined w ScanMemory = refl
-answer_joined w (FlushOk n) = refl
-answer_joined w (FlushNothing n) = refl
-answer_joined w (FlushBusy h c) = refl
-answer_joined w FlushFault = refl
-answer_joined w FlushMemory = refl
-answer_joined w (RollOk f n) = refl
-answer_joined w (RollNothing f) = refl
-answer_joined w RollFault = refl
-answer_joined w RollMemory = refl
+answer_joined w got (PutOk n) = refl
+answer_joined w got (PutMemory n) = refl
+answer_joined w got (PutFault n) = refl
+answer_joined w got (PutSpent n) = refl
+answer_joined w got (Scanned p cells) = refl
+answer_joined w got ScanMemory = refl
+answer_joined w got (FlushOk n) = refl
+answer_joined w got (FlushNothing n) = refl
+answer_joined w got (FlushBusy h c) = refl
+answer_joined w got FlushFault = refl
+answer_joined w got FlushMemory = refl
+answer_joined w got (RollOk f n) = refl
+answer_joined w got (RollNothing f) = refl
+answer_joined w got RollFault = refl
+answer_joined w got RollMemory = refl
 
-reply_parts : (r : ReplyLine) → reply_text r ≡ reply_head r.handler r.call r.answer ++ flat_map cell_line (cells_told r.answer)
+reply_parts : (r : ReplyLine) → reply_text r ≡ reply_head r.handler r.call r.got r.answer ++ flat_map cell_line (cells_told r.answer)
 unfolding reply_text reply_head
-reply_parts r = rw (answer_joined (decimal r.call) r.answer) (ap (λ (t : List ℕ). codes "reply " ++ t) (regroup_reply (decimal r.handler) (decimal r.call) (answer_text r.answer) (flat_map cell_line (cells_told r.answer))))
+reply_parts r = rw (answer_joined (decimal r.call) r.got r.answer) (ap (λ (t : List ℕ). codes "reply " ++ t) (regroup_reply (decimal r.handler) (decimal r.call) (answer_text r.got r.answer) (flat_map cell_line (cells_told r.answer))))
 
-pub cells_left_out : (handler call : ℕ) (answer : Answer) → cells_told answer ≡ [] → reply_text (record { handler = handler; call = call; answer = answer }) ≡ reply_head handler call answer
-cells_left_out handler call answer none =
-    reply_parts (record { handler = handler; call = call; answer = answer }) ∙ ap (λ (cells : List NumberedCell). reply_head handler call answer ++ flat_map cell_line cells) none ∙ append-nil _
+pub cells_left_out : (handler call : ℕ) (got : Bool) (answer : Answer) → cells_told answer ≡ []
+    → reply_text (record { handler = handler; call = call; answer = answer; got = got }) ≡ reply_head handler call got answer
+cells_left_out handler call got answer none =
+    reply_parts (record { handler = handler; call = call; answer = answer; got = got }) ∙ ap (λ (cells : List NumberedCell). reply_head handler call got answer ++ flat_map cell_line cells) none ∙ append-nil _
 
 pub report_parts : (r : Report) → report_text r ≡ codes "hwal 1\n" ++ (flat_map region_text r.regions ++ replies_text r.replies r.status)
 unfolding report_text digits
@@ -81,16 +82,16 @@ joined_head : (x h c a : List ℕ) → (((x ++ (h ++ (32 ∷ c))) ++ (32 ∷ [])
 joined_head x h c a = simp append_assoc
 
 -- a reply's line, part by part
-pub head_appended : (handler call : ℕ) (answer : Answer) (o o1 o2 o3 o4 : List ℕ) → o ≡ [] → o1 ≡ o ++ (codes "reply " ++ (decimal handler ++ (32 ∷ decimal call))) → o2 ≡ o1 ++ codes " "
-    → o3 ≡ o2 ++ answer_text answer → o4 ≡ o3 ++ codes "\n" → o4 ≡ reply_head handler call answer
+pub head_appended : (handler call : ℕ) (got : Bool) (answer : Answer) (o o1 o2 o3 o4 : List ℕ) → o ≡ [] → o1 ≡ o ++ (codes "reply " ++ (decimal handler ++ (32 ∷ decimal call))) → o2 ≡ o1 ++ codes " "
+    → o3 ≡ o2 ++ answer_text got answer → o4 ≡ o3 ++ codes "\n" → o4 ≡ reply_head handler call got answer
 unfolding reply_head
-head_appended handler call answer o o1 o2 o3 o4 e e1 e2 e3 e4 =
-    e4 ∙ ap (λ (t : List ℕ). t ++ codes "\n") (e3 ∙ ap (λ (t : List ℕ). t ++ answer_text answer) (e2 ∙ ap (λ (t : List ℕ). t ++ codes " ") (e1 ∙ ap (λ (t : List ℕ). t ++ (codes "reply " ++ (decimal handler ++ (32 ∷ decimal call)))) e)))
-    ∙ joined_head (codes "reply ") (decimal handler) (decimal call) (answer_text answer)
+head_appended handler call got answer o o1 o2 o3 o4 e e1 e2 e3 e4 =
+    e4 ∙ ap (λ (t : List ℕ). t ++ codes "\n") (e3 ∙ ap (λ (t : List ℕ). t ++ answer_text got answer) (e2 ∙ ap (λ (t : List ℕ). t ++ codes " ") (e1 ∙ ap (λ (t : List ℕ). t ++ (codes "reply " ++ (decimal handler ++ (32 ∷ decimal call)))) e)))
+    ∙ joined_head (codes "reply ") (decimal handler) (decimal call) (answer_text got answer)
 
 -- a reply's line and those of its cells, appended
-pub reply_appended : (r : ReplyLine) (o o1 o2 : List ℕ) → o1 ≡ o ++ reply_head r.handler r.call r.answer → o2 ≡ o1 ++ flat_map cell_line (cells_told r.answer) → o2 ≡ o ++ reply_text r
+pub reply_appended : (r : ReplyLine) (o o1 o2 : List ℕ) → o1 ≡ o ++ reply_head r.handler r.call r.got r.answer → o2 ≡ o1 ++ flat_map cell_line (cells_told r.answer) → o2 ≡ o ++ reply_text r
 reply_appended r o o1 o2 e1 e2 =
     e2 ∙ ap (λ (t : List ℕ). t ++ flat_map cell_line (cells_told r.answer)) e1
-    ∙ append_assoc o (reply_head r.handler r.call r.answer) (flat_map cell_line (cells_told r.answer))
+    ∙ append_assoc o (reply_head r.handler r.call r.got r.answer) (flat_map cell_line (cells_told r.answer))
     ∙ ap (λ (t : List ℕ). o ++ t) (sym (reply_parts r))

@@ -18,7 +18,7 @@ abbrev pub region_part : RegionLine → List Words
 region_part r = (codes "region" ∷ decimal r.region ∷ codes "base" ∷ decimal r.last ∷ decimal r.count ∷ []) ∷ flat_map edit_part r.edits
 
 abbrev pub reply_part : ReplyLine → List Words
-reply_part r = (codes "reply" ∷ decimal r.handler ∷ decimal r.call ∷ answer_words r.answer) ∷ flat_map cell_part (cells_told r.answer)
+reply_part r = (codes "reply" ∷ decimal r.handler ∷ decimal r.call ∷ answer_words r.got r.answer) ∷ flat_map cell_part (cells_told r.answer)
 
 abbrev pub end_part : ℕ → List Words
 end_part status = (codes "end" ∷ decimal status ∷ []) ∷ []
@@ -47,7 +47,7 @@ region_lines r = ap (λ (t : List ℕ). line (codes "region" ∷ decimal r.regio
 
 reply_lines : (r : ReplyLine) → reply_text r ≡ flat_map line (reply_part r)
 unfolding reply_text
-reply_lines r = ap (λ (t : List ℕ). line (codes "reply" ∷ decimal r.handler ∷ decimal r.call ∷ answer_words r.answer) ++ t) (by_parts cell_line cell_part cell_lines (cells_told r.answer))
+reply_lines r = ap (λ (t : List ℕ). line (codes "reply" ∷ decimal r.handler ∷ decimal r.call ∷ answer_words r.got r.answer) ++ t) (by_parts cell_line cell_part cell_lines (cells_told r.answer))
 
 end_lines : (status : ℕ) → end_line status ≡ flat_map line (end_part status)
 unfolding end_line

@@ -15,7 +15,7 @@ use Rattle.report_text.proofs.Runs.{Words, top, AreParts, runs_apart, follows}
 use Rattle.report_text.proofs.Lines.{cell_part, edit_part, region_part, reply_part, end_part, report_lines, text_by_lines}
 use Rattle.report_text.proofs.WordLaws.{lines_one}
 use Rattle.report_text.proofs.CleanLines.{report_clean}
-use Rattle.report_text.proofs.AnswerWords.{answers_apart}
+use Rattle.report_text.proofs.AnswerWords.{gets_apart, answers_apart}
 
 bytes_of_token : Option (List ℕ) → List ℕ
 bytes_of_token None = []
@@ -117,13 +117,14 @@ replies_apart : (x y : ReplyLine) (s t : List Words) → IsReplyLine x → IsRep
 replies_apart x y s t hx hy hs ht e =
     let handler : decimal x.handler ≡ decimal y.handler = cc in
     let call : decimal x.call ≡ decimal y.call = cc in
-    let words : answer_words x.answer ≡ answer_words y.answer = cc in
+    let words : answer_words x.got x.answer ≡ answer_words y.got y.answer = cc in
     let rest : flat_map cell_part (cells_told x.answer) ++ s ≡ flat_map cell_part (cells_told y.answer) ++ t = cc in
     let h = decimal_injective x.handler y.handler hx.numbers.0 hy.numbers.0 handler in
     let c = decimal_injective x.call y.call hx.numbers.1.0 hy.numbers.1.0 call in
     let more = runs_apart are_cells (cells_told x.answer) (cells_told y.answer) s t hx.cells hy.cells hs ht (any (top s)) (any (top t)) rest in
-    let a = answers_apart x.answer y.answer hx.answer hy.answer words more.0 in
-    let same : x ≡ y = λ i. record { handler = h i; call = c i; answer = a i } in
+    let a = answers_apart x.got y.got x.answer y.answer hx.answer hy.answer words more.0 in
+    let g = gets_apart x.got y.got x.answer y.answer hx.got hy.got words in
+    let same : x ≡ y = λ i. record { handler = h i; call = c i; answer = a i; got = g i } in
     (same, more.1)
 
 are_replies : AreParts reply_part IsReplyLine 5 NotFour

@@ -1,10 +1,10 @@
 -- A report has one reading.
-use Rattle.std.specs.Prelude.{◌≡◌, ℕ, ◌<◌, ◌^◌, List, [], ◌∷◌, length, Option, Some, None}
+use Rattle.std.specs.Prelude.{◌≡◌, ℕ, ◌<◌, ◌^◌, IsTrue, List, [], ◌∷◌, length, Option, Some, None}
 use Rattle.std.specs.List.{AllByRecursion}
 use Rattle.cell_model.specs.Cell.{IsCell}
 use Rattle.cell_model.specs.Order.{NumberedCell}
 use Rattle.kv_cell.specs.Laws.{AreBytes}
-use Rattle.region_model.specs.Calls.{Answer, PutOk, PutMemory, PutFault, PutSpent, Scanned, ScanMemory, FlushOk, FlushNothing, FlushBusy, FlushFault, FlushMemory, RollOk, RollNothing, RollFault, RollMemory}
+use Rattle.region_model.specs.Calls.{Answer, PutOk, PutMemory, PutFault, PutSpent, Scanned, ScanMemory, FlushOk, FlushNothing, FlushBusy, FlushFault, FlushMemory, RollOk, RollNothing, RollFault, RollMemory, is_scan}
 use Rattle.script_model.specs.Text.{token_of, printed}
 use Rattle.script_model.specs.Report.{EditLine, RegionLine, ReplyLine, Report, cells_told, report_text}
 
@@ -54,6 +54,8 @@ pub record IsReplyLine (r : ReplyLine) : Type 0 where
   pub numbers : AreNumbers (r.handler ∷ r.call ∷ [])
   pub answer : AreNumbers (numbers_of r.answer)
   pub cells : AllByRecursion IsNumberedCell (cells_told r.answer)
+  -- a get is answered as a scan is
+  pub got : IsTrue r.got → IsTrue (is_scan r.answer)
 
 -- its numbers are below 2 ^ 64, and its cells are within their limits
 pub record IsReport (r : Report) : Type 0 where

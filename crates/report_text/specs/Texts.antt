@@ -1,5 +1,5 @@
 -- Parts of the lines of a report.
-use Rattle.std.specs.Prelude.{ℕ, List, [], ◌∷◌, ◌++◌, codes}
+use Rattle.std.specs.Prelude.{ℕ, Bool, List, [], ◌∷◌, ◌++◌, codes}
 use Rattle.std.specs.Fmt.{decimal}
 use Rattle.region_model.specs.Calls.{Answer}
 use Rattle.script_model.specs.Text.{printed}
@@ -18,9 +18,9 @@ abbrev pub tags_text : List ℕ → List ℕ
 tags_text [] = []
 tags_text (b ∷ bs) = 32 ∷ printed (b ∷ bs)
 
-unfoldable pub answer_text : Answer → List ℕ
-answer_text answer = spaced (answer_words answer)
+unfoldable pub answer_text : (got : Bool) → Answer → List ℕ
+answer_text got answer = spaced (answer_words got answer)
 
 -- the line of a reply, without the cells that it tells
-unfoldable pub reply_head : (handler call : ℕ) → Answer → List ℕ
-reply_head handler call answer = codes "reply " ++ (decimal handler ++ (32 ∷ (decimal call ++ (32 ∷ (answer_text answer ++ 10 ∷ [])))))
+unfoldable pub reply_head : (handler call : ℕ) (got : Bool) → Answer → List ℕ
+reply_head handler call got answer = codes "reply " ++ (decimal handler ++ (32 ∷ (decimal call ++ (32 ∷ (answer_text got answer ++ 10 ∷ [])))))

@@ -1,9 +1,10 @@
 //! Reply lines, each with the cells that its answer tells, and the last line.
 
-ghost use Rattle.std.specs.Prelude.{◌≡◌, ◌≤◌, ◌+◌, [], ◌++◌, IfOk, OnOk, length, take, vec_len};
+ghost use Rattle.std.specs.Prelude.{◌≡◌, ◌≤◌, ◌+◌, [], ◌++◌, IfOk, IsTrue, OnOk, length, take, vec_len};
 ghost use Rattle.std.specs.List.{flat_map, AllByRecursion};
+ghost use Rattle.region_model.specs.Calls.{is_scan};
 ghost use Rattle.script_model.specs.Report.{cell_line, cells_told, end_line, replies_text, reply_text};
-ghost use Rattle.script_calls.specs.Answers.{answer_of};
+ghost use Rattle.script_calls.specs.Answers.{answer_of, is_got};
 ghost use Rattle.report_text.specs.Reading.{AreNumbers, numbers_of, IsNumberedCell, IsReplyLine};
 ghost use Rattle.report_text.specs.Texts.{answer_text, reply_head};
 
@@ -18,9 +19,10 @@ use std::alloc::Global;
 #[tactic(auto, unfolding(crate::specs::Texts::answer_text))]
 fn push_answer(line: &mut Line, answer: &Answer)
     requires { length line.old + 55 ≤ 160 }
-    ensures text { line.new ≡ line.old ++ answer_text (answer_of answer.now) }
+    ensures text { line.new ≡ line.old ++ answer_text (is_got answer.now) (answer_of answer.now) }
     ensures len { length line.new ≤ length line.old + 55 }
     ensures reads { AreNumbers (numbers_of (answer_of answer.now)) }
+    ensures got { IsTrue (is_got answer.now) → IsTrue (is_scan (answer_of answer.now)) }
 {
     match answer {
         Answer::PutOk { number } => line.push_numbered("put ok ", *number),
@@ -31,6 +33,8 @@ fn push_answer(line: &mut Line, answer: &Answer)
         Answer::PutSpent { last } => line.push_numbered("put spent ", *last),
         Answer::Scanned { point, cells } => line.push_two("scan ", *point, cells.len() as u64),
         Answer::ScanMemory => line.push("scan memory"),
+        Answer::Got { point, cells } => line.push_two("get ", *point, cells.len() as u64),
+        Answer::GetMemory => line.push("get memory"),
         Answer::FlushOk { number } => line.push_numbered("flush ok ", *number),
         Answer::FlushNothing { number } => line.push_numbered("flush nothing ", *number),
         Answer::FlushBusy { handler, call } => {
@@ -48,9 +52,10 @@ fn push_answer(line: &mut Line, answer: &Answer)
 /// The line of a reply, without the cells that its answer tells.
 #[tactic(auto, unfolding(crate::specs::Texts::reply_head))]
 fn head_line(handler: u32, call: u32, answer: &Answer) -> Line
-    ensures text { result ≡ reply_head handler call (answer_of answer.now) }
+    ensures text { result ≡ reply_head handler call (is_got answer.now) (answer_of answer.now) }
     ensures len { length result ≤ 160 }
     ensures reads { AreNumbers (numbers_of (answer_of answer.now)) }
+    ensures got { IsTrue (is_got answer.now) → IsTrue (is_scan (answer_of answer.now)) }
 {
     let mut line = Line::new();
     line.push_two("reply ", handler as u64, call as u64);
@@ -64,7 +69,7 @@ fn head_line(handler: u32, call: u32, answer: &Answer) -> Line
 #[tactic(auto, using(crate::proofs::LineLaws::cells_left_out))]
 pub fn reply_line(handler: u32, call: u32, answer: &Answer) -> Line
     requires told { cells_told (answer_of answer.now) ≡ [] }
-    ensures text { result ≡ reply_text (record { handler = handler; call = call; answer = answer_of answer.now }) }
+    ensures text { result ≡ reply_text (record { handler = handler; call = call; answer = answer_of answer.now; got = is_got answer.now }) }
     ensures len { length result ≤ 160 }
 {
     head_line(handler, call, answer)
@@ -89,7 +94,10 @@ fn append_told(out: &mut Vec<u8>, answer: &Answer) -> Result<(), NoMemory>
     ensures kept { take (vec_len out.old) out.new.items ≡ out.old.items }
 {
     match answer {
-        Answer::Scanned { cells, .. } => append_cells(out, cells.as_slice()),
+        Answer::Scanned { cells, .. } | Answer::Got { cells, .. } => append_cells(
+            out,
+            cells.as_slice(),
+        ),
         _ => Ok(()),
     }
 }

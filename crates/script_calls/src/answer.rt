@@ -20,6 +20,9 @@ pub enum Answer {
     /// The cells that are seen at this point, shared with the region's segments.
     Scanned { point: u64, cells: SharedCells },
     ScanMemory,
+    /// The puts of the row that a reader sees at this point, shared with the region's segments.
+    Got { point: u64, cells: SharedCells },
+    GetMemory,
     /// The region is flushed up to this number.
     FlushOk { number: u64 },
     /// Nothing stood above this number.

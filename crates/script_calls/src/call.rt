@@ -21,6 +21,12 @@ pub enum Call {
         from: Octets,
         to: Octets,
     },
+    /// Reads a row, in which deletes mask and of each column the newest so many versions are seen.
+    Get {
+        region: u32,
+        row: Octets,
+        versions: u32,
+    },
     /// Writes the region's memory to a store file.
     Flush {
         region: u32,

@@ -15,11 +15,11 @@ pub struct ReplyLine {
 
 impl Model for ReplyLine {
     ghost use Rattle.script_model.specs.Report.{ReplyLine as TheLine};
-    ghost use Rattle.script_calls.specs.Answers.{answer_of};
+    ghost use Rattle.script_calls.specs.Answers.{answer_of, is_got};
 
     ghost Value = { TheLine };
 
-    ghost view = { λ r. record { handler = r.handler; call = r.call; answer = answer_of r.answer } };
+    ghost view = { λ r. record { handler = r.handler; call = r.call; answer = answer_of r.answer; got = is_got r.answer } };
 }
 
 /// Replies by handler, then call.

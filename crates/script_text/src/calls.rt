@@ -1,16 +1,16 @@
 //! Head lines and lines of calls.
 
 ghost use Rattle.std.specs.Prelude.{◌≡◌, ◌≤◌, [], ◌∷◌, IfOk, Some, codes, map};
-ghost use Rattle.region_model.specs.Calls.{Scan};
-ghost use Rattle.script_model.specs.Fields.{bytes_of, is};
-ghost use Rattle.script_model.specs.Tables.{Calls, Opens, call_fault, counted_fault, handler_fault, head_fault, put_fault, region_fault, scan_fault, second_number, spoken_of};
+ghost use Rattle.script_model.specs.Fields.{is};
+ghost use Rattle.script_model.specs.Tables.{Opens, call_fault, counted_fault, handler_fault, head_fault, put_fault, region_fault, second_number, spoken_of};
 ghost use Rattle.script_model.specs.Text.{number_of};
 ghost use Rattle.script_text.specs.Spoken.{InRange, spoken};
 ghost use Rattle.script_text.specs.Why.{Tells};
 
 use crate::faults::{LineError, ScriptWhy};
-use crate::fields::{any_token, mode, ranged};
+use crate::fields::{mode, ranged};
 use crate::here::{here, mode_here, one_here};
+use crate::reads::{get_line, scan_line};
 use kv_cell::Durability;
 use script_calls::Call;
 use script_model::Command;
@@ -65,7 +65,7 @@ pub fn counted_line(
 }
 
 /// The number of a handler.
-fn handler_of(word: &[u8], handlers: u64) -> Result<u64, LineError>
+pub(crate) fn handler_of(word: &[u8], handlers: u64) -> Result<u64, LineError>
     ensures value { IfOk result (λ n. n ≡ number_of word.now) }
     ensures within { IfOk result (λ n. (1 ≤ n) × (n ≤ handlers)) }
     ensures exact { Tells result (handler_fault handlers word.now) }
@@ -74,7 +74,7 @@ fn handler_of(word: &[u8], handlers: u64) -> Result<u64, LineError>
 }
 
 /// The number of a region.
-fn region_of(word: &[u8], regions: u32) -> Result<u32, LineError>
+pub(crate) fn region_of(word: &[u8], regions: u32) -> Result<u32, LineError>
     ensures value { IfOk result (λ n. n ≡ number_of word.now) }
     ensures within { IfOk result (λ n. (1 ≤ n) × (n ≤ regions)) }
     ensures exact { Tells result (region_fault regions word.now) }
@@ -98,7 +98,7 @@ pub fn call_line(
     match words {
         [name, h] => roll_line(command, handlers, regions, name, h),
         [name, h, r] => flush_line(command, handlers, regions, name, h, r),
-        [name, h, r, x, y] => put_or_scan(alloc, command, handlers, regions, name, h, r, x, y),
+        [name, h, r, x, y] => put_or_read(alloc, command, handlers, regions, name, h, r, x, y),
         _ => Err(LineError::Wrong(ScriptWhy::Word)),
     }
 }
@@ -151,8 +151,8 @@ fn flush_line(
     })
 }
 
-/// A put or a scan.
-fn put_or_scan(
+/// A put, a scan or a get.
+fn put_or_read(
     alloc: Global,
     command: Command,
     handlers: u64,
@@ -170,10 +170,13 @@ fn put_or_scan(
     if name == b"put".as_slice() {
         return put_line(command, handlers, regions, h, r, x, y);
     }
-    if name != b"scan".as_slice() {
+    if name == b"scan".as_slice() {
+        return scan_line(alloc, command, handlers, regions, h, r, x, y);
+    }
+    if name != b"get".as_slice() {
         return Err(LineError::Wrong(ScriptWhy::Word));
     }
-    scan_line(alloc, command, handlers, regions, h, r, x, y)
+    get_line(alloc, command, handlers, regions, h, r, x, y)
 }
 
 /// A put whose cells follow.
@@ -200,31 +203,5 @@ fn put_line(
         region,
         durability,
         count,
-    })
-}
-
-/// A scan of the rows between two tokens.
-fn scan_line(
-    alloc: Global,
-    command: Command,
-    handlers: u64,
-    regions: u32,
-    h: &[u8],
-    r: &[u8],
-    from: &[u8],
-    to: &[u8],
-) -> Result<Spoken, LineError>
-    ensures exact { Tells result (scan_fault command handlers regions h.now r.now from.now to.now) }
-    ensures value { IfOk result (λ s. spoken s ≡ Calls (number_of h.now) (Scan (number_of r.now) (bytes_of from.now) (bytes_of to.now))) }
-    ensures within { IfOk result (λ s. InRange handlers regions s) }
-{
-    let handler = handler_of(h, handlers)?;
-    let region = region_of(r, regions)?;
-    let from = any_token(alloc, from)?;
-    let to = any_token(alloc, to)?;
-    here(command)?;
-    Ok(Spoken::Calls {
-        handler,
-        call: Call::Scan { region, from, to },
     })
 }

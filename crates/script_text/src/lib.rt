@@ -13,6 +13,7 @@ mod here;
 mod numbers;
 mod parse;
 mod pieces;
+mod reads;
 mod saying;
 mod state;
 mod table;
