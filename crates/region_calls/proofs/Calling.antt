@@ -3,7 +3,7 @@ use Rattle.std.proofs.Common.{◌≡◌, ℕ, zero, suc, ◌+◌, ◌<◌, ◌�
 use Rattle.cell_model.specs.Batch.{Batch}
 use Rattle.log_service.specs.declared.seats.LogSeat.{LogSeat}
 use Rattle.log_service.specs.Places.{IsLaterSeat}
-use Rattle.region_model.specs.Calls.{Answer, is_put, is_scan, is_flush}
+use Rattle.region_model.specs.Calls.{Answer, Raw, is_put, is_scan, is_flush}
 use Rattle.region_model.specs.Journal.{Base, Edit, Caller}
 use Rattle.region_model.specs.Lawful.{number_of}
 use Rattle.region_model.specs.Lines.{edits_in}
@@ -49,7 +49,7 @@ module _ {N : Type 0} {g : Ghosts N} where
   pub scans_all : (name : Naming) (k : ℕ) (from to : List ℕ) (answer : Answer) (h calls : ℕ) (ps : List (RegionPass N g)) (p p' : RegionPass N g) (seat : LogSeat)
       → slice_get ps k ≡ Some p → k < length ps → IsTrue (is_scan answer)
       → ScansAt (name.bases (suc k)) from to answer (known_of (length ps) p seat) (known_of (length ps) p' seat)
-      → Scans name (suc k) from to answer (pass_of h calls ps seat) (pass_of h calls (set ps k p') seat)
+      → Scans name Raw (suc k) from to answer (pass_of h calls ps seat) (pass_of h calls (set ps k p') seat)
   scans_all name k from to answer h calls ps p p' seat at low answered scans =
       scans_from name (suc k) from to answer (pass_of h calls ps seat) (pass_of h calls (set ps k p') seat) answered
       (subst (λ (w : Known). ScansAt (name.bases (suc k)) from to answer w (known_in (set ps k p') seat (suc k))) (sym (was_here ps k p seat at))

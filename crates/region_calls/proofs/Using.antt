@@ -11,7 +11,7 @@ use Rattle.log_device.specs.declared.error.RollRefusal.{RollRefusal}
 use Rattle.log_device.specs.declared.error.RollRefusal.TheVariants as roll
 use Rattle.log_service.specs.declared.seats.LogSeat.{LogSeat}
 use Rattle.log_service.specs.Places.{IsLaterSeat}
-use Rattle.region_model.specs.Calls.{Answer, is_put, is_scan, is_flush, is_roll}
+use Rattle.region_model.specs.Calls.{Answer, Raw, is_put, is_scan, is_flush, is_roll}
 use Rattle.region_model.specs.Journal.{Base, Caller, last_of}
 use Rattle.region_model.specs.Lines.{Line, edits_in, last_in}
 use Rattle.server_model.specs.Pass.{Naming}
@@ -108,11 +108,11 @@ module _ {N : Type 0} {g : Ghosts N} where
   pub scans_used : (name : Naming) (bases : ℕ → Base) (r k : ℕ) (from to : List ℕ) (answer : Answer) (h calls : ℕ) (ps : List (RegionPass N g)) (p p' : RegionPass N g) (seat : LogSeat)
       → IsUsed h calls r k ps p → name.bases ≡ bases → IsTrue (is_scan answer)
       → ScansAt (bases p.viewer.region) from to answer (known_of (length ps) p seat) (known_of (length ps) p' seat)
-      → Scans name r from to answer (pass_of h calls ps seat) (pass_of h calls (set ps k p') seat)
+      → Scans name Raw r from to answer (pass_of h calls ps seat) (pass_of h calls (set ps k p') seat)
   scans_used name bases r k from to answer h calls ps p p' seat u named answered scans =
       let one = subst (λ (f : ℕ → Base). ScansAt (f p.viewer.region) from to answer (known_of (length ps) p seat) (known_of (length ps) p' seat)) (sym named) scans in
       let all = subst (λ (s : ℕ). ScansAt (name.bases s) from to answer (known_of (length ps) p seat) (known_of (length ps) p' seat)) u.region one in
-      subst (λ (s : ℕ). Scans name s from to answer (pass_of h calls ps seat) (pass_of h calls (set ps k p') seat)) u.next
+      subst (λ (s : ℕ). Scans name Raw s from to answer (pass_of h calls ps seat) (pass_of h calls (set ps k p') seat)) u.next
       (scans_all name k from to answer h calls ps p p' seat u.at u.low answered all)
 
   closed_in : (n k : ℕ) (answer : Answer) (before after : LogSeat) (o : Option (RegionPass N g)) → ((p : RegionPass N g) → o ≡ Some p → (p.viewer.region ≡ k + 1) × (k < n))

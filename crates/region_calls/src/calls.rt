@@ -3,6 +3,7 @@
 ghost use Rattle.std.specs.Prelude.{◌≡◌, ◌-◌, ◌≤◌, ◌<◌, ◌^◌, ◌⊎◌, Contains, true};
 ghost use Rattle.log_service.specs.Places.{IsSeatOf, IsLaterSeat, FoundTaken, HadTurn, LastFoundTaken, LastHadTurn};
 ghost use Rattle.server_model.specs.Pass.{IsLater};
+ghost use Rattle.region_model.specs.Calls.{Raw};
 ghost use Rattle.server_model.specs.Steps.{IsQuietPass, Puts, Scans, Flushes, Rolls};
 ghost use Rattle.region_lock.specs.Puts.{IsFaultExact};
 ghost use Rattle.region_calls.specs.Answers.{is_sync, put_answer, scan_answer, begun_answer, point_seen, flush_answer, roll_answer};
@@ -101,7 +102,7 @@ impl<
     ) -> Result<ScanReply, NoMemory>
         requires of { IsPassOf self.now pass.old }
         requires region { (1 ≤ region) × (region ≤ N.name.regions) }
-        ensures scans { Scans N.name region from.now to.now (scan_answer result) (knows pass.old) (knows pass.new) }
+        ensures scans { Scans N.name Raw region from.now to.now (scan_answer result) (knows pass.old) (knows pass.new) }
         ensures of { IsPassOf self.now pass.new }
     {
         let place = self.place_of(region);
@@ -121,7 +122,7 @@ impl<
     ) -> Result<Scanner, NoMemory>
         requires of { IsPassOf self.now pass.old }
         requires region { (1 ≤ region) × (region ≤ N.name.regions) }
-        ensures scans { Scans N.name region from.now to.now (begun_answer (point_seen N.name region (knows pass.new)) result)
+        ensures scans { Scans N.name Raw region from.now to.now (begun_answer (point_seen N.name region (knows pass.new)) result)
             (knows pass.old) (knows pass.new) }
         ensures of { IsPassOf self.now pass.new }
     {

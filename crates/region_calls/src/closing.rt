@@ -117,6 +117,7 @@ fn finish<
         service,
         regions,
         mut places,
+        rt: _,
     } = server;
     let Passes {
         regions: _,
@@ -220,6 +221,7 @@ impl<
             service,
             regions,
             mut places,
+            rt: _,
         } = server;
         let Passes {
             regions: _,

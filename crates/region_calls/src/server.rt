@@ -23,6 +23,8 @@ pub struct Server<
     pub(crate) regions: Vec<Mutex<Locked<N, &'a R>>>,
     // The places of the regions' passes of the ring, which stand in the regions' locks.
     pub(crate) places: RingPasses<Item>,
+    // The handle that the regions' versions keep: with a field of its own its lifetime is known to be the handle's.
+    pub(crate) rt: &'a R,
 }
 
 impl<

@@ -124,7 +124,7 @@ fn join<
     D: Disk,
     N: Naming + region_lock::Naming + log_service::Naming + region_versions::Naming,
     R: Wait,
->(parts: ServiceParts<D, N>, room: Room<'a, N, R>, handlers: u32) -> Started<'a, D, N, R>
+>(rt: &'a R, parts: ServiceParts<D, N>, room: Room<'a, N, R>, handlers: u32) -> Started<'a, D, N, R>
     requires handlers { (1 ≤ handlers) × (handlers ≤ 16) × (handlers ≡ N.handlers) }
     requires served { IsBegun D.told N.name N.found N.handlers N.flushes N.ring N.lasts N.Naming-3.base N.Naming-4.base parts.service }
     requires passes { AreNew N.ring N.lasts 0 parts.passes × (length parts.passes ≡ parts.service.regions) }
@@ -166,6 +166,7 @@ fn join<
             service,
             regions,
             places,
+            rt,
         },
         passes: Passes {
             regions: hands,
@@ -220,7 +221,7 @@ impl<D: Disk> Opened<D> {
             });
         };
         match LogService::start(alloc, rings, device, regions, handlers + 2) {
-            Ok(parts) => Ok(join(parts, room, handlers)),
+            Ok(parts) => Ok(join(rt, parts, room, handlers)),
             Err(ServiceRefusal { device }) => Err(StartRefusal {
                 why: StartWhy::Memory,
                 disk: device.into_disk(),

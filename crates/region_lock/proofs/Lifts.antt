@@ -3,7 +3,7 @@ use Rattle.std.proofs.lemmas.Bool.{cases_eq}
 use Rattle.std.proofs.Common.{◌≡◌, ◌≢◌, ℕ, ◌≤◌, Bool, IsTrue, List, sym, ◌∙◌, subst, inl, inr, arith}
 use Rattle.cell_model.specs.Batch.{Batch}
 use Rattle.region_model.specs.Journal.{Caller}
-use Rattle.region_model.specs.Calls.{Answer, is_put, is_scan, is_flush, is_roll}
+use Rattle.region_model.specs.Calls.{Answer, Raw, is_put, is_scan, is_flush, is_roll}
 use Rattle.log_service.specs.declared.seats.LogSeat.{LogSeat}
 use Rattle.server_model.specs.Pass.{Pass, Naming, IsLaterOf, IsQuiet}
 use Rattle.server_model.specs.Steps.{Puts, Scans, Flushes, Rolls, IsRolled}
@@ -41,7 +41,7 @@ puts_from name time r sync batch caller answer old new answered p others handler
 -- One scan of a pass. Its seat has seen no more.
 pub scans_from : (name : Naming) (r : ℕ) (from to : List ℕ) (answer : Answer) (old new : Pass) → IsTrue (is_scan answer)
     → ScansAt (name.bases r) from to answer (old.known r) (new.known r) → ((s : ℕ) → s ≢ r → IsLaterOf (old.known s) (new.known s) × IsQuiet (old.known s) (new.known s))
-    → new.handler ≡ old.handler → new.calls ≡ old.calls → new.broken ≡ old.broken → Scans name r from to answer old new
+    → new.handler ≡ old.handler → new.calls ≡ old.calls → new.broken ≡ old.broken → Scans name Raw r from to answer old new
 scans_from name r from to answer old new answered p others handler used broken = record {
   answered = answered;
   later = record { handler = handler; calls = omega (arith, used); known = later_of_all r old new p.later (λ s other. (others s other).0); broken = λ e. broken ∙ e };

@@ -45,6 +45,7 @@ fn wants(answer: &Answer) -> bool
         Answer::PutMemory
             | Answer::PutMemoryAt { .. }
             | Answer::ScanMemory
+            | Answer::GetMemory
             | Answer::FlushMemory
             | Answer::RollMemory
     )

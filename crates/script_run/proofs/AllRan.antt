@@ -7,7 +7,7 @@ use Rattle.region_model.specs.Calls.{Call}
 use Rattle.script_model.specs.Calls.{Script, Asked, asked_of, asked_from, asked, asked_by, IsAmong, IsScript}
 use Rattle.script_model.specs.Report.{ReplyLine}
 use Rattle.script_calls.specs.Calls.{call_of}
-use Rattle.server_model.specs.Pass.{Pass, Naming, IsFresh}
+use Rattle.server_model.specs.Pass.{Pass as ThePass, Naming, IsFresh}
 use Rattle.server_model.specs.Closing.{Handled, HasRun as HandlerRan, passes_of, replies_of}
 use Rattle.server_model.specs.Closing.{Pairs}
 use Rattle.server_model.proofs.JournalLaws.{contains_cons}
@@ -15,8 +15,12 @@ use Rattle.run_model.specs.Closed.{IsNameFor}
 use Rattle.run_model.proofs.AskedLaws.{flush_listed}
 use Rattle.log_service.specs.Places.{Place}
 use Rattle.region_lock.specs.declared.naming.Naming.{Ghosts}
+use Rattle.region_calls.specs.declared.pass.Pass.{Pass}
 use Rattle.region_calls.specs.Passes.{knows, IsPassOf}
-use Rattle.script_run.specs.Handled.{MayCallAll}
+use Rattle.server_model.specs.Steps.{Does, Runs}
+use Rattle.region_model.specs.Calls.{Reply}
+use Rattle.script_handlers.specs.Calling.{MayCall}
+use Rattle.script_handlers.specs.Handled.{MayCallAll, RunsBy}
 use Rattle.script_run.specs.Rooms.{calls_in, AreRooms, script_in, IsTaken, AreTaken}
 use Rattle.script_run.specs.Ran.{AllOfPlace, AreReady, HasRun, HaveRun, pass_of, lines_in, spent_in}
 use Rattle.script_run.specs.Ends.{lines_of, first_of_all}
@@ -42,13 +46,13 @@ use Rattle.region_calls.specs.declared.closed.ClosedRegion.{ClosedRegion}
 use Rattle.script_run.specs.Ends.{closed_at, HasClosed}
 use Rattle.std.proofs.Math.Logic.{∥∥₁_map}
 use Rattle.script_run.specs.declared.room.Room.{Room}
-use Rattle.script_run.specs.declared.handler.Handler.{Handler}
+use Rattle.script_handlers.specs.declared.handler.Handler.{Handler}
 
 -- ---- before they run
 
 -- a handler's calls may be made, being the script's
 may_all : (script : Script) (name : Naming) (h n : ℕ) (calls : List Call) → IsNameFor script name → All (IsAmong script.regions) calls
-    → ((a : Asked) → Contains (asked_of h n calls) a → Contains (asked script) a) → MayCallAll name h n calls
+    → ((a : Asked) → Contains (asked_of h n calls) a → Contains (asked script) a) → MayCallAll (MayCall name) h n calls
 may_all script name h n [] named all sub = tt
 may_all script name h n (c ∷ cs) named all sub = (
   record {
@@ -59,7 +63,7 @@ may_all script name h n (c ∷ cs) named all sub = (
 )
 
 module _ {N : Type 0} {of : Ghosts N} where
-  ready_each : (script : Script) (name : Naming) (place : Place) (n : ℕ) (rooms : List Room) (hs : List (Handler N of)) → IsNameFor script name → AreRooms rooms → AreTaken n rooms hs → AllOfPlace place hs
+  ready_each : (script : Script) (name : Naming) (place : Place) (n : ℕ) (rooms : List Room) (hs : List (Handler (Pass N of))) → IsNameFor script name → AreRooms rooms → AreTaken n rooms hs → AllOfPlace place hs
       → All (All (IsAmong script.regions)) (map calls_in rooms) → All (λ calls. length calls ≤ 16777216) (map calls_in rooms)
       → ((a : Asked) → Contains (asked_from n (map calls_in rooms)) a → Contains (asked script) a) → AreReady name place hs
   ready_each script name place n [] [] named empty taken all among few sub i d lt = absurd (omega (arith, lt))
@@ -75,45 +79,50 @@ module _ {N : Type 0} {of : Ghosts N} where
       let short : length (calls_in room) ≤ 16777216 = few 0 (calls_in room) (omega arith) in
       let len : length (calls_in room) ≡ length room.calls.items = length-map room.calls.items call_of in
       record {
-        of_server = all.0;
+        of = all.0;
         calls = t.fresh.calls;
         none = (ap (λ v. v.items) t.replies ∙ empty.0.none, t.spent);
         room = subst (λ v. vec_len v ≤ vec_capacity h.replies) (sym t.calls) (subst (λ v. vec_len room.calls ≤ vec_capacity v) (sym t.replies) empty.0.room_there);
         few = omega (arith, short, len, ap vec_len t.calls, room.calls.ok);
-        may = subst (λ k. MayCallAll name k 1 (map call_of h.calls.items)) (sym t.fresh.handler) (subst (MayCallAll name n 1) (sym calls) may);
+        allowed = subst (λ k. MayCallAll (MayCall name) k 1 (map call_of h.calls.items)) (sym t.fresh.handler) (subst (MayCallAll (MayCall name) n 1) (sym calls) may);
       }
 
 -- the handlers of a script's rooms are ready
-pub all_ready : {N : Type 0} {of : Ghosts N} (name : Naming) (place : Place) (time regions : ℕ) (rooms : List Room) (hs : List (Handler N of)) → IsScript (script_in time regions rooms) → IsNameFor (script_in time regions rooms) name
+pub all_ready : {N : Type 0} {of : Ghosts N} (name : Naming) (place : Place) (time regions : ℕ) (rooms : List Room) (hs : List (Handler (Pass N of))) → IsScript (script_in time regions rooms) → IsNameFor (script_in time regions rooms) name
     → AreRooms rooms → AreTaken 1 rooms hs → AllOfPlace place hs → AreReady name place hs
 all_ready name place time regions rooms hs right named empty taken all = ready_each (script_in time regions rooms) name place 1 rooms hs named empty taken all right.calls_among right.calls_few (λ a is. is)
 
 -- ---- once they have run
 
-abbrev pub EachRan : {N : Type 0} {of : Ghosts N} → Naming → Place → ℕ → List (Handler N of) → List (Handler N of) → Type 0
+-- what a handler's calls made of its pass
+runs_of : (name : Naming) (time : ℕ) (first : ThePass) (replies : List Reply) (last : ThePass) → RunsBy (λ (k : ThePass). k.handler) (Does name time) first replies last → Runs name time first replies last
+runs_of name time first [] last run = run
+runs_of name time first (reply ∷ replies) last run = (run.0, record { handler = run.1.handler; does = run.1.made }, runs_of name time run.0 replies last run.2)
+
+abbrev pub EachRan : {N : Type 0} {of : Ghosts N} → Naming → Place → ℕ → List (Handler (Pass N of)) → List (Handler (Pass N of)) → Type 0
 EachRan name place time [] [] = Unit {0}
 EachRan name place time [] (x ∷ xs) = ⊥
 EachRan name place time (o ∷ os) [] = ⊥
 EachRan name place time (o ∷ os) (x ∷ xs) = HasRun name place time o x × EachRan name place time os xs
 
-each_ran : {N : Type 0} {of : Ghosts N} (name : Naming) (place : Place) (time : ℕ) (os xs : List (Handler N of)) → HaveRun name place time os xs → EachRan name place time os xs
+each_ran : {N : Type 0} {of : Ghosts N} (name : Naming) (place : Place) (time : ℕ) (os xs : List (Handler (Pass N of))) → HaveRun name place time os xs → EachRan name place time os xs
 each_ran name place time [] [] h = tt
 each_ran name place time [] (x ∷ xs) h = absurd (omega (arith, h.len))
 each_ran name place time (o ∷ os) [] h = absurd (omega (arith, h.len))
 each_ran name place time (o ∷ os) (x ∷ xs) h = (h.each 0 o (omega arith), each_ran name place time os xs record { len = omega (arith, h.len); each = λ i d lt. h.each (suc i) d (omega (arith, lt)) })
 
 -- all are of the server
-pub all_of : {N : Type 0} {of : Ghosts N} (name : Naming) (place : Place) (time : ℕ) (os xs : List (Handler N of)) → HaveRun name place time os xs → AllOfPlace place xs
+pub all_of : {N : Type 0} {of : Ghosts N} (name : Naming) (place : Place) (time : ℕ) (os xs : List (Handler (Pass N of))) → HaveRun name place time os xs → AllOfPlace place xs
 all_of {N} {of} name place time os xs ran = go os xs (each_ran name place time os xs ran)
   where
-    go : (os xs : List (Handler N of)) → EachRan name place time os xs → AllOfPlace place xs
+    go : (os xs : List (Handler (Pass N of))) → EachRan name place time os xs → AllOfPlace place xs
     go [] [] each = tt
     go [] (x ∷ xs) each = absurd each
     go (o ∷ os) [] each = tt
-    go (o ∷ os) (x ∷ xs) each = (each.0.0, go os xs each.1)
+    go (o ∷ os) (x ∷ xs) each = (each.0.of, go os xs each.1)
 
 -- what is handed on of them
-pub record IsHandled {N : Type 0} {of : Ghosts N} (name : Naming) (time n : ℕ) (rooms : List Room) (xs : List (Handler N of)) (hs : List Handled) : Type 0 where
+pub record IsHandled {N : Type 0} {of : Ghosts N} (name : Naming) (time n : ℕ) (rooms : List Room) (xs : List (Handler (Pass N of))) (hs : List Handled) : Type 0 where
   pub each : AllByRecursion (HandlerRan name time) hs
   pub least : (h : Handled) → Contains hs h → n ≤ h.pass.handler
   pub apart : Pairs (λ (a b : Handled). a.pass.handler ≢ b.pass.handler) hs
@@ -125,7 +134,7 @@ pub record IsHandled {N : Type 0} {of : Ghosts N} (name : Naming) (time n : ℕ)
 no_member : {A : Type 0} (x : A) → Contains [] x → ⊥
 no_member x is = omega (arith, is.1)
 
-handled_all : {N : Type 0} {of : Ghosts N} (name : Naming) (place : Place) (time n : ℕ) (rooms : List Room) (os xs : List (Handler N of)) → AreTaken n rooms os → EachRan name place time os xs → (hs : List Handled) × IsHandled name time n rooms xs hs
+handled_all : {N : Type 0} {of : Ghosts N} (name : Naming) (place : Place) (time n : ℕ) (rooms : List Room) (os xs : List (Handler (Pass N of))) → AreTaken n rooms os → EachRan name place time os xs → (hs : List Handled) × IsHandled name time n rooms xs hs
 handled_all name place time n [] [] [] taken ran = ([], record { each = tt; least = λ h is. absurd (no_member h is); apart = tt; calls = refl; passes = refl; lines = refl; spent = refl })
 handled_all name place time n [] [] (x ∷ xs) taken ran = absurd ran
 handled_all name place time n [] (o ∷ os) xs taken ran = absurd taken
@@ -135,47 +144,47 @@ handled_all {N} {of} name place time n (room ∷ rooms) (o ∷ os) (x ∷ xs) ta
   where
     more : (hs : List Handled) × IsHandled name time (n + 1) rooms xs hs → (hs : List Handled) × IsHandled name time n (room ∷ rooms) (x ∷ xs) hs
     more rest =
-        let h = ran.0.1 in
+        let h = ran.0.handles in
         let t = taken.0 in
         let here : Handled = record { pass = knows x.pass; replies = h.replies } in
         let number : (knows x.pass).handler ≡ n = h.handler ∙ t.fresh.handler in
         let calls : map asked_by h.replies ≡ asked_of n 1 (calls_in room) = h.asked ∙ ap (λ k. asked_of k 1 (map call_of o.calls.items)) t.fresh.handler ∙ ap (λ v. asked_of n 1 (map call_of v.items)) t.calls in (
           here ∷ rest.0,
           record {
-            each = ((knows o.pass, subst (λ k. IsFresh k (knows o.pass)) (sym number) t.fresh, h.runs), rest.1.each);
+            each = ((knows o.pass, subst (λ k. IsFresh k (knows o.pass)) (sym number) t.fresh, runs_of name time (knows o.pass) h.replies (knows x.pass) h.runs), rest.1.each);
             least = λ g is. first_or g is;
             apart = ((λ g is same. absurd (omega (arith, number, same, rest.1.least g is))), rest.1.apart);
             calls = map-append asked_by h.replies (replies_of rest.0) ∙ ap (λ (l : List Asked). l ++ map asked_by (replies_of rest.0)) calls ∙ ap (λ (l : List Asked). asked_of n 1 (calls_in room) ++ l) rest.1.calls;
-            passes = ap (λ (l : List Pass). knows x.pass ∷ l) rest.1.passes;
+            passes = ap (λ (l : List ThePass). knows x.pass ∷ l) rest.1.passes;
             lines = λ i. (sym h.lines_are) i ∷ rest.1.lines i;
             spent = first_append h.replies (replies_of rest.0) ∙ ap₂ first_of h.first_told rest.1.spent;
           },
         )
       where
-        first_or : (g : Handled) → Contains (record { pass = knows x.pass; replies = ran.0.1.replies } ∷ rest.0) g → n ≤ g.pass.handler
-        first_or g (zero, lt, e) = omega (arith, ap (λ (k : Handled). k.pass.handler) e, ran.0.1.handler, taken.0.fresh.handler)
+        first_or : (g : Handled) → Contains (record { pass = knows x.pass; replies = ran.0.handles.replies } ∷ rest.0) g → n ≤ g.pass.handler
+        first_or g (zero, lt, e) = omega (arith, ap (λ (k : Handled). k.pass.handler) e, ran.0.handles.handler, taken.0.fresh.handler)
         first_or g (suc k, lt, e) = omega (arith, rest.1.least g (k, omega (arith, lt), e))
 
-pub served : {N : Type 0} {of : Ghosts N} (name : Naming) (place : Place) (time : ℕ) (rooms : List Room) (os xs : List (Handler N of)) → AreTaken 1 rooms os → HaveRun name place time os xs → (hs : List Handled) × IsHandled name time 1 rooms xs hs
+pub served : {N : Type 0} {of : Ghosts N} (name : Naming) (place : Place) (time : ℕ) (rooms : List Room) (os xs : List (Handler (Pass N of))) → AreTaken 1 rooms os → HaveRun name place time os xs → (hs : List Handled) × IsHandled name time 1 rooms xs hs
 served name place time rooms os xs taken ran = handled_all name place time 1 rooms os xs taken (each_ran name place time os xs ran)
 
 -- ---- lengths
 
-pub taken_length : {N : Type 0} {of : Ghosts N} (n : ℕ) (rooms : List Room) (hs : List (Handler N of)) → AreTaken n rooms hs → length hs ≡ length rooms
+pub taken_length : {N : Type 0} {of : Ghosts N} (n : ℕ) (rooms : List Room) (hs : List (Handler (Pass N of))) → AreTaken n rooms hs → length hs ≡ length rooms
 taken_length n [] [] t = refl
 taken_length n [] (h ∷ hs) t = absurd t
 taken_length n (room ∷ rooms) [] t = absurd t
 taken_length n (room ∷ rooms) (h ∷ hs) t = omega (arith, taken_length (n + 1) rooms hs t.1)
 
 -- one more handler
-pub taken_push : {N : Type 0} {of : Ghosts N} (n : ℕ) (rooms : List Room) (room : Room) (hs : List (Handler N of)) (h : Handler N of) → AreTaken n rooms hs → IsTaken (n + length rooms) room h → AreTaken n (rooms ++ room ∷ []) (hs ++ h ∷ [])
+pub taken_push : {N : Type 0} {of : Ghosts N} (n : ℕ) (rooms : List Room) (room : Room) (hs : List (Handler (Pass N of))) (h : Handler (Pass N of)) → AreTaken n rooms hs → IsTaken (n + length rooms) room h → AreTaken n (rooms ++ room ∷ []) (hs ++ h ∷ [])
 taken_push n [] room [] h t is = (subst (λ k. IsTaken k room h) (omega arith) is, tt)
 taken_push n [] room (g ∷ hs) h t is = absurd t
 taken_push n (r ∷ rooms) room [] h t is = absurd t
 taken_push n (r ∷ rooms) room (g ∷ hs) h t is = (t.0, taken_push (n + 1) rooms room hs h t.1 (subst (λ k. IsTaken k room h) (omega arith) is))
 
 -- all are of the server at this place, with one more of it
-pub of_push : {N : Type 0} {of : Ghosts N} (place : Place) (hs : List (Handler N of)) (h : Handler N of) → AllOfPlace place hs → IsPassOf place h.pass → AllOfPlace place (hs ++ h ∷ [])
+pub of_push : {N : Type 0} {of : Ghosts N} (place : Place) (hs : List (Handler (Pass N of))) (h : Handler (Pass N of)) → AllOfPlace place hs → IsPassOf place h.pass → AllOfPlace place (hs ++ h ∷ [])
 of_push place [] h all is = (is, tt)
 of_push place (g ∷ hs) h all is = (all.0, of_push place hs h all.1 is)
 
@@ -192,8 +201,8 @@ bases_found files bases name regions are count picks r low high =
     let is = base_of_region files bases are r low (omega (arith, count, high)) in
     subst (IsFound files r) (sym (picks r low high)) (record { last = is.last; content = is.content })
 
-pub closed_from : {N : Type 0} {of : Ghosts N} (name : Naming) (place : Place) (time regions : ℕ) (rooms : List Room) (os xs : List (Handler N of)) (files : Files) (left : DiskView) (cs : List ClosedRegion) (broken : Bool)
-    (passes : List Pass) (lines : List (List ReplyLine)) (spent : Option Spent)
+pub closed_from : {N : Type 0} {of : Ghosts N} (name : Naming) (place : Place) (time regions : ℕ) (rooms : List Room) (os xs : List (Handler (Pass N of))) (files : Files) (left : DiskView) (cs : List ClosedRegion) (broken : Bool)
+    (passes : List ThePass) (lines : List (List ReplyLine)) (spent : Option Spent)
     → IsScript (script_in time regions rooms) → IsNameFor (script_in time regions rooms) name → AreTaken 1 rooms os → HaveRun name place time os xs
     → passes ≡ map pass_of xs → lines ≡ map lines_in xs → spent ≡ first_of_all (map spent_in xs) → IsSound files
     → ((r : ℕ) → 1 ≤ r → r ≤ regions → IsFound files r (name.bases r))
@@ -201,7 +210,7 @@ pub closed_from : {N : Type 0} {of : Ghosts N} (name : Naming) (place : Place) (
     → ((x : ClosedRegion) → Contains cs x → IsClosedRegion name x.region passes (region_of x))
     → ((x : ClosedRegion) → Contains cs x → ∥ Survives left broken x.region (region_of x) ∥₁)
     → ∥ Leaves files left broken name.regions ∥₁
-    → ((p : Pass) → Contains passes p → p.broken ≡ true → broken ≡ true)
+    → ((p : ThePass) → Contains passes p → p.broken ≡ true → broken ≡ true)
     → HasClosed (script_in time regions rooms) files left name cs lines spent broken
 closed_from name place time regions rooms os xs files left cs broken passes lines spent right named taken ran are said told sound bases numbers closed survives leaves seen =
     let all = served name place time rooms os xs taken ran in
@@ -230,7 +239,7 @@ closed_from name place time regions rooms os xs files left cs broken passes line
 pub opened_keeps : (found left : DiskView) → During (WasOrAlike found) found left → KeepsFound found left
 opened_keeps found left during = half_keeps found left ∣ during ∣₁
 
-pub left_of : (name : Naming) (found left : DiskView) (passes : List Pass) (regions : ℕ) → 1 ≤ regions → name.regions ≡ regions
+pub left_of : (name : Naming) (found left : DiskView) (passes : List ThePass) (regions : ℕ) → 1 ≤ regions → name.regions ≡ regions
     → ((r : ℕ) → 1 ≤ r → r ≤ regions → IsFound found.files r (name.bases r))
     → (start : ℕ) → IsLeft name passes start left → ∥ Leaves found.files left true name.regions ∥₁ → KeepsFound found left
 left_of name found left passes regions some same bases start each leaves =

@@ -6,9 +6,10 @@ use Rattle.script_model.specs.Calls.{Script}
 use Rattle.script_calls.specs.Calls.{call_of}
 use Rattle.server_model.specs.Pass.{IsFresh}
 use Rattle.region_lock.specs.declared.naming.Naming.{Ghosts}
+use Rattle.region_calls.specs.declared.pass.Pass.{Pass}
 use Rattle.region_calls.specs.Passes.{knows}
+use Rattle.script_handlers.specs.declared.handler.Handler.{Handler}
 use Rattle.script_run.specs.declared.room.Room.{Room}
-use Rattle.script_run.specs.declared.handler.Handler.{Handler}
 
 abbrev pub calls_in : Room → List Call
 calls_in room = map call_of room.calls.items
@@ -26,13 +27,13 @@ abbrev pub script_in : (time regions : ℕ) → List Room → Script
 script_in time regions rooms = record { time = time; regions = regions; handlers = map calls_in rooms }
 
 -- the handler has the room's calls, and the pass of this number
-pub record IsTaken {N : Type 0} {of : Ghosts N} (n : ℕ) (room : Room) (h : Handler N of) : Type 0 where
+pub record IsTaken {N : Type 0} {of : Ghosts N} (n : ℕ) (room : Room) (h : Handler (Pass N of)) : Type 0 where
   pub fresh : IsFresh n (knows h.pass)
   pub calls : h.calls ≡ room.calls
   pub replies : h.replies ≡ room.replies
   pub spent : h.spent ≡ None
 
-abbrev pub AreTaken : {N : Type 0} {of : Ghosts N} → ℕ → List Room → List (Handler N of) → Type 0
+abbrev pub AreTaken : {N : Type 0} {of : Ghosts N} → ℕ → List Room → List (Handler (Pass N of)) → Type 0
 AreTaken n [] [] = Unit {0}
 AreTaken n [] (h ∷ hs) = ⊥
 AreTaken n (room ∷ rooms) [] = ⊥

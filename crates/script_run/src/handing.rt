@@ -8,18 +8,18 @@ ghost use Rattle.script_run.specs.Rooms.{AreTaken};
 ghost use Rattle.script_run.specs.Ran.{AllOfPlace, pass_of, lines_in, spent_in};
 ghost use Rattle.script_run.specs.Ends.{first_of_all};
 
-use crate::handler::Handler;
 use crate::room::Room;
 use crate::spending::first_of;
-use region_calls::Passes;
+use region_calls::{Pass, Passes};
 use run_model::Spent;
 use script_calls::ReplyLines;
+use script_handlers::Handler;
 
 /// Makes a handler for each room. There is room for them, and it takes no memory.
 pub fn take_passes<N: region_lock::Naming + region_versions::Naming>(
     rooms: Vec<Room>,
     passes: &mut Passes<N>,
-    handlers: &mut Vec<Handler<N>>,
+    handlers: &mut Vec<Handler<Pass<N>>>,
 )
     requires none { (handlers.old.items ≡ []) × (vec_len rooms ≤ vec_capacity handlers.old) }
     requires of { (place : Place) × ArePassesOf place N.handlers passes.old }
@@ -46,7 +46,7 @@ pub fn take_passes<N: region_lock::Naming + region_versions::Naming>(
 /// Gives the passes back, and keeps the replies and the first put that found no sequence id left. There is room for them, and
 /// it takes no memory.
 pub fn give_back<N: region_lock::Naming + region_versions::Naming>(
-    handlers: Vec<Handler<N>>,
+    handlers: Vec<Handler<Pass<N>>>,
     passes: &mut Passes<N>,
     parts: &mut Vec<ReplyLines>,
 ) -> Option<Spent>

@@ -13,11 +13,11 @@ ghost use Rattle.script_run.specs.Rooms.{AreRooms, script_in};
 ghost use Rattle.script_run.specs.Ends.{IsServed, HasCount, disk_left};
 
 use crate::handing::{give_back, take_passes};
-use crate::naming::ServerName;
 use crate::room::Room;
+use crate::running::run_on;
 use crate::served::Served;
-use crate::threads::run_all;
 use disk_images::Disk;
+use handler_threads::ServerName;
 use region_calls::{ClosedServer, Gate, Opened, StartRefusal, Started};
 use std::alloc::Global;
 use std::sync::Wait;
@@ -84,9 +84,7 @@ pub fn serve<N: ServerName + Send + Sync, R: Threads + Wait + Sync, D: Disk + Se
         unreachable!()
     };
     take_passes(rooms, &mut passes, &mut handlers);
-    let (handlers, first, second) = run_all(
-        rt, alloc, &server, gate, time, first, second, handlers,
-    );
+    let (handlers, first, second) = run_on(rt, alloc, &server, gate, time, first, second, handlers);
     helpers.put_back(first);
     helpers.put_back(second);
     let spent = give_back(handlers, &mut passes, &mut replies);

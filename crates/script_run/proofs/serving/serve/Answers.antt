@@ -26,15 +26,15 @@ pub returns-in-Err-clause-served : goal.returns-in-Err-clause-served
 returns-in-Err-clause-served g c told =
     subst (λ d. KeepsFound (g.D.Disk.view (disk_found c.args.opened)) (g.D.Disk.view d)) (sym c.in-Err.ensures.refused.1) (opened_keeps (g.D.Disk.view (disk_found c.args.opened)) (g.D.Disk.view (disk_now c.args.opened)) (c.requires.any_moment told))
 
-pub run_all-handlers-requires-clause-seats : goal.run_all-handlers-requires-clause-seats
-run_all-handlers-requires-clause-seats g c κs within =
+pub run_on-handlers-requires-clause-seats : goal.run_on-handlers-requires-clause-seats
+run_on-handlers-requires-clause-seats g c κs within =
     let place = c.in-Ok-named.field-0.server in
     let one = c.in-Some.ensures.of place c.in-Ok-named.ensures.helpers.1 in
     let two = c.in-Some-next.ensures.of place one.0 in
     (one.1, two.1)
 
-pub run_all-handlers-requires-clause-ready : goal.run_all-handlers-requires-clause-ready
-run_all-handlers-requires-clause-ready g c κs within =
+pub run_on-handlers-requires-clause-ready : goal.run_on-handlers-requires-clause-ready
+run_on-handlers-requires-clause-ready g c κs within =
     let place = c.in-Ok-named.field-0.server in
     all_ready g.N.Naming-1.name place c.args.time (regions_of c.args.opened) c.args.rooms.items c.take_passes.new.handlers.items c.requires.script c.requires.named c.requires.rooms c.take_passes.ensures.taken
     (c.take_passes.ensures.of place c.in-Ok-named.ensures.passes.2).1
@@ -42,38 +42,38 @@ run_all-handlers-requires-clause-ready g c κs within =
 pub give_back-spent-requires-clause-none : goal.give_back-spent-requires-clause-none
 give_back-spent-requires-clause-none g c =
     let taken = taken_length 1 c.args.rooms.items c.take_passes.new.handlers.items c.take_passes.ensures.taken in
-    (c.in-Ok-with_capacity.ensures.items, omega (arith, c.run_all-handlers.ensures.run.len, taken, c.in-Ok-with_capacity.ensures.capacity, c.len-2.ensures, c.run_all-handlers.result.0.ok, c.args.rooms.ok))
+    (c.in-Ok-with_capacity.ensures.items, omega (arith, c.run_on-handlers.ensures.run.len, taken, c.in-Ok-with_capacity.ensures.capacity, c.len-2.ensures, c.run_on-handlers.result.0.ok, c.args.rooms.ok))
 
 pub give_back-spent-requires-clause-of : goal.give_back-spent-requires-clause-of
 give_back-spent-requires-clause-of g c =
     let place = c.in-Ok-named.field-0.server in (
       place,
       (c.take_passes.ensures.of place c.in-Ok-named.ensures.passes.2).0,
-      all_of g.N.Naming-1.name place c.args.time c.take_passes.new.handlers.items c.run_all-handlers.result.0.items c.run_all-handlers.ensures.run,
+      all_of g.N.Naming-1.name place c.args.time c.take_passes.new.handlers.items c.run_on-handlers.result.0.items c.run_on-handlers.ensures.run,
     )
 
 pub give_back-spent-requires-clause-passes : goal.give_back-spent-requires-clause-passes
 give_back-spent-requires-clause-passes g c =
     let taken = taken_length 1 c.args.rooms.items c.take_passes.new.handlers.items c.take_passes.ensures.taken in
-    (c.take_passes.ensures.out, c.take_passes.ensures.back ∙ c.in-Ok-named.ensures.passes.1, omega (arith, c.run_all-handlers.ensures.run.len, taken, c.requires.few, c.requires.handlers, c.run_all-handlers.result.0.ok, c.args.rooms.ok))
+    (c.take_passes.ensures.out, c.take_passes.ensures.back ∙ c.in-Ok-named.ensures.passes.1, omega (arith, c.run_on-handlers.ensures.run.len, taken, c.requires.few, c.requires.handlers, c.run_on-handlers.result.0.ok, c.args.rooms.ok))
 
 pub close-requires : goal.close-requires
 close-requires g c =
     let place = c.in-Ok-named.field-0.server in
     let one = c.in-Some.ensures.of place c.in-Ok-named.ensures.helpers.1 in
     let two = c.in-Some-next.ensures.of place one.0 in
-    let first = c.put_back.ensures.of place two.0 c.run_all-handlers.ensures.seats.0 in
+    let first = c.put_back.ensures.of place two.0 c.run_on-handlers.ensures.seats.0 in
     let taken = taken_length 1 c.args.rooms.items c.take_passes.new.handlers.items c.take_passes.ensures.taken in
-    let back = ap length c.give_back-spent.ensures.back ∙ length-map c.run_all-handlers.result.0.items pass_of in
+    let back = ap length c.give_back-spent.ensures.back ∙ length-map c.run_on-handlers.result.0.items pass_of in
     record {
       back = record {
         of = c.give_back-spent.ensures.of place (c.take_passes.ensures.of place c.in-Ok-named.ensures.passes.2).0
-            (all_of g.N.Naming-1.name place c.args.time c.take_passes.new.handlers.items c.run_all-handlers.result.0.items c.run_all-handlers.ensures.run);
+            (all_of g.N.Naming-1.name place c.args.time c.take_passes.new.handlers.items c.run_on-handlers.result.0.items c.run_on-handlers.ensures.run);
         out = c.give_back-spent.ensures.out;
-        back = omega (arith, back, c.run_all-handlers.ensures.run.len, taken, c.requires.few, c.requires.handlers, c.args.rooms.ok);
+        back = omega (arith, back, c.run_on-handlers.ensures.run.len, taken, c.requires.few, c.requires.handlers, c.args.rooms.ok);
         seats = (
           omega (arith, c.put_back-2.ensures.count, c.put_back.ensures.count, c.in-Some.ensures.some, c.in-Some-next.ensures.some, c.in-Ok-named.ensures.helpers.0),
-          c.put_back-2.ensures.of place first c.run_all-handlers.ensures.seats.1,
+          c.put_back-2.ensures.of place first c.run_on-handlers.ensures.seats.1,
         );
       };
     }
@@ -93,8 +93,8 @@ returns-in-Ok-close-clause-served g c told =
     let count = length-map c.args.opened.seeds.items base_of in
     let bases = bases_found files (bases_of c.args.opened) name (regions_of c.args.opened) (c.requires.store.recovered told) (omega (arith, count, c.requires.store.count))
     (λ r low high. ap (λ (n : Naming). n.bases r) c.requires.name ∙ (c.requires.regions r low high).base_is) in
-    let closed = closed_from name place c.args.time (regions_of c.args.opened) c.args.rooms.items c.take_passes.new.handlers.items c.run_all-handlers.result.0.items files left c.in-Ok-close.field-0.regions.items c.in-Ok-close.field-0.broken
-    (passes_back c.give_back-spent.new.passes) c.give_back-spent.new.parts.items c.give_back-spent.result c.requires.script c.requires.named c.take_passes.ensures.taken c.run_all-handlers.ensures.run c.give_back-spent.ensures.back
+    let closed = closed_from name place c.args.time (regions_of c.args.opened) c.args.rooms.items c.take_passes.new.handlers.items c.run_on-handlers.result.0.items files left c.in-Ok-close.field-0.regions.items c.in-Ok-close.field-0.broken
+    (passes_back c.give_back-spent.new.passes) c.give_back-spent.new.parts.items c.give_back-spent.result c.requires.script c.requires.named c.take_passes.ensures.taken c.run_on-handlers.ensures.run c.give_back-spent.ensures.back
     c.give_back-spent.ensures.parts c.give_back-spent.ensures.spent (c.requires.sound told) bases e.numbers e.regions (e.survives told) (subst (λ (f : Files). ∥ Leaves f left c.in-Ok-close.field-0.broken name.regions ∥₁) c.requires.found.0 (e.leaves told))
     e.seen_broken in (
       closed,
@@ -113,8 +113,8 @@ returns-in-Ok-close-clause-any_moment g c told =
     let count = length-map c.args.opened.seeds.items base_of in
     let bases = bases_found files (bases_of c.args.opened) name (regions_of c.args.opened) (c.requires.store.recovered told) (omega (arith, count, c.requires.store.count))
     (λ r low high. ap (λ (n : Naming). n.bases r) c.requires.name ∙ (c.requires.regions r low high).base_is) in
-    let closed = closed_from name place c.args.time (regions_of c.args.opened) c.args.rooms.items c.take_passes.new.handlers.items c.run_all-handlers.result.0.items files left c.in-Ok-close.field-0.regions.items c.in-Ok-close.field-0.broken
-    (passes_back c.give_back-spent.new.passes) c.give_back-spent.new.parts.items c.give_back-spent.result c.requires.script c.requires.named c.take_passes.ensures.taken c.run_all-handlers.ensures.run c.give_back-spent.ensures.back
+    let closed = closed_from name place c.args.time (regions_of c.args.opened) c.args.rooms.items c.take_passes.new.handlers.items c.run_on-handlers.result.0.items files left c.in-Ok-close.field-0.regions.items c.in-Ok-close.field-0.broken
+    (passes_back c.give_back-spent.new.passes) c.give_back-spent.new.parts.items c.give_back-spent.result c.requires.script c.requires.named c.take_passes.ensures.taken c.run_on-handlers.ensures.run c.give_back-spent.ensures.back
     c.give_back-spent.ensures.parts c.give_back-spent.ensures.spent (c.requires.sound told) bases e.numbers e.regions (e.survives told) (subst (λ (f : Files). ∥ Leaves f left c.in-Ok-close.field-0.broken name.regions ∥₁) c.requires.found.0 (e.leaves told))
     e.seen_broken in
     closed_moments (g.D.Disk.view (disk_found c.args.opened)) (g.D.Disk.view (disk_now c.args.opened)) left g.N.Naming-3.start g.N.Naming-3.past c.requires.begun.1 c.requires.past (c.requires.any_moment told) c.in-Ok-close.field-0.regions.items closed.closed (e.survived told)

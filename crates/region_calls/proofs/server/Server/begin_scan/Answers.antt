@@ -1,6 +1,7 @@
 use Rattle.std.proofs.Common.{ℕ, ◌+◌, length, set, ◌∙◌, subst, arith}
 use Rattle.region_model.specs.Lines.{last_in}
 use Rattle.region_lock.proofs.Lists.{length_set}
+use Rattle.region_model.specs.Calls.{Raw}
 use Rattle.server_model.specs.Steps.{Scans}
 use Rattle.region_calls.specs.Answers.{begun_answer}
 use Rattle.region_calls.specs.Passes.{pass_of}
@@ -21,7 +22,7 @@ returns-clause-scans g c =
     let point = last_in (g.N.Naming-4.base p.viewer.region) done.new.at.viewer.lines in
     let scans = scans_used g.N.Naming-1.name g.N.Naming-4.base r k c.args.from.now c.args.to.now (begun_answer point done.result) pass.handler pass.calls ps p done.new.at pass.seat u
     named (begun_is point done.result) (done.ensures.scans (length ps) pass.seat) in
-    subst (λ (n : ℕ). Scans g.N.Naming-1.name r c.args.from.now c.args.to.now (begun_answer n done.result) (pass_of pass.handler pass.calls ps pass.seat) (pass_of pass.handler pass.calls (set ps k done.new.at) pass.seat))
+    subst (λ (n : ℕ). Scans g.N.Naming-1.name Raw r c.args.from.now c.args.to.now (begun_answer n done.result) (pass_of pass.handler pass.calls ps pass.seat) (pass_of pass.handler pass.calls (set ps k done.new.at) pass.seat))
     (point_used g.N.Naming-1.name g.N.Naming-4.base pass.handler pass.calls r k ps p done.new.at pass.seat u named done.ensures.region) scans
 
 pub returns-clause-of : goal.returns-clause-of

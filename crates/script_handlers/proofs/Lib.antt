@@ -1,0 +1,2 @@
+mod GetLaws
+mod Laws
