@@ -13,3 +13,4 @@ pub mod Disagreeing
 pub mod Sound
 pub mod Filters
 pub mod InRegion
+pub mod Dealing

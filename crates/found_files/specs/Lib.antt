@@ -5,3 +5,4 @@ pub mod Found
 pub mod Checked
 pub mod Sorted
 pub mod OfRegion
+pub mod Dealt

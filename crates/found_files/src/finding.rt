@@ -13,6 +13,7 @@ ghost use Rattle.found_files.specs.Refusal.{IfDamage};
 ghost use Rattle.found_files.specs.Watching.{OnlyWatches};
 
 use crate::agreeing::{first_disagreement, sort_entries};
+use crate::by_region::by_region;
 use crate::checking::read_checked;
 use crate::found::{Finding, FoundFiles};
 use crate::refusal::SplitRefusal;
@@ -36,7 +37,7 @@ pub fn find_files<D: Disk>(alloc: Global, disk: &mut D) -> Result<Finding, Split
 {
     let names = barrier(alloc, disk)?;
     let files = read_checked(alloc, disk, names.as_slice())?;
-    let files = in_order(files)?;
+    let files = in_order(alloc, files)?;
     match first_disagreement(&files.entries) {
         Some(damage) => Err(SplitRefusal::Damaged(damage)),
         None => Ok(Finding { names, files }),
@@ -44,13 +45,14 @@ pub fn find_files<D: Disk>(alloc: Global, disk: &mut D) -> Result<Finding, Split
 }
 
 /// The same files with their entries in the order of regions, numbers and names.
-pub(crate) fn in_order(files: FoundFiles) -> Result<FoundFiles, SplitRefusal>
+pub(crate) fn in_order(alloc: Global, files: FoundFiles) -> Result<FoundFiles, SplitRefusal>
     ensures ordered { IfOk result (λ found. AreOrdered found.entries.items) }
     ensures same { IfOk result (λ found. (x : TheFound) → Contains found.entries.items x ↔ Contains files.entries.items x) }
     ensures stores { IfOk result (λ found. found.stores.items ≡ files.stores.items) }
     ensures memory { IfErr result (λ e. e ≡ SplitRefusal.Memory) }
 {
-    let mut files = files;
-    sort_entries(&mut files.entries)?;
-    Ok(files)
+    let FoundFiles { entries, stores } = files;
+    let mut entries = by_region(alloc, entries)?;
+    sort_entries(&mut entries)?;
+    Ok(FoundFiles { entries, stores })
 }

@@ -4,6 +4,7 @@
 #![tactic(auto)]
 
 mod agreeing;
+mod by_region;
 mod checking;
 mod finding;
 mod found;

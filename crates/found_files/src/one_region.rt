@@ -43,7 +43,7 @@ pub fn find_region<D: Disk>(
     let all = disk.names(alloc)?;
     let names = own_names(alloc, all.as_slice(), region)?;
     let files = read_each(alloc, disk, &names)?;
-    let files = in_order(files)?;
+    let files = in_order(alloc, files)?;
     match first_disagreement(&files.entries) {
         Some(damage) => Err(SplitRefusal::Damaged(damage)),
         None => Ok(RegionFinding { names, files }),
