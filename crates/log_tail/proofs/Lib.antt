@@ -1,0 +1,5 @@
+mod Found
+mod Seen
+mod Counted
+mod Refused
+mod Behind

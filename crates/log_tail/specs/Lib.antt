@@ -1,0 +1,5 @@
+pub mod Position
+pub mod Reads
+pub mod Failures
+pub mod Found
+pub mod Given

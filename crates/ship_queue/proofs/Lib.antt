@@ -1,0 +1,10 @@
+pub mod Told
+pub mod Sends
+pub mod Behind
+pub mod Records
+mod Steps
+mod Written
+pub mod Places
+mod ReadingLaws
+pub mod Going
+mod Ends

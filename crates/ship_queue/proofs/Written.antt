@@ -1,0 +1,16 @@
+-- One line more.
+use Rattle.std.proofs.Common.{◌≡◌, ℕ, Bool, List, [], ◌∷◌, ◌++◌, sym, ap, ◌∙◌, append_assoc, append-nil}
+use Rattle.std.specs.List.{flat_map}
+use Rattle.ship_queue.specs.Messages.{Message}
+use Rattle.ship_queue.specs.Sinks.{message_text, HasWritten}
+
+texts : (ms : List Message) (m : Message) → flat_map message_text (ms ++ m ∷ []) ≡ flat_map message_text ms ++ message_text m
+texts [] m = append-nil (message_text m)
+texts (k ∷ ms) m = ap (λ (t : List ℕ). message_text k ++ t) (texts ms m) ∙ sym (append_assoc (message_text k) (flat_map message_text ms) (message_text m))
+
+pub written_more : (told failed : Bool) (before now new : List ℕ) (ms : List Message) (m : Message) → HasWritten told failed before now ms → new ≡ now ++ message_text m → HasWritten told failed before new (ms ++ m ∷ [])
+written_more told failed before now new ms m h is = record {
+  tells = h.tells;
+  whole = h.whole;
+  is = is ∙ ap (λ (t : List ℕ). t ++ message_text m) h.is ∙ append_assoc before (flat_map message_text ms) (message_text m) ∙ ap (λ (t : List ℕ). before ++ t) (sym (texts ms m));
+}

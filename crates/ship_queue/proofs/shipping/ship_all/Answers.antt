@@ -1,0 +1,202 @@
+use Rattle.std.proofs.Common.{rules, ◌≡◌, true, ◌+◌, ◌∙◌, ◌++◌, [], ℕ, List, length, Err, refl, sym, ap, subst, arith}
+use Rattle.std.proofs.lemmas.List.{length-append}
+use Rattle.log_model.specs.Entry.{Entry}
+use Rattle.log_model.specs.Files.{Files}
+use Rattle.log_tail.specs.Position.{position_of}
+use Rattle.log_tail.specs.Reads.{placed_behind}
+use Rattle.chronicle_model.specs.Chronicle.{Placed, Position, behind}
+use Rattle.ship_queue.specs.Course.{HasReadOn, IsAtEnd, counted}
+use Rattle.ship_queue.specs.Shipping.{ShipsAll}
+use Rattle.ship_queue.specs.declared.error.ShipRefusal.TheVariants as ships
+use Rattle.ship_queue.proofs.Ends.{none_of, err_of, same_err, never_peer, was_disk, was_damaged, was_no_position}
+use Rattle.ship_queue.proofs.Going.{read_none, looks_none, looks_both, ships_so_far, part_so_far, ships_all, part_at_end, joined_read, damaged_on, no_position_on, end_on}
+use Rattle.ship_queue.proofs.Places.{placed_length}
+use Rattle.ship_queue.proofs.Sends.{none_sent, sent_joined, stopped_behind}
+use Rattle.ship_queue.proofs.shipping.ship_all.Goals as goal
+
+pub loop-round-init : goal.loop-round-init
+loop-round-init g c = record {
+  xs = [];
+  read = λ told. read_none (g.D.Disk.view c.args.disk.now).files c.args.tail.now;
+  sent = none_sent g.P.Peer.has c.args.peer.now;
+  count = omega arith;
+  looks = λ told. looks_none (g.D.Disk.view c.args.disk.now);
+  stays = g.met.P.Peer.stays_itself c.args.peer.now;
+  disk_later = omega arith;
+  peer_later = omega arith;
+}
+
+pub loop-round-preserved : goal.loop-round-preserved
+loop-round-preserved g c =
+    let was = c.loop-round.invariant in
+    let file : ℕ = c.in_ok-reading.reading.at.file in
+    let before : ℕ = c.in_ok-reading.reading.at.entries in
+    let ys : List Placed = placed_behind file before c.as_slice.result.now in
+    record {
+      xs = was.xs ++ ys;
+      read = λ told.
+          let here = subst (λ (es : List Entry). HasReadOn (g.D.Disk.view c.loop-round.disk).files c.loop-round.tail c.read_next.new.tail (placed_behind file before es)) (sym c.as_slice.ensures) (c.in_ok-reading.ensures.read told) in
+          joined_read (g.D.Disk.view c.args.disk.now) (g.D.Disk.view c.loop-round.disk) c.args.tail.now c.loop-round.tail c.read_next.new.tail was.xs ys (was.looks told) (was.read told) here;
+      sent = sent_joined g.P.Peer.has c.args.peer.now c.loop-round.peer c.ship_list.new.peer was.xs ys was.sent c.in_ok-ship_list.ensures.sent;
+      count = c.in_ok-ship_list.ensures.count (length was.xs) was.count ∙ ap counted (ap (λ (n : ℕ). length was.xs + n) (sym (placed_length file before c.as_slice.result.now)) ∙ sym (length-append was.xs ys));
+      looks = λ told. looks_both (g.D.Disk.view c.args.disk.now) (g.D.Disk.view c.loop-round.disk) (g.D.Disk.view c.read_next.new.disk) (was.looks told) (c.in_ok-reading.ensures.looks told);
+      stays = g.met.P.Peer.stays_on c.args.peer.now c.loop-round.peer c.ship_list.new.peer was.stays c.ship_list.ensures.stays;
+      disk_later = omega (arith, was.disk_later, c.in_ok-reading.ensures.cause.later);
+      peer_later = omega (arith, was.peer_later, c.in_ok-ship_list.ensures.cause.later);
+    }
+
+-- ---- the tail is refused
+
+pub returns-in_err-reading-clause-ships : goal.returns-in_err-reading-clause-ships
+returns-in_err-reading-clause-ships g c told ms h not_peer =
+    let was = c.loop-round.invariant in
+    let s = ships_so_far g.P.Peer.has (g.D.Disk.view c.args.disk.now).files c.args.tail.now c.loop-round.tail c.args.peer.now c.loop-round.peer was.xs (was.read told) ms h was.sent in
+    (s.0, s.1, s.2, none_of c.from_residual.result (λ x. ShipsAll (g.D.Disk.view c.args.disk.now).files c.args.tail.now s.0 (position_of x.position)) c.from_residual.ensures.0)
+
+pub returns-in_err-reading-clause-tail : goal.returns-in_err-reading-clause-tail
+returns-in_err-reading-clause-tail g c told chronicle is =
+    let was = c.loop-round.invariant in
+    (was.xs, (was.read told).read chronicle is ∙ ap (λ (q : Position). was.xs ++ behind chronicle q) (sym (c.in_err-reading.ensures.same (refl {a = true}))))
+
+pub returns-in_err-reading-clause-failed : goal.returns-in_err-reading-clause-failed
+returns-in_err-reading-clause-failed g c told chronicle ms ns is h k failed =
+    absurd (never_peer c.in_err-reading.field-0.0 (same_err c.from_residual.result _ _ (err_of c.from_residual.result _ c.from_residual.ensures.1) failed))
+
+pub returns-in_err-reading-clause-damaged : goal.returns-in_err-reading-clause-damaged
+returns-in_err-reading-clause-damaged g c told name at is =
+    let was = c.loop-round.invariant in
+    let e = was_damaged c.in_err-reading.field-0.0 name at (same_err c.from_residual.result _ _ (err_of c.from_residual.result _ c.from_residual.ensures.1) is) in
+    damaged_on (g.D.Disk.view c.args.disk.now) (g.D.Disk.view c.loop-round.disk) c.loop-round.tail c.read_next.new.tail name at (was.looks told) (c.in_err-reading.ensures.same (refl {a = true})) (c.in_err-reading.ensures.damaged told name at (ap Err e))
+
+pub returns-in_err-reading-clause-no_position : goal.returns-in_err-reading-clause-no_position
+returns-in_err-reading-clause-no_position g c told file has is =
+    let was = c.loop-round.invariant in
+    let e = was_no_position c.in_err-reading.field-0.0 file has (same_err c.from_residual.result _ _ (err_of c.from_residual.result _ c.from_residual.ensures.1) is) in
+    no_position_on (g.D.Disk.view c.args.disk.now) (g.D.Disk.view c.loop-round.disk) c.loop-round.tail c.read_next.new.tail file has (was.looks told) (c.in_err-reading.ensures.same (refl {a = true})) (c.in_err-reading.ensures.no_position told file has (ap Err e))
+
+pub returns-in_err-reading-clause-looks : goal.returns-in_err-reading-clause-looks
+returns-in_err-reading-clause-looks g c told =
+    let was = c.loop-round.invariant in
+    looks_both (g.D.Disk.view c.args.disk.now) (g.D.Disk.view c.loop-round.disk) (g.D.Disk.view c.read_next.new.disk) (was.looks told) (c.in_err-reading.ensures.looks told)
+
+pub returns-in_err-reading-clause-disk_cause : goal.returns-in_err-reading-clause-disk_cause
+returns-in_err-reading-clause-disk_cause g c =
+    let was = c.loop-round.invariant in
+    let cause = c.in_err-reading.ensures.cause in
+    record {
+      later = omega (arith, was.disk_later, cause.later);
+      risen = λ is.
+          let e = was_disk c.in_err-reading.field-0.0 (same_err c.from_residual.result _ _ (err_of c.from_residual.result _ c.from_residual.ensures.1) is) in
+          omega (arith, was.disk_later, cause.risen (ap Err e));
+    }
+
+pub returns-in_err-reading-clause-peer_cause : goal.returns-in_err-reading-clause-peer_cause
+returns-in_err-reading-clause-peer_cause g c =
+    let was = c.loop-round.invariant in
+    record {
+      later = was.peer_later;
+      risen = λ is. absurd (never_peer c.in_err-reading.field-0.0 (same_err c.from_residual.result _ _ (err_of c.from_residual.result _ c.from_residual.ensures.1) is));
+    }
+
+-- ---- the last record
+
+pub returns-then-reading-clause-ships : goal.returns-then-reading-clause-ships
+returns-then-reading-clause-ships g c told ms h not_peer =
+    let was = c.loop-round.invariant in
+    let files : Files = (g.D.Disk.view c.args.disk.now).files in
+    let q : Position = position_of c.position-position.result in
+    let same : q ≡ c.read_next.new.tail = c.position-position.ensures in
+    let stays : c.read_next.new.tail ≡ c.loop-round.tail = c.in_ok-reading.ensures.stays (search rules) in
+    let read : HasReadOn files c.args.tail.now q was.xs = subst (λ (r : Position). HasReadOn files c.args.tail.now r was.xs) (sym (same ∙ stays)) (was.read told) in
+    let end : IsAtEnd files q = end_on (g.D.Disk.view c.args.disk.now) (g.D.Disk.view c.loop-round.disk) c.read_next.new.tail q (was.looks told) same (c.in_ok-reading.ensures.last told (search rules)) in
+    ships_all g.P.Peer.has files c.args.tail.now q c.args.peer.now c.loop-round.peer was.xs read ms h c.confirm.new.self was.sent c.in_ok-confirm.ensures.recorded end
+
+pub returns-then-reading-clause-looks : goal.returns-then-reading-clause-looks
+returns-then-reading-clause-looks g c told =
+    let was = c.loop-round.invariant in
+    looks_both (g.D.Disk.view c.args.disk.now) (g.D.Disk.view c.loop-round.disk) (g.D.Disk.view c.read_next.new.disk) (was.looks told) (c.in_ok-reading.ensures.looks told)
+
+-- ---- the last record fails
+
+pub returns-in_err-confirm-clause-ships : goal.returns-in_err-confirm-clause-ships
+returns-in_err-confirm-clause-ships g c told ms h not_peer =
+    absurd (not_peer (err_of c.from_residual-in_err-confirm.result ships.PeerFault c.from_residual-in_err-confirm.ensures.1))
+
+pub returns-in_err-confirm-clause-tail : goal.returns-in_err-confirm-clause-tail
+returns-in_err-confirm-clause-tail g c told chronicle is =
+    let was = c.loop-round.invariant in
+    (was.xs, (was.read told).read chronicle is ∙ ap (λ (q : Position). was.xs ++ behind chronicle q) (sym (c.in_ok-reading.ensures.stays (search rules))))
+
+pub returns-in_err-confirm-clause-failed : goal.returns-in_err-confirm-clause-failed
+returns-in_err-confirm-clause-failed g c told chronicle ms ns is h k failed =
+    let was = c.loop-round.invariant in
+    let files : Files = (g.D.Disk.view c.args.disk.now).files in
+    let q : Position = position_of c.position-position.result in
+    let stays : c.read_next.new.tail ≡ c.loop-round.tail = c.in_ok-reading.ensures.stays (search rules) in
+    let read : HasReadOn files c.args.tail.now q was.xs = subst (λ (r : Position). HasReadOn files c.args.tail.now r was.xs) (sym (c.position-position.ensures ∙ stays)) (was.read told) in
+    part_at_end g.P.Peer.has files c.args.tail.now q c.args.peer.now c.loop-round.peer was.xs read ms h c.confirm.new.self was.sent chronicle is ns
+    (λ ls hl. c.in_err-confirm.ensures.failed ls ns hl k (refl {a = true}))
+
+pub returns-in_err-confirm-clause-looks : goal.returns-in_err-confirm-clause-looks
+returns-in_err-confirm-clause-looks g c told =
+    let was = c.loop-round.invariant in
+    looks_both (g.D.Disk.view c.args.disk.now) (g.D.Disk.view c.loop-round.disk) (g.D.Disk.view c.read_next.new.disk) (was.looks told) (c.in_ok-reading.ensures.looks told)
+
+pub returns-in_err-confirm-clause-stays : goal.returns-in_err-confirm-clause-stays
+returns-in_err-confirm-clause-stays g c = g.met.P.Peer.stays_on c.args.peer.now c.loop-round.peer c.confirm.new.self c.loop-round.invariant.stays c.confirm.ensures.stays
+
+pub returns-in_err-confirm-clause-disk_cause : goal.returns-in_err-confirm-clause-disk_cause
+returns-in_err-confirm-clause-disk_cause g c =
+    let was = c.loop-round.invariant in
+    let is_peer = err_of c.from_residual-in_err-confirm.result ships.PeerFault c.from_residual-in_err-confirm.ensures.1 in
+    record { later = omega (arith, was.disk_later, c.in_ok-reading.ensures.cause.later); risen = λ is. absurd (cc (is, is_peer)) }
+
+pub returns-in_err-confirm-clause-peer_cause : goal.returns-in_err-confirm-clause-peer_cause
+returns-in_err-confirm-clause-peer_cause g c =
+    let was = c.loop-round.invariant in
+    let cause = c.in_err-confirm.ensures.cause in
+    record { later = omega (arith, was.peer_later, cause.later); risen = λ is. omega (arith, was.peer_later, cause.risen (refl {a = true})) }
+
+-- ---- the peer fails at an entry
+
+pub returns-in_err-ship_list-clause-ships : goal.returns-in_err-ship_list-clause-ships
+returns-in_err-ship_list-clause-ships g c told ms h not_peer =
+    absurd (not_peer (err_of c.from_residual-in_err-ship_list.result ships.PeerFault c.from_residual-in_err-ship_list.ensures.1))
+
+pub returns-in_err-ship_list-clause-tail : goal.returns-in_err-ship_list-clause-tail
+returns-in_err-ship_list-clause-tail g c told chronicle is =
+    let was = c.loop-round.invariant in
+    let ys : List Placed = placed_behind c.in_ok-reading.reading.at.file c.in_ok-reading.reading.at.entries c.in_ok-reading.reading.entries in
+    let read = joined_read (g.D.Disk.view c.args.disk.now) (g.D.Disk.view c.loop-round.disk) c.args.tail.now c.loop-round.tail c.read_next.new.tail was.xs ys (was.looks told) (was.read told) (c.in_ok-reading.ensures.read told) in
+    (was.xs ++ ys, read.read chronicle is)
+
+pub returns-in_err-ship_list-clause-failed : goal.returns-in_err-ship_list-clause-failed
+returns-in_err-ship_list-clause-failed g c told chronicle ms ns is h k failed =
+    let was = c.loop-round.invariant in
+    let file : ℕ = c.in_ok-reading.reading.at.file in
+    let before : ℕ = c.in_ok-reading.reading.at.entries in
+    let ys : List Placed = placed_behind file before c.as_slice.result.now in
+    let here = subst (λ (es : List Entry). HasReadOn (g.D.Disk.view c.loop-round.disk).files c.loop-round.tail c.read_next.new.tail (placed_behind file before es)) (sym c.as_slice.ensures) (c.in_ok-reading.ensures.read told) in
+    let read = joined_read (g.D.Disk.view c.args.disk.now) (g.D.Disk.view c.loop-round.disk) c.args.tail.now c.loop-round.tail c.read_next.new.tail was.xs ys (was.looks told) (was.read told) here in
+    part_so_far g.P.Peer.has (g.D.Disk.view c.args.disk.now).files c.args.tail.now c.read_next.new.tail c.args.peer.now c.ship_list.new.peer (was.xs ++ ys) read ms h chronicle is ns
+    (stopped_behind g.P.Peer.has c.args.peer.now c.loop-round.peer c.ship_list.new.peer was.xs ys was.sent (c.in_err-ship_list.ensures.stopped (refl {a = true}))) k
+
+pub returns-in_err-ship_list-clause-looks : goal.returns-in_err-ship_list-clause-looks
+returns-in_err-ship_list-clause-looks g c told =
+    let was = c.loop-round.invariant in
+    looks_both (g.D.Disk.view c.args.disk.now) (g.D.Disk.view c.loop-round.disk) (g.D.Disk.view c.read_next.new.disk) (was.looks told) (c.in_ok-reading.ensures.looks told)
+
+pub returns-in_err-ship_list-clause-stays : goal.returns-in_err-ship_list-clause-stays
+returns-in_err-ship_list-clause-stays g c = g.met.P.Peer.stays_on c.args.peer.now c.loop-round.peer c.ship_list.new.peer c.loop-round.invariant.stays c.ship_list.ensures.stays
+
+pub returns-in_err-ship_list-clause-disk_cause : goal.returns-in_err-ship_list-clause-disk_cause
+returns-in_err-ship_list-clause-disk_cause g c =
+    let was = c.loop-round.invariant in
+    let is_peer = err_of c.from_residual-in_err-ship_list.result ships.PeerFault c.from_residual-in_err-ship_list.ensures.1 in
+    record { later = omega (arith, was.disk_later, c.in_ok-reading.ensures.cause.later); risen = λ is. absurd (cc (is, is_peer)) }
+
+pub returns-in_err-ship_list-clause-peer_cause : goal.returns-in_err-ship_list-clause-peer_cause
+returns-in_err-ship_list-clause-peer_cause g c =
+    let was = c.loop-round.invariant in
+    let cause = c.in_err-ship_list.ensures.cause in
+    record { later = omega (arith, was.peer_later, cause.later); risen = λ is. omega (arith, was.peer_later, cause.risen (refl {a = true})) }

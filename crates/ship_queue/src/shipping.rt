@@ -1,0 +1,71 @@
+//! Shipping what stands behind a position.
+
+ghost use Rattle.std.specs.Prelude.{◌≡◌, ◌≢◌, ℕ, List, ◌++◌, length, IsTrue, IsErrOf, IfOk, OnOk};
+ghost use Rattle.log_model.specs.declared.name.Name.{Name as TheName};
+ghost use Rattle.disk_images.specs.Calls.{HasCause};
+ghost use Rattle.chronicle_model.specs.Chronicle.{Placed, IsChronicle, behind};
+ghost use Rattle.log_tail.specs.Position.{position_of};
+ghost use Rattle.log_tail.specs.Reads.{IsDamagedAt, IsNoPosition, OnlyReads};
+ghost use Rattle.ship_queue.specs.Messages.{Message};
+ghost use Rattle.ship_queue.specs.Course.{counted};
+ghost use Rattle.ship_queue.specs.Shipping.{ShipsBeginning, ShipsAll, IsPartShip, AreTexts, HasReadUpTo};
+
+use crate::error::{ShipRefusal, Shipped};
+use crate::peer::Peer;
+use crate::reading::read_next;
+use crate::sending::ship_list;
+use disk_images::Disk;
+use log_tail::Tail;
+use std::alloc::Global;
+use std::sync::Wait;
+use std::thread::Threads;
+
+/// Ships all that stands behind the tail's position in the disk's logs, in order, until a reading of the tail gives nothing
+/// and doesn't move it. It records a position after each 64 entries, and the tail's at the end. Where it is refused it has
+/// shipped what it had read, unless the peer failed; begin then with a new tail at the position that the peer has recorded.
+pub fn ship_all<R: Threads + Wait + Sync, D: Disk + Send, P: Peer>(
+    rt: &R,
+    alloc: Global,
+    tail: &mut Tail,
+    disk: &mut D,
+    peer: &mut P,
+) -> Result<Shipped, ShipRefusal>
+    // Unless the peer fails, it was told a beginning of what stands behind the position, and records that are true of it.
+    ensures ships { IsTrue D.told → (ms : List Message) → P.has peer.old ms → result ≢ Err ShipRefusal.PeerFault
+        → (more : List Message) × P.has peer.new (ms ++ more) × ShipsBeginning (D.view disk.old).files tail.old more
+        × IfOk result (λ x. ShipsAll (D.view disk.old).files tail.old more (position_of x.position)) }
+    // The logs from the position's on are texts, and what they have behind it was counted.
+    ensures all { IsTrue D.told → OnOk result (AreTexts (D.view disk.old).files tail.old.file) }
+    ensures count { IsTrue D.told → (c : List Placed) → IsChronicle (D.view disk.old).files c
+        → IfOk result (λ x. x.entries ≡ counted (length (behind c tail.old))) }
+    ensures position { IfOk result (λ x. position_of x.position ≡ tail.new) }
+    // The tail stands behind what was read.
+    ensures tail { IsTrue D.told → (c : List Placed) → IsChronicle (D.view disk.old).files c → HasReadUpTo c tail.old tail.new }
+
+    // A peer that fails has a beginning, and has recorded nothing beyond that.
+    ensures failed { IsTrue D.told → (c : List Placed) (ms ns : List Message) → IsChronicle (D.view disk.old).files c
+        → P.has peer.old ms → P.has peer.new ns → result ≡ Err ShipRefusal.PeerFault → IsPartShip c tail.old ms ns }
+    ensures damaged { IsTrue D.told → (name : TheName) (at : ℕ) → result ≡ Err (ShipRefusal.Damaged name at)
+        → IsDamagedAt (D.view disk.old).files tail.new.file name at }
+    ensures no_position { IsTrue D.told → (file has : ℕ) → result ≡ Err (ShipRefusal.NoPosition file has)
+        → IsNoPosition (D.view disk.old).files tail.new file has }
+    ensures looks { IsTrue D.told → OnlyReads (D.view disk.old) (D.view disk.new) }
+    ensures stays { P.stays peer.old peer.new }
+    ensures disk_cause { HasCause (D.faults disk.old) (D.faults disk.new) (IsErrOf result ShipRefusal.DiskFault) }
+    ensures peer_cause { HasCause (P.faults peer.old) (P.faults peer.new) (IsErrOf result ShipRefusal.PeerFault) }
+{
+    let mut count = 0;
+    for _round in rt.forever() {
+        let reading = read_next(alloc, tail, disk)?;
+        if reading.is_last {
+            let position = tail.position();
+            peer.confirm(position)?;
+            return Ok(Shipped {
+                entries: count,
+                position,
+            });
+        }
+        ship_list(peer, &mut count, reading.at, reading.entries.as_slice())?;
+    }
+    unreachable!()
+}
