@@ -1,0 +1,13 @@
+use Rattle.std.proofs.Common.{refl}
+use Rattle.family_accounts.proofs.OrderLaws.{order_files}
+use Rattle.family_accounts.proofs.accounting.Accounting.reserve_file.Goals as goal
+
+pub invariant_of-self-2 : goal.invariant_of-self-2
+invariant_of-self-2 c =
+    order_files _ _ c.self.invariant (record { flushed = record { whole = refl; flushed = refl }; noted = refl; flushing = refl; oldest = record { oldest = refl; since = refl } })
+    (λ q f. (c.self.invariant.regions q).current_noted f)
+    (rw c.reserve.ensures.items c.self.invariant.rising)
+    (rw c.reserve.ensures.items c.self.invariant.files)
+
+pub returns-clause-order : goal.returns-clause-order
+returns-clause-order c = invariant_of-self-2 c

@@ -1,0 +1,23 @@
+//! Numbers by region.
+
+ghost use Rattle.std.specs.Prelude.{◌≡◌, ◌<◌, ◌≤◌, length, All, AllPairs};
+ghost use Rattle.family_accounts.specs.Accounts.{AreApart, AreFlushed};
+
+use crate::region::{REGIONS, RegionMark};
+
+/// Nothing of each region.
+pub(crate) const NOTHING: [u64; REGIONS] = [0; REGIONS];
+
+/// What the marks say is flushed of each region.
+pub(crate) fn flushed_by(regions: &[RegionMark]) -> [u64; REGIONS]
+    requires within { All (λ m. m.region ≤ 64) regions.now }
+    requires apart { AllPairs AreApart regions.now }
+    ensures flushed { AreFlushed regions.now result }
+    ensures wide { length result ≡ REGIONS }
+{
+    let mut flushed = NOTHING;
+    for mark in regions {
+        flushed[mark.region as usize] = mark.flushed;
+    }
+    flushed
+}
