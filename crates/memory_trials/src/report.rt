@@ -1,6 +1,6 @@
 //! A plain judge of the reports of one script, of which calls may have been refused memory.
 
-/// Handler 1 puts two cells into region 1, scans and flushes it; handler 2 puts one into region 2, rolls, and scans that.
+/// Handler 1 puts two cells into region 1, scans and flushes it; handler 2 puts one into region 2, rolls, and scans and gets that.
 pub(crate) const SCRIPT: &str = "time 1700000000000
 regions 2
 handlers 2
@@ -13,6 +13,7 @@ scan 1 1 - -
 flush 1 1
 roll 2
 scan 2 2 k1 k2
+get 2 2 k1 1
 ";
 
 /// What a report tells: whether the put of handler 1, and that of handler 2, is an edit, and whether a call was refused.
@@ -70,6 +71,12 @@ const SCAN_2: Row = (
     "reply 2 3 scan memory\n",
     "reply 2 3 scan 1 1\ncell 1 k1 f q 5 put v\n",
     "reply 2 3 scan 0 0\n",
+);
+
+const GET_2: Row = (
+    "reply 2 4 get memory\n",
+    "reply 2 4 get 1 1\ncell 1 k1 f q 5 put v\n",
+    "reply 2 4 get 0 0\n",
 );
 
 /// What a handler knows of its edit: it is none, it may not be seen yet, or it was.
@@ -152,11 +159,10 @@ fn past_second(rest: &str, first: bool, second: bool) -> Option<(&str, bool)> {
         "reply 2 1 put memory",
     )?;
     let (rest, roll) = past_roll(rest, first, second)?;
-    let (rest, scan, _) = past_look(rest, SCAN_2, sight)?;
-    Some((
-        rest,
-        put == Heard::Refused || roll == Heard::Refused || scan == Heard::Refused,
-    ))
+    let (rest, scan, sight) = past_look(rest, SCAN_2, sight)?;
+    let (rest, get, _) = past_look(rest, GET_2, sight)?;
+    let one = put == Heard::Refused || roll == Heard::Refused;
+    Some((rest, one || scan == Heard::Refused || get == Heard::Refused))
 }
 
 /// What is behind a line that may stand here, and whether it does.

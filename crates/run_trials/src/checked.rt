@@ -112,7 +112,7 @@ fn add_row(
     Ok(())
 }
 
-/// The cell lines that a scan has at a point.
+/// The cell lines that a scan or a get has at a point. All puts of a row have one timestamp, so a get sees the last one alone.
 fn cells_at(
     alloc: Global,
     edits: &[Edit],
@@ -121,14 +121,17 @@ fn cells_at(
 ) -> Result<Vec<String>, TestFail> {
     let mut lines = Vec::new(alloc);
     for row in 0..ROWS {
-        if scan.row == 0 || row == 1 || row == 2 {
+        if scan.is_of_row(row) {
             add_row(alloc, &mut lines, edits, scan.region, point, row)?;
         }
+    }
+    if scan.kind == Kind::Get {
+        lines.truncate(1);
     }
     Ok(lines)
 }
 
-/// Asserts that these lines begin with a scan's cells.
+/// Asserts that these lines begin with a scan's or a get's cells.
 fn assert_cells<R: Abort>(rt: &R, cells: &[String], lines: &[&str]) {
     assert!(rt; cells.len() <= lines.len());
     for (cell, line) in cells.iter().zip(lines) {
@@ -176,7 +179,7 @@ fn has_edit(edits: &[Edit], step: Step, number: u64) -> bool {
     false
 }
 
-/// Asserts that a scan has the cells of its point, which isn't below its handler's place. Answers how many lines they take.
+/// Asserts that a scan or a get has the cells of its point, which isn't below its handler's place. Answers how many lines they take.
 fn assert_scan<R: AllocGlobal + Abort>(
     rt: &R,
     edits: &[Edit],
@@ -185,7 +188,12 @@ fn assert_scan<R: AllocGlobal + Abort>(
     rest: &[&str],
     places: &mut Places,
 ) -> Result<usize, TestFail> {
-    assert_eq!(rt; word(line, 3), "scan", "{line}");
+    let name = if step.kind == Kind::Get {
+        "get"
+    } else {
+        "scan"
+    };
+    assert_eq!(rt; word(line, 3), name, "{line}");
     let point = number(line, 4);
     assert!(rt; point >= places.of(step.region), "{line}");
     let cells = cells_at(rt.alloc(), edits, step, point)?;
@@ -230,7 +238,7 @@ fn assert_reply<R: AllocGlobal + Abort>(
     );
     match step.kind {
         Kind::SyncPut | Kind::AsyncPut => assert_put(rt, edits, step, line, places),
-        Kind::Scan => return assert_scan(rt, edits, step, line, rest, places),
+        Kind::Scan | Kind::Get => return assert_scan(rt, edits, step, line, rest, places),
         Kind::Flush => assert_flush(rt, steps, step, line, places),
         Kind::Roll => {
             assert_eq!(rt; word(line, 3), "roll", "{line}");

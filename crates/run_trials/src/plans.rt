@@ -9,12 +9,13 @@ pub(crate) enum Kind {
     SyncPut,
     AsyncPut,
     Scan,
+    Get,
     Flush,
     Roll,
 }
 
-/// A call of a script. A put has one cell in the row, with its handler and call as the value; a scan is of all rows, or of the first
-/// two where the row isn't 0.
+/// A call of a script. A put has one cell in the row, with its handler and call as the value; a scan is of all rows, or of `r1` and `r2`
+/// where the row isn't 0; a get is of the newest version of the row.
 #[derive(Clone, Copy, PartialEq, Eq)]
 pub(crate) struct Step {
     pub(crate) handler: u64,
@@ -27,6 +28,14 @@ pub(crate) struct Step {
 impl Step {
     pub(crate) fn is_put(&self) -> bool {
         self.kind == Kind::SyncPut || self.kind == Kind::AsyncPut
+    }
+
+    /// Whether this scan or get is of the row.
+    pub(crate) fn is_of_row(&self, row: u64) -> bool {
+        if self.kind == Kind::Get {
+            return row == self.row;
+        }
+        self.row == 0 || row == 1 || row == 2
     }
 }
 
@@ -59,12 +68,13 @@ impl Numbers {
     }
 }
 
-/// Half of the calls are puts, a quarter scans.
+/// Half of the calls are puts, a quarter scans and gets.
 fn kind_of(number: u64) -> Kind {
     match number % 16 {
         0..=5 => Kind::SyncPut,
         6..=7 => Kind::AsyncPut,
-        8..=11 => Kind::Scan,
+        8..=10 => Kind::Scan,
+        11 => Kind::Get,
         12..=14 => Kind::Flush,
         _ => Kind::Roll,
     }
@@ -111,6 +121,7 @@ fn write_step(text: &mut String, step: Step) -> Result<(), TestFail> {
             "put {handler} {region} async 1\ncell r{row} f q 1 put {handler}-{call}"
         )?,
         Kind::Scan => writeln!(text, "scan {handler} {region} {from} {to}")?,
+        Kind::Get => writeln!(text, "get {handler} {region} r{row} 1")?,
         Kind::Flush => writeln!(text, "flush {handler} {region}")?,
         Kind::Roll => writeln!(text, "roll {handler}")?,
     }

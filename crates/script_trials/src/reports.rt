@@ -67,11 +67,20 @@ fn each_answer_once(rt: HostRuntime) -> Result<(), Fail> {
         reply(2, 9, Answer::RollNothing { file: 3 }),
         reply(2, 10, Answer::RollFault),
         reply(2, 11, Answer::RollMemory),
+        reply(
+            2,
+            12,
+            Answer::Got {
+                point: 4,
+                cells: SharedCells::new(alloc)
+            }
+        ),
+        reply(2, 13, Answer::GetMemory),
     ]?);
     let text = write_replies(alloc, &others, 1)?;
     assert_eq!(rt;
         text.as_slice(),
-        b"reply 2 1 scan 3 0\nreply 2 2 scan memory\nreply 2 3 flush ok 4\nreply 2 4 flush nothing 5\nreply 2 5 flush busy 16 12\nreply 2 6 flush fault\nreply 2 7 flush memory\nreply 2 8 roll ok 2 10\nreply 2 9 roll nothing 3\nreply 2 10 roll fault\nreply 2 11 roll memory\nend 1\n".as_slice()
+        b"reply 2 1 scan 3 0\nreply 2 2 scan memory\nreply 2 3 flush ok 4\nreply 2 4 flush nothing 5\nreply 2 5 flush busy 16 12\nreply 2 6 flush fault\nreply 2 7 flush memory\nreply 2 8 roll ok 2 10\nreply 2 9 roll nothing 3\nreply 2 10 roll fault\nreply 2 11 roll memory\nreply 2 12 get 4 0\nreply 2 13 get memory\nend 1\n".as_slice()
     );
     Ok(())
 }
