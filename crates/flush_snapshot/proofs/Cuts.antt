@@ -1,5 +1,5 @@
 -- A cut's cells in order are cells of the cut, so they make a store.
-use Rattle.std.proofs.Common.{◌≡◌, ◌≢◌, ℕ, ◌≤◌, ◌<◌, ◌^◌, List, [], ◌∷◌, length, map, refl, sym, subst}
+use Rattle.std.proofs.Common.{arith, ◌≡◌, ◌≢◌, ℕ, ◌≤◌, ◌<◌, ◌^◌, List, [], ◌∷◌, length, map, refl, sym, subst}
 use Rattle.std.specs.declared.cmp.Ordering.TheVariants.{Less, Equal, Greater}
 use Rattle.std.specs.List.{AllByRecursion}
 use Rattle.std.specs.FinMap.{put, insert, empty, entries, entries-insert}
@@ -51,8 +51,9 @@ pub cut_is_store : (name : Name) (family : List ℕ) (from to : ℕ) (cut : List
     → IsStore (cut_store name family from to cut)
 cut_is_store name family from to cut region short of range within cells = record {
   region = region;
-  scope = refl;
+  scope = omega arith;
   family = short;
+  whole = λ one. absurd (omega (arith, one));
   from = range.0;
   to = range.1;
   limit = range.2;

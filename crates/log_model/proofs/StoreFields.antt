@@ -40,8 +40,9 @@ field_fault_as form r bytes is =
 pub record AreRight (form : Form) (n word region r scope family at from to : ℕ) : Type 0 where
   pub word_is : word ≡ code_of form
   pub region_is : region ≡ r
-  pub scope_is : form ≡ Tagged → scope ≡ 0
+  pub scope_is : form ≡ Tagged → scope ≤ 1
   pub family_is : form ≡ Tagged → family ≤ 127
+  pub whole : form ≡ Tagged → scope ≡ 1 → family ≡ 0
   pub behind : form ≡ Tagged → 11 + family ≤ n
   pub given : 1 ≤ from
   pub order : from ≤ to
@@ -52,14 +53,14 @@ pub record AreRight (form : Form) (n word region r scope family at from to : ℕ
 no_fault_plain : (n word m region r at from to : ℕ) → word ≡ m → region ≡ r → 9 ≤ n → 1 ≤ from → from ≤ to → to < 2 ^ 48 → at + 24 ≤ n → fault_in Plain n word m region r 0 0 at from to ≡ None
 no_fault_plain n word m region r at from to w g nine f o l whole = grind (arith, nat_tests)
 
-no_fault_tagged : (n word m region r scope family at from to : ℕ) → word ≡ m → region ≡ r → 11 + family ≤ n → scope ≡ 0 → family ≤ 127 → 1 ≤ from → from ≤ to → to < 2 ^ 48 → at + 24 ≤ n
+no_fault_tagged : (n word m region r scope family at from to : ℕ) → word ≡ m → region ≡ r → 11 + family ≤ n → scope ≤ 1 → family ≤ 127 → (scope ≡ 1 → family ≡ 0) → 1 ≤ from → from ≤ to → to < 2 ^ 48 → at + 24 ≤ n
     → fault_in Tagged n word m region r scope family at from to ≡ None
-no_fault_tagged n word m region r scope family at from to w g long s fam f o l whole = grind (arith, nat_tests)
+no_fault_tagged n word m region r scope family at from to w g long s fam one f o l whole = grind (arith, nat_tests)
 
 pub no_fault : (form : Form) (n word region r scope family at from to : ℕ) → AreRight form n word region r scope family at from to → fault_in form n word (code_of form) region r scope family at from to ≡ None
 no_fault Plain n word region r scope family at from to h = no_fault_plain n word (code_of Plain) region r at from to h.word_is h.region_is h.nine h.given h.order h.limit h.long
 no_fault Tagged n word region r scope family at from to h =
-    no_fault_tagged n word (code_of Tagged) region r scope family at from to h.word_is h.region_is (h.behind refl) (h.scope_is refl) (h.family_is refl) h.given h.order h.limit h.long
+    no_fault_tagged n word (code_of Tagged) region r scope family at from to h.word_is h.region_is (h.behind refl) (h.scope_is refl) (h.family_is refl) (h.whole refl) h.given h.order h.limit h.long
 
 told_form : (word m : ℕ) (form : Form) → m ≡ code_of Tagged → word ≡ code_of form → (if word == m then Tagged else Plain) ≡ form
 told_form word m Plain is w = grind (arith, nat_tests)

@@ -63,6 +63,9 @@ magic_word : (form : Form) (x : List ℕ) → magic form ++ x ≡ big_bytes 4 (c
 magic_word Plain x = refl
 magic_word Tagged x = refl
 
+no_family : (x : List ℕ) → x ≡ [] → length x ≡ 0
+no_family x e = ap length e
+
 says : (form : Form) (r : ℕ) (bytes : List ℕ) (s : Store) → length bytes < 2 ^ 64 → IsStore s → FitsForm form s → s.region ≡ r → bytes ≡ store_text form s → Says form r bytes s
 unfolding store_text
 says form r bytes s small store fits region_is is =
@@ -93,6 +96,7 @@ says form r bytes s small store fits region_is is =
         region_is = region ∙ region_is;
         scope_is = λ e. omega (arith, scoped.0.scope e, store.scope);
         family_is = λ e. omega (arith, scoped.0.size e, store.family);
+        whole = λ e one. scoped.0.size e ∙ no_family s.family (store.whole (sym (scoped.0.scope e) ∙ one));
         behind = λ e. omega (arith, behind_family form bytes s e scoped.0 long);
         given = omega (arith, from, store.from);
         order = omega (arith, from, to, store.to);

@@ -9,7 +9,8 @@ use Rattle.cell_model.specs.Order.{NumberedCell}
 use Rattle.cell_model.specs.Merge.{IsRising}
 use Rattle.log_model.specs.declared.format.TheConstants.{OPEN_GATE}
 
--- the cells of a region with sequence ids from one to another; of one family alone, where that isn't empty
+-- the cells of a region with sequence ids from one to another; of one family alone, where that isn't empty; a store of
+-- the scope 1 stands in the place of the region's stores with lower numbers
 pub record Store : Type 0 where
   pub region : ℕ
   pub scope : ℕ
@@ -26,8 +27,9 @@ pub record IsStoredCell (s : Store) (x : NumberedCell) : Type 0 where
 
 pub record IsStore (s : Store) : Type 0 where
   pub region : s.region < 2 ^ 32
-  pub scope : s.scope ≡ 0
+  pub scope : s.scope ≤ 1
   pub family : length s.family ≤ 127
+  pub whole : s.scope ≡ 1 → s.family ≡ []
   pub from : 1 ≤ s.from
   pub to : s.from ≤ s.to
   pub limit : s.to < 2 ^ 48
@@ -92,8 +94,8 @@ numbers_in Tagged bytes = 11 + slice_index bytes 10
 abbrev pub scope_faults : Form → (n scope family : ℕ) → List (Bool × ℕ)
 scope_faults Plain n scope family = []
 scope_faults Tagged n scope family =
-    (nat_lt n 10 || nat_lt 0 scope, 9)
-    ∷ (nat_lt n 11 || nat_lt 127 family, 10)
+    (nat_lt n 10 || nat_lt 1 scope, 9)
+    ∷ (nat_lt n 11 || nat_lt 127 family || (scope == 1 && not (family == 0)), 10)
     ∷ (nat_lt n (11 + family), 11)
     ∷ []
 

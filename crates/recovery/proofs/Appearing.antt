@@ -1,19 +1,21 @@
 -- A store that appears with all that its region had not flushed up to its last number changes nothing of what recovers.
 use Rattle.std.proofs.Common.{◌≡◌, ◌⊎◌, inl, inr, ℕ, ◌<◌, ◌≤◌, List, Some, refl, sym, ap, ◌∙◌, subst, arith}
-use Rattle.std.proofs.lemmas.Bool.{cases_eq, cases_lt}
+use Rattle.std.proofs.lemmas.Bool.{cases_lt}
 use Rattle.cell_model.specs.Order.{VersionKey, Payload}
 use Rattle.log_model.specs.declared.name.Name.{Name}
 use Rattle.log_model.specs.Entry.{Entry}
 use Rattle.log_model.specs.StoreText.{Store, IsStoreText}
 use Rattle.log_model.specs.Files.{Files, IsLogged, IsStoreFile, IsFit}
-use Rattle.log_model.specs.Recovered.{Holds, IsStored, IsUnflushed, IsRecovered, RecoversAlike}
+use Rattle.log_model.specs.Recovered.{Holds, IsFor, IsCounting, IsSeen, IsStored, IsUnflushed, IsRecovered, RecoversAlike}
 use Rattle.recovery.specs.Laws.{Appears}
 use Rattle.recovery.proofs.Names.{name_cases}
 use Rattle.recovery.proofs.Contents.{puts_number}
 use Rattle.recovery.proofs.Numbers.{held_range}
 use Rattle.recovery.proofs.OneStore.{one_store}
-use Rattle.recovery.proofs.Lasts.{IsSeen, same_last}
-use Rattle.recovery.proofs.Flushed.{log_same, logs_kept, logs_were, other_was, store_still}
+use Rattle.recovery.proofs.Lists.{flush_cases}
+use Rattle.recovery.proofs.Stores.{Counts, flushes_by, held_family}
+use Rattle.recovery.proofs.Lasts.{same_last}
+use Rattle.recovery.proofs.Flushed.{log_same, logs_kept, logs_were, store_still, was_counting, old_counts, new_counts}
 
 same_bytes : (x y : List ℕ) → Some x ≡ Some y → x ≡ y
 same_bytes x y e = cc e
@@ -31,28 +33,29 @@ module _ {name : Name} {s : Store} {I J : Files} (a : Appears name s I J) where
   only_one : (t : Store) → IsStoreFile J name.region name t → t ≡ s
   only_one t f = one_store name.region f.bytes t s f.text (subst (λ (b : List ℕ). IsStoreText name.region b s) (same_bytes a.after.bytes f.bytes (sym a.after.there ∙ f.there)) a.after.text)
 
-  was : (q : ℕ) (m : Name) (t : Store) → IsStoreFile J q m t → ((m ≡ name) × (q ≡ name.region) × (t ≡ s)) ⊎ IsStoreFile I q m t
-  was q m t f = elim (name_cases m name) as (λ _. ((m ≡ name) × (q ≡ name.region) × (t ≡ s)) ⊎ IsStoreFile I q m t) [
-    | inl at ↦
-        let of : q ≡ name.region = sym f.of ∙ ap (λ (x : Name). x.region) at in
-        inl (at, of, only_one t (subst (λ (x : Name). IsStoreFile J name.region x t) at (subst (λ (y : ℕ). IsStoreFile J y m t) of f)))
-    | inr apart ↦ inr (other_was name a.kind I J a.others q m t apart f)
-  ]
+  counting_was : (q : ℕ) (m : Name) (t : Store) → IsCounting J q m t → ((m ≡ name) × (q ≡ name.region) × (t ≡ s)) ⊎ IsCounting I q m t
+  counting_was = was_counting name a.kind I J a.others a.before s a.after a.scope a.stands only_one
+
+  counts : Counts I J
+  counts = old_counts name a.kind I J a.others a.before s a.after a.scope a.stands only_one
+
+  counting : IsCounting J name.region name s
+  counting = new_counts name a.kind I J a.others a.before s a.after a.scope a.stands only_one
 
   -- what an old store of the region holds, the new one doesn't
-  apart : (m : Name) (t : Store) (v : VersionKey) (x y : Payload) → IsStoreFile I name.region m t → Holds t v x → Holds s v y → ⊥
-  apart m t v x y f old new =
+  apart : (m : Name) (t : Store) (v : VersionKey) (x y : Payload) → IsCounting I name.region m t → Holds t v x → Holds s v y → ⊥
+  apart m t v x y c old new =
       let u = ((a.holds v y).0 new).0 in
-      omega (arith, (held_range name.region f.bytes t v x f.text old).1, u.above t.to (m, t, f, refl), puts_number u.entry v y u.puts)
+      omega (arith, (held_range name.region c.file.bytes t v x c.file.text old).1, u.above t.to (m, t, c, held_family name.region c.file.bytes t v x c.file.text old, refl), puts_number u.entry v y u.puts)
 
   stored_now : (r : ℕ) (v : VersionKey) (p : Payload) → IsStored I r v p → IsStored J r v p
   stored_now r v p st = record {
     name = st.name;
     store = st.store;
-    file = still r st.name st.store st.file;
+    file = counts r st.name st.store st.file;
     holds = st.holds;
-    newest = λ other t x f h. elim (was r other t f) as (λ _. other.number ≤ st.name.number) [
-      | inl new ↦ absurd (apart st.name st.store v p x (subst (λ (q : ℕ). IsStoreFile I q st.name st.store) new.1 st.file) st.holds (subst (λ (k : Store). Holds k v x) new.2 h))
+    newest = λ other t x c h. elim (counting_was r other t c) as (λ _. other.number ≤ st.name.number) [
+      | inl new ↦ absurd (apart st.name st.store v p x (subst (λ (q : ℕ). IsCounting I q st.name st.store) new.1 st.file) st.holds (subst (λ (k : Store). Holds k v x) new.2 h))
       | inr old ↦ st.newest other t x old h
     ];
   }
@@ -61,53 +64,55 @@ module _ {name : Name} {s : Store} {I J : Files} (a : Appears name s I J) where
   shown v p held = record {
     name = name;
     store = s;
-    file = a.after;
+    file = counting;
     holds = held;
-    newest = λ other t x f h. elim (was name.region other t f) as (λ _. other.number ≤ name.number) [
+    newest = λ other t x c h. elim (counting_was name.region other t c) as (λ _. other.number ≤ name.number) [
       | inl new ↦ (let at : other.number ≡ name.number = ap (λ (n : Name). n.number) new.0 in omega (arith, at))
       | inr old ↦ absurd (apart other t v x p old h held)
     ];
   }
 
   -- it stays unflushed, where the new store doesn't hold it
-  unflushed_now : (r : ℕ) (v : VersionKey) (p : Payload) (u : IsUnflushed I r v p) → ((r ≡ name.region) → s.to < v.number) → IsUnflushed J r v p
+  unflushed_now : (r : ℕ) (v : VersionKey) (p : Payload) (u : IsUnflushed I r v p) → (r ≡ name.region → IsFor s.family v.key.family → s.to < v.number) → IsUnflushed J r v p
   unflushed_now r v p u past = record {
     entry = u.entry;
     logged = now_logged u.entry u.logged;
     region = u.region;
-    above = λ n f. elim (was r f.0 f.1 f.2) as (λ _. n < u.entry.number) [
-      | inl new ↦ (let to : f.1.to ≡ s.to = ap (λ (t : Store). t.to) new.2 in omega (arith, past new.1, to, f.3, puts_number u.entry v p u.puts))
-      | inr old ↦ u.above n (f.0, f.1, old, f.3)
+    above = λ n f. elim (counting_was r f.0 f.1 f.2) as (λ _. n < u.entry.number) [
+      | inl new ↦
+          let to : f.1.to ≡ s.to = ap (λ (t : Store). t.to) new.2 in
+          omega (arith, past new.1 (subst (λ (t : Store). IsFor t.family v.key.family) new.2 f.3), to, f.4, puts_number u.entry v p u.puts)
+      | inr old ↦ u.above n (f.0, f.1, old, f.3, f.4)
     ];
     puts = u.puts;
   }
 
   recovered_now : (r : ℕ) (v : VersionKey) (p : Payload) → IsRecovered I r v p → IsRecovered J r v p
   recovered_now r v p (inl st) = inl (stored_now r v p st)
-  recovered_now r v p (inr u) = elim (cases_eq r name.region) as (λ _. IsRecovered J r v p) [
-    | inl here ↦ elim (cases_lt s.to v.number) as (λ _. IsRecovered J r v p) [
-      | inl past ↦ inr (unflushed_now r v p u (λ _. past))
-      | inr up_to ↦ subst (λ (q : ℕ). IsRecovered J q v p) (sym here) (inl (shown v p ((a.holds v p).1 (subst (λ (q : ℕ). IsUnflushed I q v p) here u, up_to))))
+  recovered_now r v p (inr u) = elim (flush_cases name.region s.family r v.key.family) as (λ _. IsRecovered J r v p) [
+    | inl hit ↦ elim (cases_lt s.to v.number) as (λ _. IsRecovered J r v p) [
+      | inl past ↦ inr (unflushed_now r v p u (λ _ _. past))
+      | inr up_to ↦ subst (λ (q : ℕ). IsRecovered J q v p) hit.0 (inl (shown v p ((a.holds v p).1 (subst (λ (q : ℕ). IsUnflushed I q v p) (sym hit.0) u, up_to, hit.1))))
     ]
-    | inr elsewhere ↦ inr (unflushed_now r v p u (λ here. absurd (elsewhere here)))
+    | inr miss ↦ inr (unflushed_now r v p u (λ here for. absurd (miss (sym here) for)))
   ]
 
   recovered_was : (r : ℕ) (v : VersionKey) (p : Payload) → IsRecovered J r v p → IsRecovered I r v p
-  recovered_was r v p (inl st) = elim (was r st.name st.store st.file) as (λ _. IsRecovered I r v p) [
+  recovered_was r v p (inl st) = elim (counting_was r st.name st.store st.file) as (λ _. IsRecovered I r v p) [
     | inl new ↦ subst (λ (q : ℕ). IsRecovered I q v p) (sym new.1) (inr ((a.holds v p).0 (subst (λ (t : Store). Holds t v p) new.2 st.holds)).0)
-    | inr old ↦ inl (record { name = st.name; store = st.store; file = old; holds = st.holds; newest = λ other t x f h. st.newest other t x (still r other t f) h })
+    | inr old ↦ inl (record { name = st.name; store = st.store; file = old; holds = st.holds; newest = λ other t x c h. st.newest other t x (counts r other t c) h })
   ]
-  recovered_was r v p (inr u) = inr (record { entry = u.entry; logged = was_logged u.entry u.logged; region = u.region; above = λ n f. u.above n (f.0, f.1, still r f.0 f.1 f.2, f.3); puts = u.puts })
+  recovered_was r v p (inr u) = inr (record { entry = u.entry; logged = was_logged u.entry u.logged; region = u.region; above = λ n f. u.above n (flushes_by I J counts r v.key.family n f); puts = u.puts })
 
   seen_now : (r m : ℕ) → IsSeen I r m → (n : ℕ) × IsSeen J r n × (m ≤ n)
-  seen_now r m (inl f) = (m, inl (f.0, f.1, still r f.0 f.1 f.2, f.3), omega arith)
+  seen_now r m (inl f) = (m, inl (f.0, f.1, counts r f.0 f.1 f.2, f.3), omega arith)
   seen_now r m (inr (e, logged, region, number)) = (m, inr (e, now_logged e logged, region, number), omega arith)
 
   seen_was : (r m : ℕ) → IsSeen J r m → (n : ℕ) × IsSeen I r n × (m ≤ n)
-  seen_was r m (inl f) = elim (was r f.0 f.1 f.2) as (λ _. (n : ℕ) × IsSeen I r n × (m ≤ n)) [
+  seen_was r m (inl f) = elim (counting_was r f.0 f.1 f.2) as (λ _. (n : ℕ) × IsSeen I r n × (m ≤ n)) [
     | inl new ↦
         let to : f.1.to ≡ s.to = ap (λ (t : Store). t.to) new.2 in
-        (a.reached.0.number, inr (a.reached.0, a.reached.1, a.reached.2 ∙ sym new.1, refl), omega (arith, to, f.3, a.reached.3))
+        (a.reached.0, subst (λ (q : ℕ). IsSeen I q a.reached.0) (sym new.1) a.reached.1, omega (arith, to, f.3, a.reached.2))
     | inr old ↦ (m, inl (f.0, f.1, old, f.3), omega arith)
   ]
   seen_was r m (inr (e, logged, region, number)) = (m, inr (e, was_logged e logged, region, number), omega arith)

@@ -1,16 +1,16 @@
 -- The content that entries put, one after the other, is what was there with what each of them puts.
-use Rattle.std.proofs.Common.{◌≡◌, ℕ, ◌≤◌, ◌⊎◌, ◌↔◌, Bool, true, false, cond, List, [], ◌∷◌, ◌++◌, Contains, Option, Some, None, refl, sym, ap, ◌∙◌, subst, arith, inl, inr}
+use Rattle.std.proofs.Common.{◌≡◌, ℕ, suc, ◌≤◌, ◌⊎◌, ◌↔◌, Bool, true, false, cond, List, [], ◌∷◌, ◌++◌, Contains, Option, Some, None, refl, sym, ap, ◌∙◌, subst, arith, inl, inr}
 use Rattle.std.specs.FinMap.{get, insert, empty, get-insert, get-empty}
 use Rattle.std.specs.Ordering.{eq_by_cmp, is_eq}
 use Rattle.std.specs.declared.cmp.Ordering.{Ordering}
 use Rattle.std.specs.declared.cmp.Ordering.TheVariants.{Less, Equal, Greater}
 use Rattle.std.proofs.lemmas.Bool.{cases_Bool, cases_eq, eqb-true}
 use Rattle.cell_model.specs.Cell.{Cell}
-use Rattle.cell_model.specs.Order.{VersionKey, Payload, Content, version_cmp, key_of, payload_of, put_cells}
+use Rattle.cell_model.specs.Order.{Key, VersionKey, Payload, Content, version_cmp, key_of, payload_of, put_cells}
 use Rattle.cell_model.proofs.OrderLaws.{version_cmp_total, version_cmp_exact}
 use Rattle.log_model.specs.Entry.{Entry}
 use Rattle.log_model.specs.Files.{Files}
-use Rattle.log_model.specs.Recovered.{Puts, IsRecovered, IsContent, is_of, entries_of, put_entries}
+use Rattle.log_model.specs.Recovered.{Puts, HasFamily, IsRecovered, IsContent, is_of, entries_of, put_entries}
 use Rattle.recovery.specs.Change.{RecoversWith}
 use Rattle.recovery.specs.Kept.{raised, AreRising, AreApart}
 use Rattle.recovery.proofs.Lists.{none_in, first_or_later, is_first, is_later, of_region, has_region}
@@ -44,6 +44,26 @@ pub puts_number : (e : Entry) (v : VersionKey) (p : Payload) → Puts e v p → 
 puts_number e v p puts = elim (cases_eq v.number e.number) [
   | inl same ↦ same
   | inr differ ↦ (let none : None ≡ Some p = sym (other_cells e.batch.cells empty e.number v differ ∙ get-empty version_cmp v) ∙ puts in absurd cc)
+]
+
+-- what cells put is of one of them, or was there
+put_from : (cs : List Cell) (m : Content) (n : ℕ) (v : VersionKey) (p : Payload) → get (put_cells m n cs) v ≡ Some p → (get m v ≡ Some p) ⊎ ((c : Cell) × Contains cs c × (key_of c ≡ v.key))
+put_from [] m n v p is = inl is
+put_from (c ∷ cs) m n v p is =
+    let key : VersionKey = record { key = key_of c; number = n } in
+    elim (put_from cs (insert m key (payload_of c)) n v p is) as (λ _. (get m v ≡ Some p) ⊎ ((d : Cell) × Contains (c ∷ cs) d × (key_of d ≡ v.key))) [
+      | inl here ↦ elim (cases_Bool (eq_by_cmp version_cmp v key)) as (λ _. (get m v ≡ Some p) ⊎ ((d : Cell) × Contains (c ∷ cs) d × (key_of d ≡ v.key))) [
+        | inl same ↦ inr (c, (0, omega arith, refl), sym (ap (λ (w : VersionKey). w.key) (version_cmp_exact v key (is_equal (version_cmp v key) same))))
+        | inr other ↦ inl (sym (get-insert version_cmp_total m key (payload_of c) v ∙ ap (λ b. cond b (Some (payload_of c)) (get m v)) other) ∙ here)
+      ]
+      | inr later ↦ inr (later.0, (suc later.1.0, omega (arith, later.1.1), later.1.2), later.2)
+    ]
+
+-- what an entry puts is of the family of one of its cells
+pub puts_family : (e : Entry) (v : VersionKey) (p : Payload) → Puts e v p → HasFamily e v.key.family
+puts_family e v p puts = elim (put_from e.batch.cells empty e.number v p puts) as (λ _. HasFamily e v.key.family) [
+  | inl none ↦ (let no : None ≡ Some p = sym (get-empty version_cmp v) ∙ none in absurd (cc no))
+  | inr found ↦ (found.0, found.1, ap (λ (k : Key). k.family) found.2)
 ]
 
 -- no version of the content has the entry's number

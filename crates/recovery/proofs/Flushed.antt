@@ -1,17 +1,19 @@
 -- A store file with the cells of what was flushed: files with it are like what is kept.
-use Rattle.std.proofs.Common.{◌≡◌, ◌≢◌, ◌⊎◌, inl, inr, ℕ, ◌<◌, ◌≤◌, refl, sym, ap, ◌∙◌, subst, arith}
+use Rattle.std.proofs.Common.{◌≡◌, ◌≢◌, ◌⊎◌, inl, inr, ℕ, ◌<◌, ◌≤◌, List, refl, sym, ap, ◌∙◌, subst, arith}
 use Rattle.std.specs.FinMap.{get}
-use Rattle.std.proofs.lemmas.Bool.{cases_eq, cases_lt}
-use Rattle.std.proofs.lemmas.Bool.Decides.{nat_tests}
+use Rattle.std.proofs.lemmas.Bool.{cases_lt}
 use Rattle.cell_model.specs.Order.{VersionKey, Payload}
 use Rattle.log_model.specs.declared.name.Name.{Name}
 use Rattle.log_model.specs.declared.name.NameKind.TheVariants as kinds
 use Rattle.log_model.specs.Entry.{Entry}
 use Rattle.log_model.specs.StoreText.{Store}
 use Rattle.log_model.specs.Files.{Files, SameBut, HoldsEntries, IsLogged, IsStoreFile}
-use Rattle.log_model.specs.Recovered.{Holds, FlushesTo, IsFlushed, IsStored, IsRecovered}
-use Rattle.recovery.specs.Kept.{Kept, PutUpTo, IsLike, flushed_to, IsCut, IsNotThere}
+use Rattle.log_model.specs.Recovered.{Holds, IsFor, IsCounting, FlushesTo, IsFlushed, IsStored, IsRecovered}
+use Rattle.recovery.specs.Kept.{Kept, PutUpTo, IsLike, flushed_to, IsCut, IsNotThere, IsNotReplaced}
 use Rattle.recovery.proofs.Names.{name_cases, store_apart}
+use Rattle.recovery.proofs.Lists.{flush_cases, flushed_here, flushed_there}
+use Rattle.recovery.proofs.Contents.{puts_number}
+use Rattle.recovery.proofs.Stores.{Counts, flushes_by, stored_by, flushed_by, held_family}
 use Rattle.recovery.proofs.Numbers.{held_range}
 
 module _ (name : Name) (kind : name.kind ≡ kinds.Store) (I J : Files) (same : SameBut name I J) where
@@ -47,77 +49,119 @@ module _ (name : Name) (kind : name.kind ≡ kinds.Store) (I J : Files) (same : 
             let f = like.fit.stores n bytes store (sym (same n apart) ∙ there) gate in (f.0, store_still n.region n f.0 f.1);
         agree = λ d e hd he region number. like.fit.agree d e (logs_were d hd) (logs_were e he) region number;
       };
-      flushed = λ r. record {
-        reached = elim (like.flushed r).reached as (λ _. FlushesTo J r (k.flushed r) ⊎ (k.flushed r ≡ 0)) [ inl f ↦ inl (f.0, f.1, store_still r f.0 f.1 f.2, f.3) | inr none ↦ inr none ];
-        bound = λ n f. (like.flushed r).bound n (f.0, f.1, was r f.0 f.1 f.2, f.3);
-      };
-      stored = λ r v p. (
-        λ h. (like.stored r v p).0 (record { name = h.name; store = h.store; file = was r h.name h.store h.file; holds = h.holds; newest = λ other s q f holds. h.newest other s q (store_still r other s f) holds }),
-        λ h. let i = (like.stored r v p).1 h in record { name = i.name; store = i.store; file = store_still r i.name i.store i.file; holds = i.holds; newest = λ other s q f holds. i.newest other s q (was r other s f) holds },
-      );
-      sure = λ e member above. logs_kept e (like.sure e member above);
-      only = λ e logged above. like.only e (logs_were e logged) (λ n f. above n (f.0, f.1, store_still e.region f.0 f.1 f.2, f.3));
+      flushed = λ r f. flushed_by I J counts_now counted r f (k.flushed r f) (like.flushed r f);
+      stored = λ r v p. (λ h. (like.stored r v p).0 (stored_by J I counted counts_now r v p h), λ h. stored_by I J counts_now counted r v p ((like.stored r v p).1 h));
+      sure = λ e f member has above. logs_kept e (like.sure e f member has above);
+      only = λ e f logged has above. like.only e f (logs_were e logged) has (λ n h. above n (flushes_by I J counts_now e.region f n h));
       numbers = λ e logged. like.numbers e (logs_were e logged);
     }
       where
         was : (r : ℕ) (n : Name) (s : Store) → IsStoreFile J r n s → IsStoreFile I r n s
         was r n s f = other_was r n s (λ at. not_now f.bytes (sym (ap (get J) at) ∙ f.there) f.gate) f
 
-    -- a store that is there with the cut moves the region's flushed number, and nothing recovers otherwise
-    module _ (k : Kept) (n : ℕ) (s : Store) (cut : IsCut k name.region n s) (file : IsStoreFile J name.region name s)
+        counts_now : Counts I J
+        counts_now r n s c = record { file = store_still r n s c.file; stands = λ other t f one. c.stands other t (was r other t f) one }
+
+        counted : Counts J I
+        counted r n s c = record { file = was r n s c.file; stands = λ other t f one. c.stands other t (store_still r other t f) one }
+
+    -- a store of the scope 0 that is there and isn't replaced counts, and the others count as before
+    module _ (s : Store) (file : IsStoreFile J name.region name s) (plain : s.scope ≡ 0) (stands : IsNotReplaced I name)
+        (only_one : (t : Store) → IsStoreFile J name.region name t → t ≡ s) where
+      pub was : (q : ℕ) (m : Name) (t : Store) → IsStoreFile J q m t → ((m ≡ name) × (q ≡ name.region) × (t ≡ s)) ⊎ IsStoreFile I q m t
+      was q m t f = elim (name_cases m name) as (λ _. ((m ≡ name) × (q ≡ name.region) × (t ≡ s)) ⊎ IsStoreFile I q m t) [
+        | inl at ↦ inl (at, sym f.of ∙ ap (λ (x : Name). x.region) at, only_one t (subst (λ (x : Name). IsStoreFile J name.region x t) at (subst (λ (y : ℕ). IsStoreFile J y m t) (sym f.of ∙ ap (λ (x : Name). x.region) at) f)))
+        | inr apart ↦ inr (other_was q m t apart f)
+      ]
+
+      pub new_counts : IsCounting J name.region name s
+      new_counts = record {
+        file = file;
+        stands = λ other t f one. elim (was name.region other t f) as (λ _. other.number ≤ name.number) [
+          | inl new ↦ (let at : other.number ≡ name.number = ap (λ (x : Name). x.number) new.0 in omega (arith, at))
+          | inr old ↦ stands other t old one
+        ];
+      }
+
+      pub old_counts : Counts I J
+      old_counts q m t c = record {
+        file = store_still q m t c.file;
+        stands = λ other u f one. elim (was q other u f) as (λ _. other.number ≤ m.number) [
+          | inl new ↦ absurd (let scope : u.scope ≡ 0 = ap (λ (x : Store). x.scope) new.2 ∙ plain in omega (arith, scope, one))
+          | inr old ↦ c.stands other u old one
+        ];
+      }
+
+      pub was_counting : (q : ℕ) (m : Name) (t : Store) → IsCounting J q m t → ((m ≡ name) × (q ≡ name.region) × (t ≡ s)) ⊎ IsCounting I q m t
+      was_counting q m t c = elim (was q m t c.file) as (λ _. ((m ≡ name) × (q ≡ name.region) × (t ≡ s)) ⊎ IsCounting I q m t) [
+        | inl new ↦ inl new
+        | inr old ↦ inr (record { file = old; stands = λ other u f one. c.stands other u (store_still q other u f) one })
+      ]
+
+    -- a store that is there with the cut moves what is flushed of its family, and nothing recovers otherwise
+    module _ (k : Kept) (family : List ℕ) (n : ℕ) (s : Store) (cut : IsCut k name.region family n s) (file : IsStoreFile J name.region name s) (stands : IsNotReplaced I name)
         (only_one : (t : Store) → IsStoreFile J name.region name t → t ≡ s) (like : IsLike k I) where
       abbrev pub r : ℕ
       r = name.region
 
-      was : (q : ℕ) (m : Name) (t : Store) → IsStoreFile J q m t → ((m ≡ name) × (q ≡ r) × (t ≡ s)) ⊎ IsStoreFile I q m t
-      was q m t f = elim (name_cases m name) as (λ _. ((m ≡ name) × (q ≡ r) × (t ≡ s)) ⊎ IsStoreFile I q m t) [
-        | inl at ↦ inl (at, sym f.of ∙ ap (λ (x : Name). x.region) at, only_one t (subst (λ (x : Name). IsStoreFile J r x t) at (subst (λ (y : ℕ). IsStoreFile J y m t) (sym f.of ∙ ap (λ (x : Name). x.region) at) f)))
-        | inr apart ↦ inr (other_was q m t apart f)
+      abbrev pub after : Kept
+      after = flushed_to k r family n
+
+      counting_was : (q : ℕ) (m : Name) (t : Store) → IsCounting J q m t → ((m ≡ name) × (q ≡ r) × (t ≡ s)) ⊎ IsCounting I q m t
+      counting_was = was_counting s file cut.scope stands only_one
+
+      still : Counts I J
+      still = old_counts s file cut.scope stands only_one
+
+      shown : IsCounting J r name s
+      shown = new_counts s file cut.scope stands only_one
+
+      here : (q : ℕ) (f : List ℕ) → r ≡ q → IsFor family f → after.flushed q f ≡ n
+      here q f is for = flushed_here k r family n q f is for
+
+      there : (q : ℕ) (f : List ℕ) → (r ≡ q → IsFor family f → ⊥) → after.flushed q f ≡ k.flushed q f
+      there q f other = flushed_there k r family n q f other
+
+      no_less : (q : ℕ) (f : List ℕ) → k.flushed q f ≤ after.flushed q f
+      no_less q f = elim (flush_cases r family q f) as (λ _. k.flushed q f ≤ after.flushed q f) [
+        | inl hit ↦ let at : k.flushed r f ≡ k.flushed q f = ap (λ (x : ℕ). k.flushed x f) hit.0 in omega (arith, at, here q f hit.0 hit.1, cut.more f hit.1)
+        | inr other ↦ omega (arith, there q f other)
       ]
 
-      here : (q : ℕ) → r ≡ q → (flushed_to k r n).flushed q ≡ n
-      here q is = grind (arith, nat_tests)
-
-      there : (q : ℕ) → (r ≡ q → ⊥) → (flushed_to k r n).flushed q ≡ k.flushed q
-      there q other = grind (arith, nat_tests)
-
-      no_less : (q : ℕ) → k.flushed q ≤ (flushed_to k r n).flushed q
-      no_less q = elim (cases_eq r q) as (λ _. k.flushed q ≤ (flushed_to k r n).flushed q) [
-        | inl is ↦ let at : k.flushed r ≡ k.flushed q = ap k.flushed is in omega (arith, at, here q is, cut.more)
-        | inr other ↦ omega (arith, there q other)
-      ]
-
-      now_flushed : (q : ℕ) → IsFlushed J q ((flushed_to k r n).flushed q)
-      now_flushed q = record {
-        reached = elim (cases_eq r q) as (λ _. FlushesTo J q ((flushed_to k r n).flushed q) ⊎ ((flushed_to k r n).flushed q ≡ 0)) [
-          | inl is ↦ inl (name, s, subst (λ (y : ℕ). IsStoreFile J y name s) is file, cut.to ∙ sym (here q is))
-          | inr other ↦ elim (like.flushed q).reached as (λ _. FlushesTo J q ((flushed_to k r n).flushed q) ⊎ ((flushed_to k r n).flushed q ≡ 0)) [
-            | inl f ↦ inl (f.0, f.1, store_still q f.0 f.1 f.2, f.3 ∙ sym (there q other))
-            | inr none ↦ inr (there q other ∙ none)
+      now_flushed : (q : ℕ) (f : List ℕ) → IsFlushed J q f (after.flushed q f)
+      now_flushed q f = record {
+        reached = elim (flush_cases r family q f) as (λ _. FlushesTo J q f (after.flushed q f) ⊎ (after.flushed q f ≡ 0)) [
+          | inl hit ↦ inl (name, s, subst (λ (y : ℕ). IsCounting J y name s) hit.0 shown, subst (λ (g : List ℕ). IsFor g f) (sym cut.of) hit.1, cut.to ∙ sym (here q f hit.0 hit.1))
+          | inr other ↦ elim (like.flushed q f).reached as (λ _. FlushesTo J q f (after.flushed q f) ⊎ (after.flushed q f ≡ 0)) [
+            | inl h ↦ inl (h.0, h.1, still q h.0 h.1 h.2, h.3, h.4 ∙ sym (there q f other))
+            | inr none ↦ inr (there q f other ∙ none)
           ]
         ];
-        bound = λ m f. elim (was q f.0 f.1 f.2) as (λ _. m ≤ (flushed_to k r n).flushed q) [
-          | inl new ↦ let at : f.1.to ≡ s.to = ap (λ (t : Store). t.to) new.2 in omega (arith, at, f.3, cut.to, here q (sym new.1))
-          | inr old ↦ omega (arith, (like.flushed q).bound m (f.0, f.1, old, f.3), no_less q)
+        bound = λ m h. elim (counting_was q h.0 h.1 h.2) as (λ _. m ≤ after.flushed q f) [
+          | inl new ↦
+              let at : h.1.to ≡ s.to = ap (λ (t : Store). t.to) new.2 in
+              let of : h.1.family ≡ family = ap (λ (t : Store). t.family) new.2 ∙ cut.of in
+              omega (arith, at, h.4, cut.to, here q f (sym new.1) (subst (λ (g : List ℕ). IsFor g f) of h.3))
+          | inr old ↦ omega (arith, (like.flushed q f).bound m (h.0, h.1, old, h.3, h.4), no_less q f)
         ];
       }
 
       -- a version that an older store of the region holds is below those of the cut
-      old_low : (m : Name) (t : Store) (v : VersionKey) (p : Payload) → IsStoreFile I r m t → Holds t v p → v.number ≤ k.flushed r
-      old_low m t v p f h = omega (arith, (held_range r f.bytes t v p f.text h).1, (like.flushed r).bound t.to (m, t, f, refl))
+      old_low : (m : Name) (t : Store) (v : VersionKey) (p : Payload) → IsCounting I r m t → Holds t v p → v.number ≤ k.flushed r v.key.family
+      old_low m t v p c h = omega (arith, (held_range r c.file.bytes t v p c.file.text h).1, (like.flushed r v.key.family).bound t.to (m, t, c, held_family r c.file.bytes t v p c.file.text h, refl))
 
-      new_high : (v : VersionKey) (p : Payload) → Holds s v p → k.flushed r < v.number
-      new_high v p h = omega (arith, (held_range r file.bytes s v p file.text h).0, cut.from)
+      new_high : (v : VersionKey) (p : Payload) → Holds s v p → k.flushed r v.key.family < v.number
+      new_high v p h = let put = (cut.cells v p).0 h in omega (arith, put.3, puts_number put.0 v p put.6)
 
-      now_stored : (q : ℕ) (v : VersionKey) (p : Payload) → IsStored J q v p → IsRecovered k.base q v p ⊎ PutUpTo k.durable ((flushed_to k r n).flushed q) q v p
-      now_stored q v p h = elim (was q h.name h.store h.file) as (λ _. IsRecovered k.base q v p ⊎ PutUpTo k.durable ((flushed_to k r n).flushed q) q v p) [
+      now_stored : (q : ℕ) (v : VersionKey) (p : Payload) → IsStored J q v p → IsRecovered k.base q v p ⊎ PutUpTo k.durable (after.flushed q v.key.family) q v p
+      now_stored q v p h = elim (counting_was q h.name h.store h.file) as (λ _. IsRecovered k.base q v p ⊎ PutUpTo k.durable (after.flushed q v.key.family) q v p) [
         | inl new ↦
             let put = (cut.cells v p).0 (subst (λ (t : Store). Holds t v p) new.2 h.holds) in
-            inr (put.0, put.1, put.2 ∙ sym new.1, omega (arith, put.4, here q (sym new.1)), put.5)
+            inr (put.0, put.1, put.2 ∙ sym new.1, omega (arith, put.4, here q v.key.family (sym new.1) put.5), put.6)
         | inr old ↦
-            elim ((like.stored q v p).0 (record { name = h.name; store = h.store; file = old; holds = h.holds; newest = λ other t y f holds. h.newest other t y (store_still q other t f) holds })) as (λ _. IsRecovered k.base q v p ⊎ PutUpTo k.durable ((flushed_to k r n).flushed q) q v p) [
+            elim ((like.stored q v p).0 (record { name = h.name; store = h.store; file = old; holds = h.holds; newest = λ other t y c holds. h.newest other t y (still q other t c) holds })) as (λ _. IsRecovered k.base q v p ⊎ PutUpTo k.durable (after.flushed q v.key.family) q v p) [
               | inl base ↦ inl base
-              | inr put ↦ inr (put.0, put.1, put.2, omega (arith, put.3, no_less q), put.4)
+              | inr put ↦ inr (put.0, put.1, put.2, omega (arith, put.3, no_less q v.key.family), put.4)
             ]
       ]
 
@@ -125,13 +169,13 @@ module _ (name : Name) (kind : name.kind ≡ kinds.Store) (I J : Files) (same : 
       old_stored q v p i = record {
         name = i.name;
         store = i.store;
-        file = store_still q i.name i.store i.file;
+        file = still q i.name i.store i.file;
         holds = i.holds;
-        newest = λ other t y f holds. elim (was q other t f) as (λ _. other.number ≤ i.name.number) [
+        newest = λ other t y c holds. elim (counting_was q other t c) as (λ _. other.number ≤ i.name.number) [
           | inl new ↦ absurd (omega (
             arith,
             new_high v y (subst (λ (x : Store). Holds x v y) new.2 holds),
-            old_low i.name i.store v p (subst (λ (x : ℕ). IsStoreFile I x i.name i.store) new.1 i.file) i.holds,
+            old_low i.name i.store v p (subst (λ (x : ℕ). IsCounting I x i.name i.store) new.1 i.file) i.holds,
           ))
           | inr old ↦ i.newest other t y old holds
         ];
@@ -141,27 +185,28 @@ module _ (name : Name) (kind : name.kind ≡ kinds.Store) (I J : Files) (same : 
       cut_stored v p h = record {
         name = name;
         store = s;
-        file = file;
+        file = shown;
         holds = h;
-        newest = λ other t y f holds. elim (was r other t f) as (λ _. other.number ≤ name.number) [
+        newest = λ other t y c holds. elim (counting_was r other t c) as (λ _. other.number ≤ name.number) [
           | inl new ↦ let at : other.number ≡ name.number = ap (λ (x : Name). x.number) new.0 in omega (arith, at)
           | inr old ↦ absurd (omega (arith, new_high v p h, old_low other t v y old holds))
         ];
       }
 
-      was_stored : (q : ℕ) (v : VersionKey) (p : Payload) → IsRecovered k.base q v p ⊎ PutUpTo k.durable ((flushed_to k r n).flushed q) q v p → IsStored J q v p
+      was_stored : (q : ℕ) (v : VersionKey) (p : Payload) → IsRecovered k.base q v p ⊎ PutUpTo k.durable (after.flushed q v.key.family) q v p → IsStored J q v p
       was_stored q v p (inl base) = old_stored q v p ((like.stored q v p).1 (inl base))
-      was_stored q v p (inr put) = elim (cases_lt (k.flushed q) put.0.number) as (λ _. IsStored J q v p) [
-        | inl above ↦ elim (cases_eq r q) as (λ _. IsStored J q v p) [
-          | inl is ↦
-              let at : k.flushed r ≡ k.flushed q = ap k.flushed is in
-              subst (λ (x : ℕ). IsStored J x v p) is (cut_stored v p ((cut.cells v p).1 (put.0, put.1, put.2 ∙ sym is, omega (arith, above, at), omega (arith, put.3, here q is), put.4)))
-          | inr other ↦ absurd (omega (arith, above, put.3, there q other))
+      was_stored q v p (inr put) = elim (cases_lt (k.flushed q v.key.family) put.0.number) as (λ _. IsStored J q v p) [
+        | inl above ↦ elim (flush_cases r family q v.key.family) as (λ _. IsStored J q v p) [
+          | inl hit ↦
+              let at : k.flushed r v.key.family ≡ k.flushed q v.key.family = ap (λ (x : ℕ). k.flushed x v.key.family) hit.0 in
+              subst (λ (x : ℕ). IsStored J x v p) hit.0
+              (cut_stored v p ((cut.cells v p).1 (put.0, put.1, put.2 ∙ sym hit.0, omega (arith, above, at), omega (arith, put.3, here q v.key.family hit.0 hit.1), hit.1, put.4)))
+          | inr other ↦ absurd (omega (arith, above, put.3, there q v.key.family other))
         ]
         | inr low ↦ old_stored q v p ((like.stored q v p).1 (inr (put.0, put.1, put.2, low, put.4)))
       ]
 
-      pub opened : IsLike (flushed_to k r n) J
+      pub opened : IsLike after J
       opened = record {
         fit = record {
           logs = λ m bytes holds at. let f = like.fit.logs m bytes holds (sym (log_same m holds) ∙ at) in (f.0, record { kind = f.1.kind; bytes = f.1.bytes; there = log_same m holds ∙ f.1.there; ended = f.1.ended; text = f.1.text });
@@ -173,7 +218,7 @@ module _ (name : Name) (kind : name.kind ≡ kinds.Store) (I J : Files) (same : 
         };
         flushed = now_flushed;
         stored = λ q v p. (now_stored q v p, was_stored q v p);
-        sure = λ e member above. logs_kept e (like.sure e member (omega (arith, above, no_less e.region)));
-        only = λ e logged above. like.only e (logs_were e logged) (λ m f. above m (f.0, f.1, store_still e.region f.0 f.1 f.2, f.3));
+        sure = λ e f member has above. logs_kept e (like.sure e f member has (omega (arith, above, no_less e.region f)));
+        only = λ e f logged has above. like.only e f (logs_were e logged) has (λ m h. above m (h.0, h.1, still e.region h.0 h.1 h.2, h.3, h.4));
         numbers = λ e logged. like.numbers e (logs_were e logged);
       }

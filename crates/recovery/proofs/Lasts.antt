@@ -1,17 +1,13 @@
 -- The last sequence ids of files.
-use Rattle.std.proofs.Common.{◌≡◌, ◌⊎◌, ◌↔◌, inl, inr, ℕ, ◌≤◌, List, sym, ap, ◌∙◌, subst, arith}
+use Rattle.std.proofs.Common.{◌≡◌, ◌⊎◌, ◌↔◌, inl, inr, ℕ, ◌≤◌, List, [], sym, ap, ◌∙◌, subst, arith}
 use Rattle.std.proofs.lemmas.Bool.{cases_lt}
 use Rattle.log_model.specs.Entry.{Entry}
 use Rattle.log_model.specs.Files.{Files, IsLogged}
-use Rattle.log_model.specs.Recovered.{FlushesTo, IsLast}
+use Rattle.log_model.specs.Recovered.{IsSeen, IsLast}
 use Rattle.recovery.specs.Change.{last_of, LastsWith, Grown}
 use Rattle.recovery.specs.Kept.{Kept, lasts, AreRising, IsLike, IsOrderly}
 use Rattle.recovery.proofs.Rising.{last_is, lasts_no_less, below_lasts}
 use Rattle.recovery.proofs.Numbers.{one_last}
-
--- a sequence id that files have seen of a region
-abbrev pub IsSeen : Files → ℕ → ℕ → Type 0
-IsSeen files r m = FlushesTo files r m ⊎ ((e : Entry) × IsLogged files e × (e.region ≡ r) × (e.number ≡ m))
 
 -- where all that one has seen is at or below what the other has seen, and back, the greatest is the same
 pub same_last : (I J : Files) (r : ℕ) → ((m : ℕ) → IsSeen I r m → (n : ℕ) × IsSeen J r n × (m ≤ n)) → ((m : ℕ) → IsSeen J r m → (n : ℕ) × IsSeen I r n × (m ≤ n)) → (n : ℕ) → IsLast I r n ↔ IsLast J r n
@@ -43,11 +39,11 @@ grown_lasts I J more last g are rise r = record {
 }
   where
     still : (m : ℕ) → IsSeen I r m → IsSeen J r m
-    still m (inl f) = inl ((g.flushes r m).1 f)
+    still m (inl f) = inl (f.0, f.1, (g.counting r f.0 f.1).1 f.2, f.3)
     still m (inr (e, logged, region, number)) = inr (e, (g.logged e).1 (inl logged), region, number)
 
     bound : (m : ℕ) → IsSeen J r m → m ≤ lasts last more r
-    bound m (inl f) = omega (arith, (are r).bound m (inl ((g.flushes r m).0 f)), lasts_no_less last more r rise)
+    bound m (inl f) = omega (arith, (are r).bound m (inl (f.0, f.1, (g.counting r f.0 f.1).0 f.2, f.3)), lasts_no_less last more r rise)
     bound m (inr (e, logged, region, number)) = elim ((g.logged e).0 logged) as (λ _. m ≤ lasts last more r) [
       | inl old ↦ omega (arith, (are r).bound m (inr (e, old, region, number)), lasts_no_less last more r rise)
       | inr new ↦ let at : lasts last more e.region ≡ lasts last more r = ap (lasts last more) region in omega (arith, below_lasts last more e rise new, number, at)
@@ -61,23 +57,23 @@ lasts_with old new more last were are r n is = subst (λ (m : ℕ). IsLast new r
 pub like_last : (k : Kept) (J : Files) → IsLike k J → IsOrderly k → (r : ℕ) → IsLast J r (lasts k.first k.durable r)
 like_last k J like orderly r = record {
   reached = elim (last_is r (k.first r) k.durable) as (λ _. IsSeen J r (lasts k.first k.durable r) ⊎ (lasts k.first k.durable r ≡ 0)) [
-    | inl e ↦ elim (cases_lt (k.flushed r) e.0.number) as (λ _. IsSeen J r (lasts k.first k.durable r) ⊎ (lasts k.first k.durable r ≡ 0)) [
-      | inl above ↦ inl (inr (e.0, like.sure e.0 e.1 (let at : k.flushed e.0.region ≡ k.flushed r = ap k.flushed e.2 in omega (arith, above, at)), e.2, e.3))
-      | inr low ↦ flushed (omega (arith, low, e.3, orderly.low r))
-    ]
-    | inr same ↦ flushed (omega (arith, same, orderly.from r, orderly.low r))
+    | inl e ↦ (let f = orderly.given e.0 e.1 in elim (cases_lt (k.flushed r f.0) e.0.number) as (λ _. IsSeen J r (lasts k.first k.durable r) ⊎ (lasts k.first k.durable r ≡ 0)) [
+      | inl above ↦ inl (inr (e.0, like.sure e.0 f.0 e.1 f.1 (let at : k.flushed e.0.region f.0 ≡ k.flushed r f.0 = ap (λ (q : ℕ). k.flushed q f.0) e.2 in omega (arith, above, at)), e.2, e.3))
+      | inr low ↦ flushed f.0 (omega (arith, low, e.3, orderly.low r f.0))
+    ])
+    | inr same ↦ flushed [] (omega (arith, same, orderly.from r [], orderly.low r []))
   ];
   bound = bound;
 }
   where
-    flushed : k.flushed r ≡ lasts k.first k.durable r → IsSeen J r (lasts k.first k.durable r) ⊎ (lasts k.first k.durable r ≡ 0)
-    flushed is = elim (like.flushed r).reached as (λ _. IsSeen J r (lasts k.first k.durable r) ⊎ (lasts k.first k.durable r ≡ 0)) [
-      | inl f ↦ inl (inl (subst (FlushesTo J r) is f))
+    flushed : (g : List ℕ) → k.flushed r g ≡ lasts k.first k.durable r → IsSeen J r (lasts k.first k.durable r) ⊎ (lasts k.first k.durable r ≡ 0)
+    flushed g is = elim (like.flushed r g).reached as (λ _. IsSeen J r (lasts k.first k.durable r) ⊎ (lasts k.first k.durable r ≡ 0)) [
+      | inl f ↦ inl (inl (f.0, f.1, f.2, f.4 ∙ is))
       | inr none ↦ inr (sym is ∙ none)
     ]
 
     bound : (m : ℕ) → IsSeen J r m → m ≤ lasts k.first k.durable r
-    bound m (inl f) = omega (arith, (like.flushed r).bound m f, orderly.low r)
+    bound m (inl f) = omega (arith, (like.flushed r f.1.family).bound m (f.0, f.1, f.2, inr (λ _. f.1.family), f.3), orderly.low r f.1.family)
     bound m (inr (e, logged, region, number)) = let at : lasts k.first k.durable e.region ≡ lasts k.first k.durable r = ap (lasts k.first k.durable) region in omega (arith, like.numbers e logged, number, at)
 
 -- what the base went on to

@@ -10,7 +10,7 @@ use Rattle.log_model.specs.Recovered.{FlushesTo, IsRecovered}
 use Rattle.log_model.proofs.TextLaws.{one_text}
 use Rattle.recovery.specs.Change.{PutBy, RecoversWith, HasText, HasEntries, Grown, Agrees, IsFresh}
 use Rattle.recovery.proofs.Names.{name_cases, store_apart}
-use Rattle.recovery.proofs.Stores.{SameStores, stores_back, store_kept, flushes_kept, stored_kept}
+use Rattle.recovery.proofs.Stores.{Counts, SameStores, stores_back, store_kept, counts_kept, flushes_by, stored_by}
 
 -- an entry of another file than this one
 pub record IsElsewhere (files : Files) (name : Name) (e : Entry) : Type 0 where
@@ -93,8 +93,7 @@ module _ (name : Name) (kind : HoldsEntries name.kind) (I J : Files) (same : Sam
       agree = λ d e hd he region number. agree d e (logged_before d hd) (logged_before e he) region number;
     };
     logged = λ e. (logged_before e, logged_after e);
-    flushes = λ r n. (flushes_kept J I (stores_back I J (same_stores name I J kind same)) r n, flushes_kept I J (same_stores name I J kind same) r n);
-    stored = λ r v p. (stored_kept J I (stores_back I J (same_stores name I J kind same)) r v p, stored_kept I J (same_stores name I J kind same) r v p);
+    counting = λ r n s. (counts_kept J I (stores_back I J (same_stores name I J kind same)) r n s, counts_kept I J (same_stores name I J kind same) r n s);
   }
     where
       this_file : {bytes : List ℕ} → get J name ≡ Some bytes → (entries : List Entry) × IsLogFile J name entries
@@ -113,24 +112,31 @@ module _ (name : Name) (kind : HoldsEntries name.kind) (I J : Files) (same : Sam
   pub grown : IsFit I → IsFresh I more → Grown I J more
   grown fit fresh = grown_agreeing fit (record { mixed = λ d e hd he region number. absurd (fresh.apart d e hd he region number); inner = fresh.agree })
 
+-- the same stores count
+pub counts_on : (I J : Files) (more : List Entry) → Grown I J more → Counts I J
+counts_on I J more g r n s c = (g.counting r n s).1 c
+
+pub counted_before : (I J : Files) (more : List Entry) → Grown I J more → Counts J I
+counted_before I J more g r n s c = (g.counting r n s).0 c
+
 -- files that log more recover to more
 pub recovers_with : (I J : Files) (more : List Entry) → Grown I J more → IsFresh I more → RecoversWith I more J
 recovers_with I K more g fresh r v p = (forth, back)
   where
     forth : IsRecovered K r v p → IsRecovered I r v p ⊎ PutBy more r v p
-    forth (inl stored) = inl (inl ((g.stored r v p).0 stored))
+    forth (inl stored) = inl (inl (stored_by K I (counted_before I K more g) (counts_on I K more g) r v p stored))
     forth (inr u) = elim ((g.logged u.entry).0 u.logged) as (λ _. IsRecovered I r v p ⊎ PutBy more r v p) [
-      | inl old ↦ inl (inr (record { entry = u.entry; logged = old; region = u.region; above = λ n f. u.above n ((g.flushes r n).1 f); puts = u.puts }))
+      | inl old ↦ inl (inr (record { entry = u.entry; logged = old; region = u.region; above = λ n f. u.above n (flushes_by I K (counts_on I K more g) r v.key.family n f); puts = u.puts }))
       | inr new ↦ inr (u.entry, new, u.region, u.puts)
     ]
 
     back : IsRecovered I r v p ⊎ PutBy more r v p → IsRecovered K r v p
-    back (inl (inl stored)) = inl ((g.stored r v p).1 stored)
-    back (inl (inr u)) = inr (record { entry = u.entry; logged = (g.logged u.entry).1 (inl u.logged); region = u.region; above = λ n f. u.above n ((g.flushes r n).0 f); puts = u.puts })
+    back (inl (inl stored)) = inl (stored_by I K (counts_on I K more g) (counted_before I K more g) r v p stored)
+    back (inl (inr u)) = inr (record { entry = u.entry; logged = (g.logged u.entry).1 (inl u.logged); region = u.region; above = λ n f. u.above n (flushes_by K I (counted_before I K more g) r v.key.family n f); puts = u.puts })
     back (inr (e, member, region, puts)) = inr (record {
       entry = e;
       logged = (g.logged e).1 (inr member);
       region = region;
-      above = λ n f. fresh.above e n member (subst (λ (k : ℕ). FlushesTo I k n) (sym region) ((g.flushes r n).0 f));
+      above = λ n f. fresh.above e v.key.family n member (subst (λ (k : ℕ). FlushesTo I k v.key.family n) (sym region) (flushes_by K I (counted_before I K more g) r v.key.family n f));
       puts = puts;
     })

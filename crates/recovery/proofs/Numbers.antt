@@ -7,9 +7,9 @@ use Rattle.log_model.specs.StoreText.{Store, IsStoredCell, IsStoreText}
 use Rattle.log_model.proofs.TextLaws.{with_version}
 use Rattle.log_model.specs.LogText.{IsEntryOf, in_version}
 use Rattle.log_model.specs.Files.{Files, key_of as file_key, IsLogged}
-use Rattle.log_model.specs.Recovered.{IsGreatest, Holds, IsRecovered, IsStored, FlushesTo, IsLast}
+use Rattle.log_model.specs.Recovered.{IsGreatest, HasFamily, Holds, IsRecovered, IsStored, FlushesTo, IsLast}
 use Rattle.recovery.specs.Kept.{Kept, IsLike}
-use Rattle.recovery.proofs.Lists.{none_in, entries_in}
+use Rattle.recovery.proofs.Lists.{none_in, entries_in, some_family}
 use Rattle.recovery.proofs.Contents.{puts_number}
 
 -- a version that a store holds lies between its numbers
@@ -22,7 +22,7 @@ held_range r bytes s v p text h =
 -- what is recovered has no number above the last one
 pub recovered_low : (files : Files) (r n : ℕ) (v : VersionKey) (p : Payload) → IsLast files r n → IsRecovered files r v p → v.number ≤ n
 recovered_low files r n v p last (inl st) =
-    omega (arith, (held_range r st.file.bytes st.store v p st.file.text st.holds).1, last.bound st.store.to (inl (st.name, st.store, st.file, refl)))
+    omega (arith, (held_range r st.file.file.bytes st.store v p st.file.file.text st.holds).1, last.bound st.store.to (inl (st.name, st.store, st.file, refl)))
 recovered_low files r n v p last (inr u) = omega (arith, puts_number u.entry v p u.puts, last.bound u.entry.number (inr (u.entry, u.logged, u.region, refl)))
 
 pub one_last : (files : Files) (r m n : ℕ) → IsLast files r m → IsLast files r n → m ≡ n
@@ -39,9 +39,17 @@ logged_given J e h = let text = with_version (file_key h.name) h.file.bytes h.en
   | inr long ↦ (entries_in (IsEntryOf (in_version text.0 (file_key h.name))) h.entries e long.1.each h.member).entry.number_given
 ]
 
--- what recovers up to the flushed number is stored
-pub stored_to : (k : Kept) (J : Files) → IsLike k J → (r n : ℕ) → n ≤ k.flushed r → (v : VersionKey) (p : Payload) → IsRecovered J r v p → v.number ≤ n → IsStored J r v p
-stored_to k J like r n low v p (inl stored) le = stored
-stored_to k J like r n low v p (inr u) le =
+-- and a cell
+pub logged_family : (J : Files) (e : Entry) → IsLogged J e → (f : List ℕ) × HasFamily e f
+logged_family J e h = let text = with_version (file_key h.name) h.file.bytes h.entries h.file.ended h.file.text in elim text.2 as (λ _. (f : List ℕ) × HasFamily e f) [
+  | inl short ↦ absurd (none_in e (subst (λ (l : List Entry). Contains l e) short.1 h.member))
+  | inr long ↦ some_family e (entries_in (IsEntryOf (in_version text.0 (file_key h.name))) h.entries e long.1.each h.member).entry.batch.given
+]
+
+-- what recovers up to what is flushed of its family is stored
+pub stored_to : (k : Kept) (J : Files) → IsLike k J → (r n : ℕ) (v : VersionKey) (p : Payload) → n ≤ k.flushed r v.key.family → IsRecovered J r v p → v.number ≤ n → IsStored J r v p
+stored_to k J like r n v p low (inl stored) le = stored
+stored_to k J like r n v p low (inr u) le =
     let at : v.number ≡ u.entry.number = puts_number u.entry v p u.puts in
-    absurd (⊎_elim (λ (f : FlushesTo J r (k.flushed r)). omega (arith, u.above (k.flushed r) f, at, le, low)) (λ (none : k.flushed r ≡ 0). omega (arith, none, at, le, low, logged_given J u.entry u.logged)) (like.flushed r).reached)
+    let m : ℕ = k.flushed r v.key.family in
+    absurd (⊎_elim (λ (f : FlushesTo J r v.key.family m). omega (arith, u.above m f, at, le, low)) (λ (none : m ≡ 0). omega (arith, none, at, le, low, logged_given J u.entry u.logged)) (like.flushed r v.key.family).reached)

@@ -3,13 +3,14 @@ use Rattle.std.proofs.Common.{inl, inr, ℕ, ◌≤◌, List, ◌++◌, Contains
 use Rattle.cell_model.specs.Order.{VersionKey, Payload}
 use Rattle.log_model.specs.Entry.{Entry}
 use Rattle.log_model.specs.Files.{Files, IsLogged}
-use Rattle.log_model.specs.Recovered.{IsRecovered, RecoversAlike}
+use Rattle.log_model.specs.Recovered.{IsSeen, IsRecovered, RecoversAlike}
 use Rattle.recovery.specs.Change.{Grown, Agrees}
 use Rattle.recovery.specs.Laws.{CommitAdds, CopiesAddNothing, StoreChangesNothing, FlushedLogMayGo}
 use Rattle.recovery.proofs.Contents.{content_with, rising_new}
 use Rattle.recovery.proofs.Numbers.{recovered_low}
-use Rattle.recovery.proofs.Logs.{grown, grown_agreeing, recovers_with}
-use Rattle.recovery.proofs.Lasts.{IsSeen, same_last, grown_lasts}
+use Rattle.recovery.proofs.Logs.{grown, grown_agreeing, counts_on, counted_before, recovers_with}
+use Rattle.recovery.proofs.Stores.{flushes_by, stored_by}
+use Rattle.recovery.proofs.Lasts.{same_last, grown_lasts}
 use Rattle.recovery.proofs.Likes.{rising_fresh}
 use Rattle.recovery.proofs.Archived.{recovered_without}
 use Rattle.recovery.proofs.Appearing.{recovered_by_store}
@@ -36,19 +37,19 @@ grown_alike old new copies g logged r = record {
     was_logged e h = elim ((g.logged e).0 h) as (λ _. IsLogged old e) [ inl it ↦ it | inr copy ↦ logged e copy ]
 
     now : (v : VersionKey) (p : Payload) → IsRecovered old r v p → IsRecovered new r v p
-    now v p (inl st) = inl ((g.stored r v p).1 st)
-    now v p (inr u) = inr (record { entry = u.entry; logged = (g.logged u.entry).1 (inl u.logged); region = u.region; above = λ n f. u.above n ((g.flushes r n).0 f); puts = u.puts })
+    now v p (inl st) = inl (stored_by old new (counts_on old new copies g) (counted_before old new copies g) r v p st)
+    now v p (inr u) = inr (record { entry = u.entry; logged = (g.logged u.entry).1 (inl u.logged); region = u.region; above = λ n f. u.above n (flushes_by new old (counted_before old new copies g) r v.key.family n f); puts = u.puts })
 
     was : (v : VersionKey) (p : Payload) → IsRecovered new r v p → IsRecovered old r v p
-    was v p (inl st) = inl ((g.stored r v p).0 st)
-    was v p (inr u) = inr (record { entry = u.entry; logged = was_logged u.entry u.logged; region = u.region; above = λ n f. u.above n ((g.flushes r n).1 f); puts = u.puts })
+    was v p (inl st) = inl (stored_by new old (counted_before old new copies g) (counts_on old new copies g) r v p st)
+    was v p (inr u) = inr (record { entry = u.entry; logged = was_logged u.entry u.logged; region = u.region; above = λ n f. u.above n (flushes_by old new (counts_on old new copies g) r v.key.family n f); puts = u.puts })
 
     seen_now : (m : ℕ) → IsSeen old r m → (n : ℕ) × IsSeen new r n × (m ≤ n)
-    seen_now m (inl f) = (m, inl ((g.flushes r m).1 f), omega arith)
+    seen_now m (inl f) = (m, inl (f.0, f.1, (g.counting r f.0 f.1).1 f.2, f.3), omega arith)
     seen_now m (inr (e, h, region, number)) = (m, inr (e, (g.logged e).1 (inl h), region, number), omega arith)
 
     seen_was : (m : ℕ) → IsSeen new r m → (n : ℕ) × IsSeen old r n × (m ≤ n)
-    seen_was m (inl f) = (m, inl ((g.flushes r m).0 f), omega arith)
+    seen_was m (inl f) = (m, inl (f.0, f.1, (g.counting r f.0 f.1).0 f.2, f.3), omega arith)
     seen_was m (inr (e, h, region, number)) = (m, inr (e, was_logged e h, region, number), omega arith)
 
 pub copies_alike : CopiesAddNothing

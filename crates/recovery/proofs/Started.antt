@@ -6,7 +6,7 @@ use Rattle.log_model.specs.declared.name.Name.{Name}
 use Rattle.log_model.specs.declared.name.NameKind.TheVariants as kinds
 use Rattle.log_model.specs.Entry.{Entry}
 use Rattle.log_model.specs.Files.{Files, IsLogFile, IsLogged, IsFit, IsPresent, IsLastLog}
-use Rattle.log_model.specs.Recovered.{FlushesTo, IsFlushed, IsStored, IsRecovered, IsLast}
+use Rattle.log_model.specs.Recovered.{IsSeen, IsFlushed, IsStored, IsRecovered, IsLast}
 use Rattle.recovery.specs.Change.{HasText}
 use Rattle.recovery.specs.Kept.{IsLike, IsOrderly, PutUpTo, HasNoLogs, start_of}
 use Rattle.recovery.proofs.Lists.{none_in}
@@ -16,17 +16,17 @@ use Rattle.recovery.proofs.Logs.{none_some, one_list}
 pub none_logged : (J : Files) (e : Entry) → HasNoLogs J → IsLogged J e → ⊥
 none_logged J e none h = none_some (get J h.name) h.file.bytes (none h.name h.file.kind) h.file.there
 
-pub started : (F J : Files) (flushed : ℕ → ℕ) → IsFit F → HasNoLogs F → HasNoLogs J → SameStores F J → ((r : ℕ) → IsFlushed F r (flushed r)) → IsLike (start_of F flushed) J
+pub started : (F J : Files) (flushed : ℕ → ℕ) → IsFit F → HasNoLogs F → HasNoLogs J → SameStores F J → ((r : ℕ) (f : List ℕ) → IsFlushed F r f (flushed r)) → IsLike (start_of F flushed) J
 started F J flushed fit none_f none_j same are = record {
   fit = record {
     logs = λ n bytes holds there. absurd (none_some (get J n) bytes (none_j n holds) there);
     stores = λ n bytes store there gate. let f = fit.stores n bytes store (sym (same n store) ∙ there) gate in (f.0, store_kept F J same n.region n f.0 f.1);
     agree = λ d e hd he region number. absurd (none_logged J d none_j hd);
   };
-  flushed = λ r. flushed_kept F J same r (flushed r) (are r);
+  flushed = λ r f. flushed_kept F J same r f (flushed r) (are r f);
   stored = λ r v p. (λ h. inl (inl (stored_kept J F (stores_back F J same) r v p h)), back r v p);
-  sure = λ e member above. absurd (none_in e member);
-  only = λ e logged above. absurd (none_logged J e none_j logged);
+  sure = λ e f member has above. absurd (none_in e member);
+  only = λ e f logged has above. absurd (none_logged J e none_j logged);
   numbers = λ e logged. absurd (none_logged J e none_j logged);
 }
   where
@@ -36,16 +36,16 @@ started F J flushed fit none_f none_j same are = record {
     back r v p (inr put) = absurd (none_in put.0 put.1)
 
 -- what is kept at the start is in order
-pub started_orderly : (F : Files) (flushed : ℕ → ℕ) → HasNoLogs F → ((r : ℕ) → IsFlushed F r (flushed r)) → IsOrderly (start_of F flushed)
-started_orderly F flushed none are = record { begun = begun; rising = tt; from = λ r. omega arith; low = λ r. omega arith }
+pub started_orderly : (F : Files) (flushed : ℕ → ℕ) → HasNoLogs F → ((r : ℕ) (f : List ℕ) → IsFlushed F r f (flushed r)) → IsOrderly (start_of F flushed)
+started_orderly F flushed none are = record { begun = begun; rising = tt; given = λ e member. absurd (none_in e member); from = λ r f. omega arith; low = λ r f. omega arith }
   where
-    bound : (r m : ℕ) → FlushesTo F r m ⊎ ((e : Entry) × IsLogged F e × (e.region ≡ r) × (e.number ≡ m)) → m ≤ flushed r
-    bound r m (inl f) = (are r).bound m f
+    bound : (r m : ℕ) → IsSeen F r m → m ≤ flushed r
+    bound r m (inl f) = (are r f.1.family).bound m (f.0, f.1, f.2, inr (λ _. f.1.family), f.3)
     bound r m (inr (e, logged, region, number)) = absurd (none_logged F e none logged)
 
     begun : (r : ℕ) → IsLast F r (flushed r)
     begun r = record {
-      reached = elim (are r).reached as (λ _. (FlushesTo F r (flushed r) ⊎ ((e : Entry) × IsLogged F e × (e.region ≡ r) × (e.number ≡ flushed r))) ⊎ (flushed r ≡ 0)) [ inl f ↦ inl (inl f) | inr zero ↦ inr zero ];
+      reached = elim (are r []).reached as (λ _. IsSeen F r (flushed r) ⊎ (flushed r ≡ 0)) [ inl f ↦ inl (inl (f.0, f.1, f.2, f.4)) | inr none ↦ inr none ];
       bound = bound r;
     }
 

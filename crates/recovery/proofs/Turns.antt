@@ -4,12 +4,12 @@ use Rattle.cell_model.specs.Order.{VersionKey, Payload}
 use Rattle.log_model.specs.declared.name.Name.{Name}
 use Rattle.log_model.specs.Entry.{Entry}
 use Rattle.log_model.specs.Files.{Files, content, HoldsEntries, IsLogFile, IsLogged, IsFit}
-use Rattle.log_model.specs.Recovered.{FlushesTo, IsUnflushed, IsRecovered}
+use Rattle.log_model.specs.Recovered.{FlushesTo, IsSeen, IsUnflushed, IsRecovered}
 use Rattle.recovery.proofs.Names.{entries_no_old, store_no_old}
-use Rattle.recovery.proofs.Stores.{SameStores, stores_back, store_kept, flushes_kept, stored_kept}
+use Rattle.recovery.proofs.Stores.{SameStores, stores_back, store_kept, counts_kept, flushes_kept, stored_kept, held_family}
 use Rattle.recovery.proofs.Numbers.{held_range}
 use Rattle.recovery.proofs.Contents.{puts_number}
-use Rattle.recovery.proofs.Lasts.{IsSeen, same_last}
+use Rattle.recovery.proofs.Lasts.{same_last}
 use Rattle.recovery.specs.Alike.{AllAlike}
 use Rattle.recovery.specs.OpeningLaws.{AlikeInTurn, OldLogsAreNothing}
 
@@ -47,10 +47,10 @@ same_alike I J stores logs fit r = record {
 
     over : (A B : Files) → SameStores A B → ((m : Name) → HoldsEntries m.kind → content B m ≡ content A m) → (v : VersionKey) (p : Payload) → IsRecovered A r v p → IsRecovered B r v p
     over A B same log v p (inl st) = inl (stored_kept A B same r v p st)
-    over A B same log v p (inr u) = inr (record { entry = u.entry; logged = all_logged same log u.entry u.logged; region = u.region; above = λ n f. u.above n (flushes_kept B A (stores_back A B same) r n f); puts = u.puts })
+    over A B same log v p (inr u) = inr (record { entry = u.entry; logged = all_logged same log u.entry u.logged; region = u.region; above = λ n f. u.above n (flushes_kept B A (stores_back A B same) r v.key.family n f); puts = u.puts })
 
     seen : (A B : Files) → SameStores A B → ((m : Name) → HoldsEntries m.kind → content B m ≡ content A m) → (m : ℕ) → IsSeen A r m → (n : ℕ) × IsSeen B r n × (m ≤ n)
-    seen A B same log m (inl f) = (m, inl (flushes_kept A B same r m f), omega arith)
+    seen A B same log m (inl f) = (m, inl (f.0, f.1, counts_kept A B same r f.0 f.1 f.2, f.3), omega arith)
     seen A B same log m (inr (e, h, region, number)) = (m, inr (e, all_logged same log e h, region, number), omega arith)
 
 pub but_old : OldLogsAreNothing
@@ -61,7 +61,8 @@ but_old old new same fit = same_alike old new (λ m store. same m (store_no_old 
 pub unflushed_too : (I J : Files) (r : ℕ) → SameStores I J → ((v : VersionKey) (p : Payload) → IsRecovered I r v p → IsRecovered J r v p) → (v : VersionKey) (p : Payload) → IsUnflushed I r v p → IsUnflushed J r v p
 unflushed_too I J r same recovers v p u = elim (recovers v p (inr u)) as (λ _. IsUnflushed J r v p) [
   | inl st ↦
-      let f : FlushesTo I r st.store.to = flushes_kept J I (stores_back I J same) r st.store.to (st.name, st.store, st.file, refl) in
-      absurd (omega (arith, u.above st.store.to f, puts_number u.entry v p u.puts, (held_range r st.file.bytes st.store v p st.file.text st.holds).1))
+      let for = held_family r st.file.file.bytes st.store v p st.file.file.text st.holds in
+      let f : FlushesTo I r v.key.family st.store.to = flushes_kept J I (stores_back I J same) r v.key.family st.store.to (st.name, st.store, st.file, for, refl) in
+      absurd (omega (arith, u.above st.store.to f, puts_number u.entry v p u.puts, (held_range r st.file.file.bytes st.store v p st.file.file.text st.holds).1))
   | inr w ↦ w
 ]

@@ -4,8 +4,9 @@ use Rattle.cell_model.specs.Order.{VersionKey, Payload}
 use Rattle.log_model.specs.declared.name.Name.{Name}
 use Rattle.log_model.specs.Entry.{Entry}
 use Rattle.log_model.specs.LogText.{IsLogText}
+use Rattle.log_model.specs.StoreText.{Store}
 use Rattle.log_model.specs.Files.{Files, key_of, IsLogged, IsFit}
-use Rattle.log_model.specs.Recovered.{Puts, IsRecovered, IsStored, FlushesTo, IsLast}
+use Rattle.log_model.specs.Recovered.{Puts, IsCounting, IsRecovered, FlushesTo, IsLast}
 
 -- one of these entries of the region puts this payload
 abbrev pub PutBy : List Entry → ℕ → VersionKey → Payload → Type 0
@@ -34,12 +35,11 @@ pub record HasText (name : Name) (entries : List Entry) (ended : Option ℕ) (im
 abbrev pub HasEntries : Name → List Entry → Option (List ℕ) → Type 0
 HasEntries name entries image = ((ended : Option ℕ) × HasText name entries ended image) ⊎ ((image ≡ None) × (entries ≡ []))
 
--- the new files are fit, and log these entries beside what the old ones log; their stores are the same
+-- the new files are fit, and log these entries beside what the old ones log; the same stores count
 pub record Grown (old new : Files) (more : List Entry) : Type 0 where
   pub fit : IsFit new
   pub logged : (e : Entry) → IsLogged new e ↔ (IsLogged old e ⊎ Contains more e)
-  pub flushes : (r n : ℕ) → FlushesTo new r n ↔ FlushesTo old r n
-  pub stored : (r : ℕ) (v : VersionKey) (p : Payload) → IsStored new r v p ↔ IsStored old r v p
+  pub counting : (r : ℕ) (name : Name) (s : Store) → IsCounting new r name s ↔ IsCounting old r name s
 
 -- entries that may stand beside those of the files: where two have one region and sequence id they are the same
 pub record Agrees (files : Files) (more : List Entry) : Type 0 where
@@ -50,7 +50,7 @@ pub record Agrees (files : Files) (more : List Entry) : Type 0 where
 pub record IsFresh (files : Files) (more : List Entry) : Type 0 where
   pub apart : (d e : Entry) → IsLogged files d → Contains more e → d.region ≡ e.region → d.number ≢ e.number
   pub agree : (d e : Entry) → Contains more d → Contains more e → d.region ≡ e.region → d.number ≡ e.number → d ≡ e
-  pub above : (e : Entry) (n : ℕ) → Contains more e → FlushesTo files e.region n → n < e.number
+  pub above : (e : Entry) (f : List ℕ) (n : ℕ) → Contains more e → FlushesTo files e.region f n → n < e.number
 
 -- the files are fit, and recover to what the old ones do with the first of these entries, up to the last of them
 pub record RecoversSome (old : Files) (more : List Entry) (files : Files) : Type 0 where

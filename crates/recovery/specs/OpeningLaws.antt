@@ -6,7 +6,7 @@ use Rattle.log_model.specs.Entry.{Entry}
 use Rattle.log_model.specs.StoreText.{Store}
 use Rattle.log_model.specs.Files.{Files, content, SameBut, IsLogged, IsFit, IsLogFile, IsStoreFile}
 use Rattle.recovery.specs.Laws.{Goes, Extends}
-use Rattle.recovery.specs.Kept.{IsNotThere}
+use Rattle.recovery.specs.Kept.{IsNotThere, IsNotReplaced}
 use Rattle.recovery.specs.Alike.{AllAlike, SameButOld, StoresStand}
 use Rattle.recovery.specs.OpeningSteps.{Hides, IsWholeCut, AreKept}
 
@@ -26,7 +26,7 @@ HiddenStoreIsNothing = (old new : Files) (name : Name) → Hides name old new �
 -- recovers alike.
 abbrev pub ReplayChangesNothing : Type 0
 ReplayChangesNothing = (files old new : Files) (name : Name) (s : Store) → AllAlike files old → StoresStand files old → IsWholeCut files name.region s
-    → ((m : Name) (es : List Entry) → m.kind ≡ kinds.Edits → IsLogFile files m es → IsLogFile old m es) → name.kind ≡ kinds.Store → SameBut name old new → IsNotThere (content old name) → IsStoreFile new name.region name s
+    → ((m : Name) (es : List Entry) → m.kind ≡ kinds.Edits → IsLogFile files m es → IsLogFile old m es) → name.kind ≡ kinds.Store → SameBut name old new → IsNotThere (content old name) → IsNotReplaced files name → IsStoreFile new name.region name s
     → AllAlike files new
 
 -- Where a log or an edits file goes whose entries are each flushed, or stand in an edits file that stays, each region

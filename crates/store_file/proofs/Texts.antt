@@ -73,8 +73,9 @@ text_from form s count at bytes fits small there head fields stands counted end 
     record {
       store = record {
         region = small;
-        scope = head.scope_is;
+        scope = head.scope_limit;
         family = head.short;
+        whole = head.whole;
         from = fields.given;
         to = fields.order;
         limit = fields.limit;

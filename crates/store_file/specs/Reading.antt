@@ -18,8 +18,9 @@ pub record IsHead (form : Form) (region : ℕ) (bytes : List ℕ) (scope : ℕ) 
   pub word : number_at 1 4 bytes ≡ word_of form
   pub region_is : number_at 5 4 bytes ≡ region
   pub told : TellsScope form bytes scope family
-  pub scope_is : scope ≡ 0
+  pub scope_limit : scope ≤ 1
   pub short : length family ≤ 127
+  pub whole : scope ≡ 1 → family ≡ []
 
 -- the two sequence ids and the count that stand from a place on, which are right
 pub record AreNumbers (bytes : List ℕ) (at from to count : ℕ) : Type 0 where

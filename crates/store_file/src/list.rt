@@ -5,7 +5,7 @@ use kv_cell::{NumberedCells, Octets};
 /// What stands in a store file that is there.
 #[derive(Debug, Drop)]
 pub struct StoreText {
-    /// 0. A store that tells another scope is damaged.
+    /// 1 where it stands in the place of all stores of its region with lower numbers, else 0. One of 1 has no family.
     pub scope: u8,
     /// The family that all its cells have, at most 127 bytes, or none where they are of any.
     pub family: Octets,

@@ -136,10 +136,10 @@ fn read_tagged(region: u32, bytes: &[u8]) -> Result<Fields<'_>, u64>
     if n < 9 || u32_at(bytes, 5) != region {
         return Err(5);
     }
-    if n < 10 || bytes[9] != 0 {
+    if n < 10 || bytes[9] > 1 {
         return Err(9);
     }
-    if n < 11 || bytes[10] > 127 {
+    if n < 11 || bytes[10] > 127 || (bytes[9] == 1 && bytes[10] != 0) {
         return Err(10);
     }
     let at = 11 + bytes[10] as usize;
