@@ -19,12 +19,12 @@ none_logged : {X : Type 0} (files : Files) (e : Entry) → keys files ≡ [] →
 none_logged files e none logged = no_bytes files logged.name logged.file.bytes none logged.file.there
 
 pub none_recovered : (files : Files) (r : ℕ) (v : VersionKey) (p : Payload) → keys files ≡ [] → IsRecovered files r v p → ⊥
-none_recovered files r v p none (inl stored) = no_bytes files stored.name stored.file.bytes none stored.file.there
+none_recovered files r v p none (inl stored) = no_bytes files stored.name stored.file.file.bytes none stored.file.file.there
 none_recovered files r v p none (inr unflushed) = none_logged files unflushed.entry none unflushed.logged
 
 pub last_is_0 : (files : Files) (r n : ℕ) → keys files ≡ [] → IsLast files r n → n ≡ 0
 last_is_0 files r n none last = elim last.reached [
-  | inl (inl flushed) ↦ no_bytes files flushed.0 flushed.2.bytes none flushed.2.there
+  | inl (inl flushed) ↦ no_bytes files flushed.0 flushed.2.file.bytes none flushed.2.file.there
   | inl (inr logged) ↦ none_logged files logged.0 none logged.1
   | inr zero ↦ zero
 ]

@@ -173,6 +173,7 @@ module _ (log : OpenLog) (u v : DiskView) (h : History) (ns : List ℕ) (keeps :
         | inr off ↦ let o = keeps.olds m kind (present_was m (λ is. absurd (cc (sym kind ∙ ap (λ (n : Name). n.kind) is))) off there) in (o.0, λ d member. o.1 d (left_is d member).0)
       ];
       stores = λ m kind there. keeps.stores m kind (present_was m (λ is. absurd (cc (sym kind ∙ ap (λ (n : Name). n.kind) is))) (λ is. absurd (cc (sym kind ∙ ap (λ (n : Name). n.kind) is))) there);
+      found = keeps.found;
     }
 
 -- the old name is free

@@ -1,8 +1,7 @@
 -- What a crash leaves at a moment of a call, in the numbers' words.
 use Rattle.std.proofs.Common.{◌≡◌, inl, inr, ℕ, ◌+◌, ◌<◌, ◌≤◌, List, [], ◌++◌, Contains, get_or, refl, sym, ap, ◌∙◌, arith}
-use Rattle.std.proofs.lemmas.List.Elements.{Contains-append_left}
+use Rattle.std.proofs.lemmas.List.Elements.{Contains-append_left, Contains-append_right}
 use Rattle.std.proofs.lemmas.Bool.{cases_eq}
-use Rattle.std.proofs.lemmas.Bool.Decides.{nat_tests}
 use Rattle.log_model.specs.declared.name.Name.{Name}
 use Rattle.log_model.specs.Entry.{Entry}
 use Rattle.log_model.specs.Files.{Files}
@@ -10,7 +9,7 @@ use Rattle.disk_images.specs.Crash.{DiskView, Throughout}
 use Rattle.disk_images.specs.Calls.{IsTrueDisk}
 use Rattle.disk_images.proofs.Moments.{at_once, weaker}
 use Rattle.recovery.specs.Kept.{IsLike, committed, flushed_to, lasts}
-use Rattle.recovery.proofs.Lists.{none_in}
+use Rattle.recovery.proofs.Lists.{none_in, flushed_here, flushed_there}
 use Rattle.recovery.proofs.Likes.{some_alike, flushed_alike, orderly_flushed}
 use Rattle.log_file.specs.Open.{OpenLog}
 use Rattle.log_ledger.specs.History.{History}
@@ -19,7 +18,7 @@ use Rattle.log_ledger.specs.Counted.{IsCounted}
 use Rattle.log_device.specs.Bears.{Bears}
 use Rattle.log_device.specs.Keeps.{Keeps, Shows, Between, IsInOrder, log_name}
 use Rattle.log_device.specs.Leaves.{Leaves}
-use Rattle.log_device.proofs.Leaving.{leaves, recovers_none, recovers_all, recovers_behind}
+use Rattle.log_device.proofs.Leaving.{AreGiven, leaves, recovers_none, recovers_all, recovers_behind}
 
 module _ (file : OpenLog) (v : DiskView) (h : History) (b : Books) (keeps : Keeps file v h b.next_store) (counted : IsCounted b h) (sound : IsTrueDisk v) where
   like : IsLike h.kept v.files
@@ -28,27 +27,33 @@ module _ (file : OpenLog) (v : DiskView) (h : History) (b : Books) (keeps : Keep
   abbrev pub Left : Files → Type 0
   Left J = Leaves b.stored b.closed v.files h.kept.staged J
 
+  stored_low : (r : ℕ) (f : List ℕ) → get_or b.stored r 0 ≤ h.kept.flushed r f
+  stored_low r f = omega (arith, counted.stored r, counted.evenly r f)
+
+  given : AreGiven h.kept.staged
+  given e has = counted.given e (Contains-append_right h.current h.kept.staged e has)
+
   newer : (e : Entry) → Contains h.current e → get_or b.closed e.region 0 < e.number
   newer e member = counted.newer e (Contains-append_left h.current h.kept.staged e member)
 
   before : (J : Files) → Shows h.kept file.name h.current J → Left J
-  before J shows = leaves b.stored b.closed h.kept file.name h.current v.files h.kept.staged J keeps.kind keeps.region shows counted.stored newer (recovers_none h.kept v.files J like shows.like keeps.orderly)
+  before J shows = leaves b.stored b.closed h.kept file.name h.current v.files h.kept.staged J keeps.kind keeps.region shows stored_low newer (recovers_none h.kept v.files J like shows.like keeps.orderly)
 
   -- where nothing is staged any more
   rested : (J : Files) → Shows h.kept file.name h.current J → Leaves b.stored b.closed v.files [] J
-  rested J shows = leaves b.stored b.closed h.kept file.name h.current v.files [] J keeps.kind keeps.region shows counted.stored newer (some_alike h.kept v.files J like shows.like keeps.orderly)
+  rested J shows = leaves b.stored b.closed h.kept file.name h.current v.files [] J keeps.kind keeps.region shows stored_low newer (some_alike h.kept v.files J like shows.like keeps.orderly)
 
   pub commit_leaves : (w : DiskView) → Throughout (Between h.kept file.name h.current (committed h.kept) file.name (h.current ++ h.kept.staged)) 4 v w → Throughout Left 4 v w
   commit_leaves w over = weaker (Between h.kept file.name h.current (committed h.kept) file.name (h.current ++ h.kept.staged)) Left 4 v w
       (λ J between. elim between as (λ _. Left J) [
         | inl was ↦ before J was
-        | inr now ↦ leaves b.stored b.closed (committed h.kept) file.name (h.current ++ h.kept.staged) v.files h.kept.staged J keeps.kind keeps.region now counted.stored counted.newer
-            (recovers_all h.kept v.files J like keeps.orderly now.like)
+        | inr now ↦ leaves b.stored b.closed (committed h.kept) file.name (h.current ++ h.kept.staged) v.files h.kept.staged J keeps.kind keeps.region now stored_low counted.newer
+            (recovers_all h.kept v.files J like keeps.orderly given now.like)
       ]) over
 
   -- behind the commit
   pub leaves_behind : (w : DiskView) → IsLike (committed h.kept) w.files → (J : Files) → Leaves b.stored b.closed w.files [] J → Left J
-  leaves_behind w now J left = record { recovers = recovers_behind h.kept v.files w.files J like keeps.orderly now left.recovers; in_stores = left.in_stores; in_last_log = left.in_last_log }
+  leaves_behind w now J left = record { recovers = recovers_behind h.kept v.files w.files J like keeps.orderly given now left.recovers; in_stores = left.in_stores; in_last_log = left.in_last_log }
 
   -- where nothing is done
   pub still_leaves : Throughout (Leaves b.stored b.closed v.files []) 0 v v
@@ -59,28 +64,28 @@ module _ (file : OpenLog) (v : DiskView) (h : History) (b : Books) (keeps : Keep
   roll_leaves next by w over = weaker (Between h.kept file.name h.current h.kept (log_name next) []) (Leaves b.stored b.closed v.files []) by v w
       (λ J between. elim between as (λ _. Leaves b.stored b.closed v.files [] J) [
         | inl was ↦ rested J was
-        | inr now ↦ leaves b.stored b.closed h.kept (log_name next) [] v.files [] J refl refl now counted.stored (λ e none. absurd (none_in e none)) (some_alike h.kept v.files J like now.like keeps.orderly)
+        | inr now ↦ leaves b.stored b.closed h.kept (log_name next) [] v.files [] J refl refl now stored_low (λ e none. absurd (none_in e none)) (some_alike h.kept v.files J like now.like keeps.orderly)
       ]) over
 
   -- a flush
-  pub flush_leaves : (r n by : ℕ) (w : DiskView) → h.kept.flushed r ≤ n → n ≤ lasts h.kept.first h.kept.durable r
-      → Throughout (Between h.kept file.name h.current (flushed_to h.kept r n) file.name h.current) by v w → Throughout (Leaves b.stored b.closed v.files []) by v w
-  flush_leaves r n by w more logged over = weaker (Between h.kept file.name h.current (flushed_to h.kept r n) file.name h.current) (Leaves b.stored b.closed v.files []) by v w
+  pub flush_leaves : (r n by : ℕ) (w : DiskView) → ((f : List ℕ) → h.kept.flushed r f ≤ n) → n ≤ lasts h.kept.first h.kept.durable r
+      → Throughout (Between h.kept file.name h.current (flushed_to h.kept r [] n) file.name h.current) by v w → Throughout (Leaves b.stored b.closed v.files []) by v w
+  flush_leaves r n by w more logged over = weaker (Between h.kept file.name h.current (flushed_to h.kept r [] n) file.name h.current) (Leaves b.stored b.closed v.files []) by v w
       (λ J between. elim between as (λ _. Leaves b.stored b.closed v.files [] J) [
         | inl was ↦ rested J was
-        | inr now ↦ leaves b.stored b.closed (flushed_to h.kept r n) file.name h.current v.files [] J keeps.kind keeps.region now (λ q. further q) newer
-            (flushed_alike h.kept r n v.files J like keeps.orderly now.like (orderly_flushed h.kept r n keeps.orderly more logged))
+        | inr now ↦ leaves b.stored b.closed (flushed_to h.kept r [] n) file.name h.current v.files [] J keeps.kind keeps.region now further newer
+            (flushed_alike h.kept r [] n v.files J like keeps.orderly now.like (orderly_flushed h.kept r [] n keeps.orderly (λ f of. more f) logged))
       ]) over
     where
-      further : (q : ℕ) → get_or b.stored q 0 ≤ (flushed_to h.kept r n).flushed q
-      further q = elim (cases_eq r q) as (λ _. get_or b.stored q 0 ≤ (flushed_to h.kept r n).flushed q) [
+      further : (q : ℕ) (f : List ℕ) → get_or b.stored q 0 ≤ (flushed_to h.kept r [] n).flushed q f
+      further q f = elim (cases_eq r q) as (λ _. get_or b.stored q 0 ≤ (flushed_to h.kept r [] n).flushed q f) [
         | inl is ↦
-            let here : (flushed_to h.kept r n).flushed q ≡ n = grind (arith, nat_tests) in
-            let at : h.kept.flushed r ≡ h.kept.flushed q = ap h.kept.flushed is in
-            omega (arith, counted.stored q, here, at, more)
+            let here : (flushed_to h.kept r [] n).flushed q f ≡ n = flushed_here h.kept r [] n q f is (inl refl) in
+            let at : h.kept.flushed r f ≡ h.kept.flushed q f = ap (λ (x : ℕ). h.kept.flushed x f) is in
+            omega (arith, counted.stored q, counted.evenly q f, here, at, more f)
         | inr other ↦
-            let there : (flushed_to h.kept r n).flushed q ≡ h.kept.flushed q = grind (arith, nat_tests) in
-            omega (arith, counted.stored q, there)
+            let there : (flushed_to h.kept r [] n).flushed q f ≡ h.kept.flushed q f = flushed_there h.kept r [] n q f (λ hit of. other hit) in
+            omega (arith, counted.stored q, counted.evenly q f, there)
       ]
 
   -- an archived log: whatever is staged

@@ -2,13 +2,17 @@
 use Rattle.std.proofs.Common.{◌≡◌, ◌⊎◌, inl, inr, ℕ, ◌<◌, List, [], ◌++◌, length-append, Contains, Option, None, refl, sym, ap, ◌∙◌, subst, arith}
 use Rattle.std.proofs.lemmas.List.{append-nil}
 use Rattle.log_model.specs.declared.name.Name.{Name}
-use Rattle.log_model.specs.Files.{Files, content, SameBut, HoldsEntries}
+use Rattle.log_model.specs.Entry.{Entry}
+use Rattle.log_model.specs.LogText.{IsEntryOf, in_version}
+use Rattle.log_model.specs.Files.{Files, content, key_of, SameBut, HoldsEntries}
+use Rattle.log_model.specs.Recovered.{HasFamily}
 use Rattle.disk_images.specs.Crash.{DiskView, IsImageNow, Throughout, OnlyAt}
 use Rattle.disk_images.specs.OneFile.{Touches}
 use Rattle.disk_images.proofs.Moments.{weaker, at_end}
 use Rattle.recovery.specs.Change.{HasText}
 use Rattle.recovery.specs.Kept.{committed}
 use Rattle.recovery.proofs.Names.{name_cases}
+use Rattle.recovery.proofs.Lists.{entries_in, some_family}
 use Rattle.recovery.proofs.Logs.{grown}
 use Rattle.recovery.proofs.Likes.{staged_fresh, none_fresh, like_committed, like_same, orderly_committed}
 use Rattle.log_file.specs.Open.{OpenLog, IsOpen, IsStaged, HasEither}
@@ -18,6 +22,10 @@ use Rattle.log_device.specs.Bears.{Bears}
 use Rattle.log_device.specs.Keeps.{Keeps, Shows, Between, IsUpTo, log_name}
 use Rattle.log_device.proofs.Bearing.{bears_log}
 use Rattle.log_device.proofs.Disk.{still_closed, present_before, up_to_but}
+
+-- each staged entry has a cell
+staged_given : (log : OpenLog) (es : List Entry) → IsStaged log es → (e : Entry) → Contains es e → (f : List ℕ) × HasFamily e f
+staged_given log es staged e has = some_family e (entries_in (IsEntryOf (in_version 2 (key_of log.name))) es e staged.each has).entry.batch.given
 
 module _ (log : OpenLog) (v : DiskView) (h : History) (ns : List ℕ) (keeps : Keeps log v h ns) where
   holds : HoldsEntries log.name.kind
@@ -75,7 +83,7 @@ module _ (log : OpenLog) (v : DiskView) (h : History) (ns : List ℕ) (keeps : K
     region = ap (λ (n : Name). n.region) same ∙ keeps.region;
     open_log = is_open;
     staged = none;
-    orderly = orderly_committed h.kept keeps.orderly;
+    orderly = orderly_committed h.kept keeps.orderly (staged_given log h.kept.staged keeps.staged);
     images = λ J now.
         let only = at_end (OnlyAt log.name (HasEither log.name h.current (h.current ++ h.kept.staged)) v) 4 v w over J now in
         subst (λ (n : Name). Shows (committed h.kept) n (h.current ++ h.kept.staged) J) (sym same)
@@ -103,6 +111,7 @@ module _ (log : OpenLog) (v : DiskView) (h : History) (ns : List ℕ) (keeps : K
         let o = keeps.olds m kind (present_before log.name m v.files w.files touches.others (λ is. absurd (cc (sym kind ∙ ap (λ (n : Name). n.kind) is ∙ keeps.kind))) there) in
         (at_name m.number o.0, o.1);
     stores = λ m kind there. keeps.stores m kind (present_before log.name m v.files w.files touches.others (λ is. absurd (cc (sym kind ∙ ap (λ (n : Name). n.kind) is ∙ keeps.kind))) there);
+    found = keeps.found;
   }
     where
       at_name : (n : ℕ) → n < log.name.number → n < after.name.number

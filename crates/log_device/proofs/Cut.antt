@@ -1,5 +1,5 @@
 -- What is cut of the kept entries, and the numbers behind a flush.
-use Rattle.std.proofs.Common.{◌≡◌, inl, inr, ℕ, ◌+◌, ◌<◌, List, [], ◌∷◌, get_or, set, length, refl, ap, ◌∙◌, arith}
+use Rattle.std.proofs.Common.{◌≡◌, inl, inr, ℕ, ◌+◌, ◌<◌, ◌≤◌, List, [], ◌∷◌, get_or, set, length, refl, ap, ◌∙◌, arith}
 use Rattle.std.proofs.lemmas.Bool.{cases_eq, cases_lt}
 use Rattle.std.proofs.lemmas.List.{get_or-set_same, get_or-set_other, get_or_past}
 use Rattle.cell_model.specs.Order.{NumberedCell}
@@ -14,13 +14,17 @@ pub of_all : (cells : List NumberedCell) → AreOf [] cells
 of_all [] = tt
 of_all (x ∷ xs) = (λ some. absurd (some refl), of_all xs)
 
-pub is_cut : (k : Kept) (r n from number : ℕ) (cells : List NumberedCell) → from ≡ k.flushed r + 1 → k.flushed r < n → PutsCut k r n cells → IsCut k r n (cut_store (store_name r number) [] from n cells)
-is_cut k r n from number cells first more puts = record {
+pub is_cut : (k : Kept) (r n from number : ℕ) (cells : List NumberedCell) → ((f : List ℕ) → k.flushed r f ≤ n) → PutsCut k r n cells → IsCut k r [] n (cut_store (store_name r number) [] from n cells)
+is_cut k r n from number cells more puts = record {
   region = refl;
-  from = omega (arith, first);
+  scope = refl;
+  of = refl;
   to = refl;
-  more = more;
-  cells = λ v p. (λ h. (puts v p).0 ((cut_holds (store_name r number) [] from n cells v p).0 h), λ found. (cut_holds (store_name r number) [] from n cells v p).1 ((puts v p).1 found));
+  more = λ f of. more f;
+  cells = λ v p. (
+    λ h. let e = (puts v p).0 ((cut_holds (store_name r number) [] from n cells v p).0 h) in (e.0, e.1, e.2, e.3, e.4, inl refl, e.5),
+    λ found. (cut_holds (store_name r number) [] from n cells v p).1 ((puts v p).1 (found.0, found.1, found.2, found.3, found.4, found.6)),
+  );
 }
 
 -- a region that is served has a place, and is served when its store's number is counted on

@@ -37,7 +37,7 @@ not_nothing (Err e) why other is n nothing = other n (cc (nothing, is))
 
 -- it made no disk call
 pub still_flushes : {D : Type 0} (g : Ghosts D) (h : History) (r : ℕ) (result : Result ℕ DeviceFlush) (old new : Device D) → IsTrueDisk (view_of g old) → HasHistory g old h → disk_of new ≡ disk_of old → IsErr result
-    → ((n : ℕ) → result ≡ Err (refusals.Nothing n) → (n ≡ h.kept.flushed r) × NoneKept h.kept r) → HasHistory g new h → FlushesFrom g [] h r result old new
+    → ((n : ℕ) → result ≡ Err (refusals.Nothing n) → (n ≡ h.kept.flushed r []) × NoneKept h.kept r) → HasHistory g new h → FlushesFrom g [] h r result old new
 still_flushes {D} g h r result old new sound whole same failed nothing after =
     let v = view_of g old in
     let ns = (books_of old).next_store in record {
@@ -47,7 +47,7 @@ still_flushes {D} g h r result old new sound whole same failed nothing after =
         subst (λ (d : D). Throughout (Bears h.kept.base ns file.name.number) 0 v (g.view d)) (sym same) (still_names file v h ns (kept_file old v h file is whole) file.name.number 0 (omega arith)),
       );
       flushed = none_of result (λ n. IsHighestKept h.kept r n × HasHistory g new (flushed_in h r n)) failed;
-      store = none_of result (λ n. HasStore (view_of g new) r (get_or ns r 0) (h.kept.flushed r + 1) n) failed;
+      store = none_of result (λ n. HasStore (view_of g new) r (get_or ns r 0) (h.kept.flushed r [] + 1) n) failed;
       nothing = nothing;
       refused = on_any {P = (IsBroken new → ⊥) → HasHistory g new h} result (λ unbroken. after);
       lower = λ file is k low. ap (λ (d : D). bytes_of (g.view d).files k) same;
@@ -78,7 +78,7 @@ flushes_behind g h r first result old mid new sound sound_mid whole now same fil
                 (subst (λ (p : List ℕ × ℕ). Throughout (Bears h.kept.base p.0 p.1) over.0 v w) (λ i. (stores i, (its.2 i).number)) over.1),
           );
       flushed = said.flushed;
-      store = subst (λ (l : List ℕ). IfOk result (λ n. HasStore w r (get_or l r 0) (h.kept.flushed r + 1) n)) stores said.store;
+      store = subst (λ (l : List ℕ). IfOk result (λ n. HasStore w r (get_or l r 0) (h.kept.flushed r [] + 1) n)) stores said.store;
       nothing = said.nothing;
       refused = said.refused;
       lower = λ file is k low.

@@ -136,6 +136,7 @@ keeps_those log disk h ns left others these those keeps = record {
   gone = keeps.gone;
   olds = λ m kind there. let o = keeps.olds m kind there in (o.0, λ c has. o.1 c (to c has));
   stores = keeps.stores;
+  found = keeps.found;
 }
   where
     to : (c : ClosedLog) → Contains others c → Contains left c

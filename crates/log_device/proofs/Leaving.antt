@@ -6,7 +6,7 @@ use Rattle.log_model.specs.declared.name.Name.{Name}
 use Rattle.log_model.specs.declared.name.NameKind.TheVariants as kinds
 use Rattle.log_model.specs.Entry.{Entry}
 use Rattle.log_model.specs.Files.{Files}
-use Rattle.log_model.specs.Recovered.{IsRecovered, IsLast}
+use Rattle.log_model.specs.Recovered.{HasFamily, IsRecovered, IsLast}
 use Rattle.recovery.specs.Change.{PutBy, RecoversWith, RecoversSome}
 use Rattle.recovery.specs.Kept.{Kept, IsLike, IsOrderly, committed, lasts}
 use Rattle.recovery.proofs.Rising.{lasts-append}
@@ -18,14 +18,18 @@ use Rattle.recovery.proofs.Started.{last_log}
 use Rattle.log_device.specs.Keeps.{Shows}
 use Rattle.log_device.specs.Leaves.{Leaves}
 
+-- each of these entries has a cell
+abbrev pub AreGiven : List Entry → Type 0
+AreGiven es = (e : Entry) → Contains es e → (f : List ℕ) × HasFamily e f
+
 -- the same with all that was staged, and flushed up to these numbers
-abbrev pub gone_on : Kept → (ℕ → ℕ) → Kept
+abbrev pub gone_on : Kept → (ℕ → List ℕ → ℕ) → Kept
 gone_on k flushed = record { base = k.base; first = k.first; durable = k.durable ++ k.staged; staged = []; flushed = flushed }
 
 pub recovers_none : (k : Kept) (F J : Files) → IsLike k F → IsLike k J → IsOrderly k → RecoversSome F k.staged J
 recovers_none k F J f j orderly = longer F [] k.staged J (some_alike k F J f j orderly)
 
-with_all : (k : Kept) (flushed : ℕ → ℕ) (F J : Files) → IsLike k F → IsLike (gone_on k flushed) J → RecoversWith F k.staged J
+with_all : (k : Kept) (flushed : ℕ → List ℕ → ℕ) (F J : Files) → IsLike k F → IsLike (gone_on k flushed) J → RecoversWith F k.staged J
 with_all k flushed F J f j r v p = (forth, back)
   where
     forth : IsRecovered J r v p → IsRecovered F r v p ⊎ PutBy k.staged r v p
@@ -45,21 +49,21 @@ with_all k flushed F J f j r v p = (forth, back)
     back (inr put) = (like_recovers (gone_on k flushed) J j r v p).1 (inr (put.0, Contains-append_right k.durable k.staged put.0 put.1, put.2, put.3))
 
 -- where all that was staged is in some files, what recovers to them recovers to the files before with what was staged
-pub recovers_behind : (k : Kept) (F W J : Files) → IsLike k F → IsOrderly k → IsLike (committed k) W → RecoversSome W [] J → RecoversSome F k.staged J
-recovers_behind k F W J f orderly w some =
-    let last : (r : ℕ) → IsLast W r (lasts (lasts k.first k.durable) k.staged r) = λ r. subst (λ (n : ℕ). IsLast W r n) (lasts-append k.first k.durable k.staged r) (like_last (committed k) W w (orderly_committed k orderly) r) in
+pub recovers_behind : (k : Kept) (F W J : Files) → IsLike k F → IsOrderly k → AreGiven k.staged → IsLike (committed k) W → RecoversSome W [] J → RecoversSome F k.staged J
+recovers_behind k F W J f orderly given w some =
+    let last : (r : ℕ) → IsLast W r (lasts (lasts k.first k.durable) k.staged r) = λ r. subst (λ (n : ℕ). IsLast W r n) (lasts-append k.first k.durable k.staged r) (like_last (committed k) W w (orderly_committed k orderly given) r) in
     subst (λ (l : List Entry). RecoversSome F l J) (append-nil k.staged)
     (from_base F W k.staged [] J (with_all k k.flushed F W f w) (lasts_with F W k.staged (lasts k.first k.durable) (like_last k F f orderly) last) some)
 
-pub recovers_all : (k : Kept) (F J : Files) → IsLike k F → IsOrderly k → IsLike (committed k) J → RecoversSome F k.staged J
-recovers_all k F J f orderly j = recovers_behind k F J J f orderly j (some_alike (committed k) J J j j (orderly_committed k orderly))
+pub recovers_all : (k : Kept) (F J : Files) → IsLike k F → IsOrderly k → AreGiven k.staged → IsLike (committed k) J → RecoversSome F k.staged J
+recovers_all k F J f orderly given j = recovers_behind k F J J f orderly given j (some_alike (committed k) J J j j (orderly_committed k orderly given))
 
 -- the numbers say the truth of an image that is like what is kept
 pub leaves : (stored closed : List ℕ) (k : Kept) (log : Name) (current : List Entry) (F : Files) (staged : List Entry) (J : Files) → log.kind ≡ kinds.Log → log.region ≡ 0 → Shows k log current J
-    → ((r : ℕ) → get_or stored r 0 ≤ k.flushed r) → ((e : Entry) → Contains current e → get_or closed e.region 0 < e.number) → RecoversSome F staged J → Leaves stored closed F staged J
+    → ((r : ℕ) (f : List ℕ) → get_or stored r 0 ≤ k.flushed r f) → ((e : Entry) → Contains current e → get_or closed e.region 0 < e.number) → RecoversSome F staged J → Leaves stored closed F staged J
 leaves stored closed k log current F staged J kind region shows low newer some = record {
   recovers = some;
-  in_stores = λ r v p recovers upto. stored_to k J shows.like r (get_or stored r 0) (low r) v p recovers upto;
+  in_stores = λ r v p recovers upto. stored_to k J shows.like r (get_or stored r 0) v p (low r v.key.family) recovers upto;
   in_last_log = λ name es e is file member.
       last_log (λ x. get_or closed x.region 0 < x.number) J log current shows.ended kind shows.text (λ m m_kind there. let up = shows.up_to m m_kind there in (up.0 ∙ sym region, up.1)) newer name es is file e member;
 }

@@ -218,4 +218,5 @@ module _ (log : OpenLog) (u v w : DiskView) (h : History) (ns : List ℕ) (keeps
               ],
             );
         stores = λ m kind there. keeps.stores m kind (other_kind m (λ is. absurd (cc (sym kind ∙ is))) there);
+        found = keeps.found;
       }

@@ -40,6 +40,7 @@ staged_kept file now v h ns e keeps above same staged =
       gone = λ m is. let g = keeps.gone m is in (g.0, g.1, omega (arith, g.2, number));
       olds = λ m kind there. let o = keeps.olds m kind there in (omega (arith, o.0, number), o.1);
       stores = keeps.stores;
+      found = keeps.found;
     }
 
 -- an entry of one of the regions may stand in a log

@@ -225,6 +225,7 @@ module _ (u : DiskView) (regions : List RegionBase) (flushed : ℕ → ℕ) (ope
                   let at : log_number m ≡ m.number = ap (λ k. number_by k m.number) kind in
                   (omega (arith, low, at, number), λ c member. absurd (no_log c member));
               stores = λ m kind there served. below_next next_store are m kind (other_kind m (λ is. absurd (cc (sym kind ∙ is))) there) served;
+              found = λ m kind there served. below_next next_store are m kind there served;
             }
           where
             log_low : (limit : ℕ) (m : Name) → ((m.kind ≡ kinds.Log) ⊎ (m.kind ≡ kinds.Old) → IsPresent u.files m → m.number ≤ limit) → IsPresent u.files m → log_number m ≤ limit

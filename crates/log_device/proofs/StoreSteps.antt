@@ -26,10 +26,10 @@ use Rattle.log_device.proofs.Stored.{store_moments, store_kept}
 module _ (file : OpenLog) (u w : DiskView) (h : History) (b : Books) (keeps : Keeps file u h b.next_store) (counted : IsCounted b h) (sound : IsTrueDisk u) (r : ℕ) (cells : List NumberedCell) (none : h.kept.staged ≡ [])
     (puts : PutsCut h.kept r (get_or b.drawn r 0) cells) (served : 0 < get_or b.next_store r 0) (above : get_or b.accounts.flushed r 0 < get_or b.drawn r 0)
     (from to number : ℕ) (from_is : from ≡ get_or b.accounts.flushed r 0 + 1) (to_is : to ≡ get_or b.drawn r 0) (number_is : number ≡ get_or b.next_store r 0) where
-  its_cut : IsCut h.kept r to (cut_store (store_name r (get_or b.next_store r 0)) [] from to cells)
+  its_cut : IsCut h.kept r [] to (cut_store (store_name r (get_or b.next_store r 0)) [] from to cells)
   its_cut =
       let flushed = counted.flushed r served in
-      is_cut h.kept r to from (get_or b.next_store r 0) cells (omega (arith, from_is, flushed)) (omega (arith, to_is, above, flushed)) (subst (λ (n : ℕ). PutsCut h.kept r n cells) (sym to_is) puts)
+      is_cut h.kept r to from (get_or b.next_store r 0) cells (λ f. omega (arith, to_is, above, flushed, counted.evenly r f)) (subst (λ (n : ℕ). PutsCut h.kept r n cells) (sym to_is) puts)
 
   is_last : to ≡ lasts h.kept.first h.kept.durable r
   is_last = to_is ∙ counted.drawn r served ∙ ap (λ es. lasts (lasts h.kept.first h.kept.durable) es r) none
@@ -48,7 +48,7 @@ module _ (file : OpenLog) (u w : DiskView) (h : History) (b : Books) (keeps : Ke
     stored_leaves over =
         let flushed = counted.flushed r served in (
           7 + length (ordered_cells cells),
-          flush_leaves file u h b keeps counted sound r to (7 + length (ordered_cells cells)) w (omega (arith, to_is, above, flushed)) logged
+          flush_leaves file u h b keeps counted sound r to (7 + length (ordered_cells cells)) w (λ f. omega (arith, to_is, above, flushed, counted.evenly r f)) logged
               (store_moments file u w h b.next_store keeps sound r to (cut_store (store_name r (get_or b.next_store r 0)) [] from to cells) (7 + length (ordered_cells cells)) served its_cut is_store logged
               (subst (λ (m : ℕ). Throughout (OnlyAt (store_name r m) (IsWholeOrNot (store_text Tagged (cut_store (store_name r m) [] from to cells))) u) (7 + length (ordered_cells cells)) u w) number_is over)),
         )

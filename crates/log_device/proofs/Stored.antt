@@ -1,5 +1,5 @@
 -- What writing a store leaves of what is kept.
-use Rattle.std.proofs.Common.{◌≡◌, ◌≢◌, inl, inr, ℕ, ◌+◌, ◌≤◌, ◌<◌, List, get_or, set, length, Option, Some, None, refl, sym, ap, ◌∙◌, subst, arith}
+use Rattle.std.proofs.Common.{◌≡◌, ◌≢◌, inl, inr, ℕ, ◌+◌, ◌≤◌, ◌<◌, List, [], get_or, set, length, Option, Some, None, refl, sym, ap, ◌∙◌, subst, arith}
 use Rattle.std.proofs.lemmas.Bool.{cases_eq, cases_lt}
 use Rattle.std.proofs.lemmas.List.{get_or-set_same, get_or-set_other, get_or_past}
 use Rattle.log_model.specs.declared.name.Name.{Name}
@@ -12,7 +12,7 @@ use Rattle.disk_images.specs.Calls.{IsTrueDisk}
 use Rattle.disk_images.specs.OneFile.{Touches, IsDurableFile}
 use Rattle.disk_images.proofs.Moments.{weaker, at_end}
 use Rattle.recovery.specs.Change.{HasText}
-use Rattle.recovery.specs.Kept.{IsCut, IsNotThere, flushed_to, lasts}
+use Rattle.recovery.specs.Kept.{IsCut, IsNotThere, IsNotReplaced, flushed_to, lasts}
 use Rattle.recovery.proofs.Names.{name_cases, store_apart}
 use Rattle.recovery.proofs.Likes.{orderly_flushed}
 use Rattle.recovery.proofs.Logs.{none_some}
@@ -42,7 +42,7 @@ module _ (log : OpenLog) (u : DiskView) (h : History) (ns : List ℕ) (keeps : K
   free_store = (free_in_files (content u.files (store_name r (get_or ns r 0))) refl, λ gone. absurd (cc ((keeps.gone (store_name r (get_or ns r 0)) gone).0)))
 
 module _ (log : OpenLog) (u w : DiskView) (h : History) (ns : List ℕ) (keeps : Keeps log u h ns) (sound : IsTrueDisk u) (r n : ℕ) (s : Store) (by : ℕ) (served : 0 < get_or ns r 0)
-    (cut : IsCut h.kept r n s) (is_store : IsStore s) (logged : n ≤ lasts h.kept.first h.kept.durable r) where
+    (cut : IsCut h.kept r [] n s) (is_store : IsStore s) (logged : n ≤ lasts h.kept.first h.kept.durable r) where
   abbrev pub name : Name
   name = store_name r (get_or ns r 0)
 
@@ -74,9 +74,16 @@ module _ (log : OpenLog) (u w : DiskView) (h : History) (ns : List ℕ) (keeps :
   up_to_there : (I J : Files) → IsImageNow u I → SameBut name I J → IsUpTo log.name.number J
   up_to_there I J there same = up_to_but name log.name.number I J same (λ kind. absurd (cc kind)) (keeps.images I there).up_to
 
-  stored_in : (I J : Files) → IsImageNow u I → SameBut name I J → content J name ≡ Some (store_text Tagged s) → Shows (flushed_to h.kept r n) log.name h.current J
+  -- no store of an image has a greater number
+  not_replaced : (I : Files) → IsImageNow u I → IsNotReplaced I name
+  not_replaced I there other t file one = elim ((keeps.names I there).stores other file.kind (λ none. none_some (content I other) file.bytes none file.there)) as (λ _. other.number ≤ name.number) [
+    | inl found ↦ (let at : get_or ns other.region 0 ≡ get_or ns r 0 = ap (λ (q : ℕ). get_or ns q 0) file.of in omega (arith, keeps.found other file.kind found (omega (arith, at, served)), at))
+    | inr ours ↦ (let at : get_or ns other.region 0 ≡ get_or ns r 0 = ap (λ (q : ℕ). get_or ns q 0) file.of in omega (arith, ours.2, at))
+  ]
+
+  stored_in : (I J : Files) → IsImageNow u I → SameBut name I J → content J name ≡ Some (store_text Tagged s) → Shows (flushed_to h.kept r [] n) log.name h.current J
   stored_in I J there same is = record {
-    like = opened name refl I J same (hidden I there) h.kept n s cut (file_in J is) (one_in J is) (keeps.images I there).like;
+    like = opened name refl I J same (hidden I there) h.kept [] n s cut (file_in J is) (not_replaced I there) (one_in J is) (keeps.images I there).like;
     ended = (keeps.images I there).ended;
     text = log_text I J there same;
     up_to = up_to_there I J there same;
@@ -91,7 +98,7 @@ module _ (log : OpenLog) (u w : DiskView) (h : History) (ns : List ℕ) (keeps :
   }
 
   abbrev pub Storing : Files → Type 0
-  Storing J = Between h.kept log.name h.current (flushed_to h.kept r n) log.name h.current J
+  Storing J = Between h.kept log.name h.current (flushed_to h.kept r [] n) log.name h.current J
 
   one_image : (J : Files) → OnlyAt name (IsWholeOrNot (store_text Tagged s)) u J → Storing J
   one_image J only = elim only.here as (λ _. Storing J) [
@@ -155,6 +162,16 @@ module _ (log : OpenLog) (u w : DiskView) (h : History) (ns : List ℕ) (keeps :
     ]
   ]
 
+  found_on : (m : Name) → m.kind ≡ kinds.Store → IsPresent h.kept.base m → 0 < get_or next_stores m.region 0 → m.number < get_or next_stores m.region 0
+  found_on m kind there some = elim (cases_eq m.region r) as (λ _. m.number < get_or next_stores m.region 0) [
+    | inl region ↦
+        let was : get_or ns m.region 0 ≡ get_or ns r 0 = ap (λ (q : ℕ). get_or ns q 0) region in
+        omega (arith, keeps.found m kind there (omega (arith, was, served)), next_stores_grow m.region)
+    | inr other ↦
+        let now : get_or next_stores m.region 0 ≡ get_or ns m.region 0 = get_or-set_other ns r m.region (get_or ns r 0 + 1) 0 other in
+        omega (arith, keeps.found m kind there (omega (arith, now, some)), now)
+  ]
+
   pub store_kept : Throughout (OnlyAt name (IsWholeOrNot (store_text Tagged s)) u) by u w → Touches name u w → IsDurableFile w name (store_text Tagged s) → Keeps log w (flushed_in h r n) next_stores
   store_kept over touches file = record {
     kind = keeps.kind;
@@ -166,7 +183,7 @@ module _ (log : OpenLog) (u w : DiskView) (h : History) (ns : List ℕ) (keeps :
       count = keeps.open_log.count;
     };
     staged = keeps.staged;
-    orderly = orderly_flushed h.kept r n keeps.orderly (omega (arith, cut.more)) logged;
+    orderly = orderly_flushed h.kept r [] n keeps.orderly cut.more logged;
     images = λ J now. let only = at_end (OnlyAt name (IsWholeOrNot (store_text Tagged s)) u) by u w over J now in stored_in only.base J only.was only.elsewhere (file.durable J now);
     names = λ J now.
         let only = at_end (OnlyAt name (IsWholeOrNot (store_text Tagged s)) u) by u w over J now in
@@ -179,4 +196,5 @@ module _ (log : OpenLog) (u w : DiskView) (h : History) (ns : List ℕ) (keeps :
     gone = λ m is. keeps.gone m (touches.gone m is);
     olds = λ m kind there. keeps.olds m kind (present_before name m u.files w.files touches.others (λ is. absurd (cc (sym kind ∙ ap (λ (x : Name). x.kind) is))) there);
     stores = λ m kind there some. counted_on m kind there touches.others some;
+    found = found_on;
   }

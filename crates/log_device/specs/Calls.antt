@@ -133,8 +133,8 @@ pub record FlushesFrom {D : Type 0} (g : Ghosts D) (staged : List Entry) (h : Hi
       → (bound : ℕ) × EachImage g (Bears h.kept.base (books_of old).next_store file.name.number) bound old new
   pub flushed : IfOk result (λ n. IsHighestKept h.kept r n × HasHistory g new (flushed_in h r n))
   -- the region's next store file is durable, from the first number that wasn't flushed on
-  pub store : IfOk result (λ n. HasStore (view_of g new) r (get_or (books_of old).next_store r 0) (h.kept.flushed r + 1) n)
-  pub nothing : (n : ℕ) → result ≡ Err (flush_refusals.Nothing n) → (n ≡ h.kept.flushed r) × NoneKept h.kept r
+  pub store : IfOk result (λ n. HasStore (view_of g new) r (get_or (books_of old).next_store r 0) (h.kept.flushed r [] + 1) n)
+  pub nothing : (n : ℕ) → result ≡ Err (flush_refusals.Nothing n) → (n ≡ h.kept.flushed r []) × NoneKept h.kept r
   -- after a refusal what was staged is committed, unless the device is broken
   pub refused : OnErr result ((IsBroken new → ⊥) → HasHistory g new h)
   -- the logs below the current one read as they did, whatever the call answers

@@ -1,5 +1,5 @@
 -- What a flush finds to flush, and the store that it writes.
-use Rattle.std.specs.Prelude.{◌≡◌, ◌≤◌, ℕ, Contains}
+use Rattle.std.specs.Prelude.{◌≡◌, ◌≤◌, ℕ, [], Contains}
 use Rattle.log_model.specs.Entry.{Entry}
 use Rattle.cell_model.specs.declared.form.Form.TheVariants.{Tagged}
 use Rattle.log_model.specs.StoreText.{Store, store_text}
@@ -10,7 +10,7 @@ use Rattle.log_device.specs.Keeps.{store_name}
 
 -- the region has no entry above the flushed number
 abbrev pub NoneKept : Kept → ℕ → Type 0
-NoneKept k r = (e : Entry) → Contains k.durable e → e.region ≡ r → e.number ≤ k.flushed r
+NoneKept k r = (e : Entry) → Contains k.durable e → e.region ≡ r → e.number ≤ k.flushed r []
 
 -- the region's store file of this number is durable, and covers these sequence ids
 pub record HasStore (disk : DiskView) (r number first last : ℕ) : Type 0 where

@@ -66,6 +66,8 @@ pub record Keeps (log : OpenLog) (disk : DiskView) (h : History) (next_store : L
   pub olds : (m : Name) → m.kind ≡ kinds.Old → IsPresent disk.files m → (m.number < log.name.number) × ((c : ClosedLog) → Contains h.logs c → c.number ≢ m.number)
   -- the next store's name is free
   pub stores : (m : Name) → m.kind ≡ kinds.Store → IsPresent disk.files m → 0 < get_or next_store m.region 0 → m.number < get_or next_store m.region 0
+  -- and above all that were found
+  pub found : (m : Name) → m.kind ≡ kinds.Store → IsPresent h.kept.base m → 0 < get_or next_store m.region 0 → m.number < get_or next_store m.region 0
 
 -- where the next file has a byte, the old one has all its entries
 abbrev pub IsInOrder : Name → Name → List Entry → Files → Type 0

@@ -20,7 +20,7 @@ pub record IsOpened (disk : DiskView) (regions : List RegionBase) (flushed : ℕ
   pub no_logs_in : (J : Files) → IsImageNow disk J → HasNoLogs J
   pub stores_in : (J : Files) (m : Name) → IsImageNow disk J → m.kind ≡ kinds.Store → content J m ≡ content disk.files m
   pub small : (m : Name) → IsPresent disk.files m → m.number ≤ 2 ^ 63
-  pub flushed_of : (r : ℕ) → IsFlushed disk.files r (flushed r)
+  pub flushed_of : (r : ℕ) (f : List ℕ) → IsFlushed disk.files r f (flushed r)
   pub marks : (m : RegionBase) → Contains regions m → flushed m.region ≡ m.flushed
   pub next : (m : RegionBase) (n : Name) → Contains regions m → n.kind ≡ kinds.Store → n.region ≡ m.region → IsPresent disk.files n → n.number < m.next_store
 

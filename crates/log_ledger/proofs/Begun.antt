@@ -110,14 +110,16 @@ served_begun regions b are begun r = (forth, back)
     back among = subst (IsServed b) among.2 (omega (arith, begun.next_store.named among.0 among.1, (are.each among.0 among.1).store_given))
 
 pub counted_begun : (regions : List RegionBase) (b : Books) → AreRegions regions → BegunWith regions b
-    → (F : Files) (flushed : ℕ → ℕ) → ((m : RegionBase) → Contains regions m → flushed m.region ≡ m.flushed) → HasNoLogs F → ((r : ℕ) → IsFlushed F r (flushed r)) → IsCounted b (started_in F flushed)
+    → (F : Files) (flushed : ℕ → ℕ) → ((m : RegionBase) → Contains regions m → flushed m.region ≡ m.flushed) → HasNoLogs F → ((r : ℕ) (f : List ℕ) → IsFlushed F r f (flushed r)) → IsCounted b (started_in F flushed)
 counted_begun regions b are begun F flushed told none is = record {
   synced = λ r served. same_at b.drawn b.synced r 0 begun.synced ∙ drawn r served;
   drawn = drawn;
   flushed = λ r served. same_flushed regions b.accounts.flushed b.drawn begun.flushed begun.drawn r ∙ drawn r served;
+  evenly = λ r f. refl;
   stored = λ r. omega (arith, same_at b.drawn b.stored r 0 begun.stored, low r);
   newer = λ e has. absurd (none_in e has);
   ours = λ e has. absurd (elim has as (λ _. ⊥) [ inl current ↦ none_in e current | inr durable ↦ none_in e durable ]);
+  given = λ e has. absurd (none_in e has);
   current = λ r. subst (IsHighest r []) (sym (same_at (replicate 65 0) b.accounts.current r 0 begun.current ∙ spread 65 r 0)) (highest_none r);
   logs = subst (λ (l : List ClosedFile). AreCounted b l []) (sym begun.files) tt;
   chains = λ r served. subst (CarriesUnflushed (start_of F flushed) r) (sym (same_at (replicate 65 []) b.chains r [] begun.chains ∙ spread 65 r []))

@@ -65,9 +65,9 @@ cells_between r flushed drawn chain is told =
     (λ es. IfOk-weaker r (λ cells. cells ≡ cells_of_all es.0) (AllByRecursion (IsBetween flushed drawn))
     (λ cells same. subst (AllByRecursion (IsBetween flushed drawn)) (sym same) (all_between flushed drawn chain es.0 is.numbers es.1)) (told es.0 es.1))
 
-pub cells_cut : {E : Type 0} (r : Result (List NumberedCell) E) (k : Kept) (region flushed drawn : ℕ) (chain : List Held) → IsChain flushed drawn chain → CarriesUnflushed k region chain → k.staged ≡ []
+pub cells_cut : {E : Type 0} (r : Result (List NumberedCell) E) (k : Kept) (region flushed drawn : ℕ) (chain : List Held) → IsChain flushed drawn chain → CarriesUnflushed k region chain → ((f : List ℕ) → k.flushed region f ≡ k.flushed region []) → k.staged ≡ []
     → ((es : List Entry) → AreHeld chain es → IfOk r (λ cells. cells ≡ cells_of_all es)) → IfOk r (PutsCut k region drawn)
-cells_cut r k region flushed drawn chain is carries none told =
+cells_cut r k region flushed drawn chain is carries evenly none told =
     IfOk-weaker r (λ cells. cells ≡ cells_of_all carries.entries) (PutsCut k region drawn) (λ cells same v p. (forth cells same v p, back cells same v p)) (told carries.entries carries.held)
   where
     all : k.durable ++ k.staged ≡ k.durable
@@ -77,14 +77,14 @@ cells_cut r k region flushed drawn chain is carries none told =
     content cells same = ap (put_numbered empty) same ∙ put_all carries.entries empty
 
     forth : (cells : List NumberedCell) → cells ≡ cells_of_all carries.entries → (v : VersionKey) (p : Payload) → get (put_numbered empty cells) v ≡ Some p
-        → (e : Entry) × Contains k.durable e × (e.region ≡ region) × (k.flushed region < e.number) × (e.number ≤ drawn) × Puts e v p
+        → (e : Entry) × Contains k.durable e × (e.region ≡ region) × (k.flushed region v.key.family < e.number) × (e.number ≤ drawn) × Puts e v p
     forth cells same v p has =
         let found = (cut_has carries.entries v p carries.apart).0 (sym (ap (λ (m : Content). get m v) (content cells same)) ∙ has) in
         let old = (carries.each found.0).0 found.1 in
-        (found.0, subst (λ (l : List Entry). Contains l found.0) all old.0, old.1, old.2, unflushed_bound k region flushed drawn chain is carries found.0 old.0 old.1 old.2, found.2)
+        (found.0, subst (λ (l : List Entry). Contains l found.0) all old.0, old.1, omega (arith, old.2, evenly v.key.family), unflushed_bound k region flushed drawn chain is carries found.0 old.0 old.1 old.2, found.2)
 
     back : (cells : List NumberedCell) → cells ≡ cells_of_all carries.entries → (v : VersionKey) (p : Payload)
-        → (e : Entry) × Contains k.durable e × (e.region ≡ region) × (k.flushed region < e.number) × (e.number ≤ drawn) × Puts e v p → get (put_numbered empty cells) v ≡ Some p
+        → (e : Entry) × Contains k.durable e × (e.region ≡ region) × (k.flushed region v.key.family < e.number) × (e.number ≤ drawn) × Puts e v p → get (put_numbered empty cells) v ≡ Some p
     back cells same v p found =
         ap (λ (m : Content). get m v) (content cells same)
-        ∙ (cut_has carries.entries v p carries.apart).1 (found.0, (carries.each found.0).1 (subst (λ (l : List Entry). Contains l found.0) (sym all) found.1, found.2, found.3), found.5)
+        ∙ (cut_has carries.entries v p carries.apart).1 (found.0, (carries.each found.0).1 (subst (λ (l : List Entry). Contains l found.0) (sym all) found.1, found.2, omega (arith, found.3, evenly v.key.family)), found.5)

@@ -19,6 +19,7 @@ counted_committed b h order counted = record {
   synced = λ r served. counted.drawn r served ∙ sym (lasts-append h.kept.first h.kept.durable h.kept.staged r);
   drawn = λ r served. counted.drawn r served ∙ sym (lasts-append h.kept.first h.kept.durable h.kept.staged r);
   flushed = counted.flushed;
+  evenly = counted.evenly;
   stored = counted.stored;
   newer = λ e has. counted.newer e (subst (λ (l : List Entry). Contains l e) current has);
   ours = λ e has. counted.ours e (elim has as (λ _. Contains (h.current ++ h.kept.staged) e ⊎ Contains h.kept.durable e) [
@@ -28,15 +29,16 @@ counted_committed b h order counted = record {
       | inr new ↦ inl (Contains-append_right h.current h.kept.staged e new)
     ])
   ]);
+  given = λ e has. counted.given e (subst (λ (l : List Entry). Contains l e) current has);
   current = λ r. subst (λ (l : List Entry). IsHighest r l (get_or b.accounts.current r 0)) (sym current) (counted.current r);
   logs = counted_logs b (record b { synced = b.drawn }) b.accounts.closed h.logs (λ r served. served) counted.logs;
   chains = λ r served. let carries = counted.chains r served in record {
     entries = carries.entries;
     held = carries.held;
     apart = carries.apart;
-    each = λ e. subst (λ (l : List Entry). Contains carries.entries e ↔ (Contains l e × (e.region ≡ r) × (h.kept.flushed r < e.number))) (sym (append-nil (h.kept.durable ++ h.kept.staged))) (carries.each e);
+    each = λ e. subst (λ (l : List Entry). Contains carries.entries e ↔ (Contains l e × (e.region ≡ r) × (h.kept.flushed r [] < e.number))) (sym (append-nil (h.kept.durable ++ h.kept.staged))) (carries.each e);
   };
-  orderly = orderly_committed h.kept counted.orderly;
+  orderly = orderly_committed h.kept counted.orderly (λ e has. counted.given e (Contains-append_right h.current h.kept.staged e has));
 }
   where
     current : (h.current ++ h.kept.staged) ++ [] ≡ h.current ++ h.kept.staged
@@ -51,12 +53,14 @@ counted_closed old new file h order s counted none = record {
   synced = λ r served. same_at old.synced new.synced r 0 s.synced ∙ counted.synced r (was r served);
   drawn = λ r served. same_at old.drawn new.drawn r 0 s.drawn ∙ counted.drawn r (was r served);
   flushed = λ r served. same_at old.accounts.flushed new.accounts.flushed r 0 s.flushed ∙ counted.flushed r (was r served);
+  evenly = counted.evenly;
   stored = λ r. omega (arith, same_at old.stored new.stored r 0 s.stored, counted.stored r);
   newer = λ e has. absurd (none_in e (subst (λ (l : List Entry). Contains l e) none has));
   ours = λ e has. is_served e.region (elim has as (λ _. IsServed old e.region) [
     | inl staged ↦ absurd (none_in e (subst (λ (l : List Entry). Contains l e) none staged))
     | inr durable ↦ counted.ours e (inr durable)
   ]);
+  given = λ e has. absurd (none_in e (subst (λ (l : List Entry). Contains l e) none has));
   current = λ r. subst (λ (l : List Entry). IsHighest r l (get_or new.accounts.current r 0)) (sym none) (subst (IsHighest r []) (sym (empty r)) (highest_none r));
   logs = subst (λ (cs : List ClosedFile). AreCounted new cs (h.logs ++ record { number = file; entries = h.current } ∷ [])) (sym s.files)
       (counted_more new old.accounts.closed h.logs (record { file = file; highest = old.accounts.current }) (record { number = file; entries = h.current })
@@ -79,6 +83,7 @@ counted_closed old new file h order s counted none = record {
       number = refl;
       highest = λ r. subst (λ (l : List Entry). IsHighest r l (get_or old.accounts.current r 0)) (written h none) (counted.current r);
       ours = λ e has. is_served e.region (counted.ours e (inl (Contains-append_left h.current h.kept.staged e has)));
+      given = λ e has. counted.given e (Contains-append_left h.current h.kept.staged e has);
     }
 
 pub counted_empty : (b : Books) (h : History) → IsCounted b h → h.kept.staged ≡ [] → h.current ≡ [] → IsCounted (record b { closed = b.synced }) h
@@ -86,9 +91,11 @@ counted_empty b h counted none empty = record {
   synced = counted.synced;
   drawn = counted.drawn;
   flushed = counted.flushed;
+  evenly = counted.evenly;
   stored = counted.stored;
   newer = λ e has. absurd (none_in e (subst (λ (l : List Entry). Contains l e) (written h none ∙ empty) has));
   ours = counted.ours;
+  given = counted.given;
   current = counted.current;
   logs = counted_logs b (record b { closed = b.synced }) b.accounts.closed h.logs (λ r served. served) counted.logs;
   chains = counted.chains;
@@ -101,9 +108,11 @@ counted_room b n h counted = record {
   synced = counted.synced;
   drawn = counted.drawn;
   flushed = counted.flushed;
+  evenly = counted.evenly;
   stored = counted.stored;
   newer = counted.newer;
   ours = counted.ours;
+  given = counted.given;
   current = counted.current;
   logs = counted_logs b (record b { accounts = record b.accounts { room = n } }) b.accounts.closed h.logs (λ r served. served) counted.logs;
   chains = counted.chains;

@@ -8,7 +8,7 @@ use Rattle.recovery.specs.Kept.{Kept, lasts, flushed_to}
 use Rattle.recovery.specs.Change.{last_of}
 use Rattle.recovery.proofs.Rising.{last_is}
 use Rattle.recovery.proofs.Likes.{orderly_flushed}
-use Rattle.recovery.proofs.Lists.{none_in}
+use Rattle.recovery.proofs.Lists.{none_in, flushed_here as is_here, flushed_there as is_there}
 use Rattle.seq_accounting.specs.Accounts.{ClosedFile, unflushed}
 use Rattle.log_trucks.specs.Held.{Held}
 use Rattle.log_ledger.specs.History.{ClosedLog, History, flushed_in, with_logs}
@@ -21,15 +21,15 @@ use Rattle.log_ledger.proofs.Steps.{FlushedBy, ForgottenBy}
 
 -- an entry of the region that isn't flushed has a truck, and so a sequence id up to the last one staged
 pub unflushed_bound : (k : Kept) (r flushed drawn : ℕ) (chain : List Held) → IsChain flushed drawn chain → CarriesUnflushed k r chain
-    → (e : Entry) → Contains (k.durable ++ k.staged) e → e.region ≡ r → k.flushed r < e.number → e.number ≤ drawn
+    → (e : Entry) → Contains (k.durable ++ k.staged) e → e.region ≡ r → k.flushed r [] < e.number → e.number ≤ drawn
 unflushed_bound k r flushed drawn chain is carries e has region above =
     let t = truck_of chain carries.entries carries.held e ((carries.each e).1 (has, region, above)) in
     omega (arith, (is.numbers t.0 t.1).1, t.2)
 
 -- where all is flushed, no entry is above the flushed sequence id
 pub none_unflushed : (b : Books) (h : History) (r : ℕ) → AreInOrder b → IsServed b r → IsCounted b h → get_or b.drawn r 0 ≤ get_or b.accounts.flushed r 0
-    → (e : Entry) → Contains (h.kept.durable ++ h.kept.staged) e → e.region ≡ r → e.number ≤ h.kept.flushed r
-none_unflushed b h r order served counted all e has region = elim (cases_lt (h.kept.flushed r) e.number) as (λ _. e.number ≤ h.kept.flushed r) [
+    → (e : Entry) → Contains (h.kept.durable ++ h.kept.staged) e → e.region ≡ r → e.number ≤ h.kept.flushed r []
+none_unflushed b h r order served counted all e has region = elim (cases_lt (h.kept.flushed r []) e.number) as (λ _. e.number ≤ h.kept.flushed r []) [
   | inl above ↦ omega (arith, unflushed_bound h.kept r (get_or b.accounts.flushed r 0) (get_or b.drawn r 0) (get_or b.chains r []) (order.regions r).chain (counted.chains r served) e has region above, all, counted.flushed r served)
   | inr low ↦ low
 ]
@@ -45,37 +45,37 @@ highest_kept b h r order served counted none some = elim (last_is r (h.kept.firs
     last : get_or b.drawn r 0 ≡ last_of r (h.kept.first r) h.kept.durable
     last = counted.drawn r served ∙ ap (λ (l : List Entry). lasts (lasts h.kept.first h.kept.durable) l r) none
 
-    above : h.kept.flushed r < get_or b.drawn r 0
+    above : h.kept.flushed r [] < get_or b.drawn r 0
     above = omega (arith, counted.flushed r served, some)
 
     bound : (e : Entry) → Contains h.kept.durable e → e.region ≡ r → e.number ≤ get_or b.drawn r 0
-    bound e has region = elim (cases_lt (h.kept.flushed r) e.number) as (λ _. e.number ≤ get_or b.drawn r 0) [
+    bound e has region = elim (cases_lt (h.kept.flushed r []) e.number) as (λ _. e.number ≤ get_or b.drawn r 0) [
       | inl over ↦ unflushed_bound h.kept r (get_or b.accounts.flushed r 0) (get_or b.drawn r 0) (get_or b.chains r []) (order.regions r).chain (counted.chains r served) e
           (Contains-append_left h.kept.durable h.kept.staged e has) region over
       | inr under ↦ omega (arith, under, above)
     ]
 
-flushed_here : (k : Kept) (r n q : ℕ) → q ≡ r → (flushed_to k r n).flushed q ≡ n
-flushed_here k r n q here = grind (arith, nat_tests)
+flushed_here : (k : Kept) (r n q : ℕ) (f : List ℕ) → q ≡ r → (flushed_to k r [] n).flushed q f ≡ n
+flushed_here k r n q f here = is_here k r [] n q f (sym here) (inl refl)
 
-flushed_there : (k : Kept) (r n q : ℕ) → (q ≡ r → ⊥) → (flushed_to k r n).flushed q ≡ k.flushed q
-flushed_there k r n q other = grind (arith, nat_tests)
+flushed_there : (k : Kept) (r n q : ℕ) (f : List ℕ) → (q ≡ r → ⊥) → (flushed_to k r [] n).flushed q f ≡ k.flushed q f
+flushed_there k r n q f other = is_there k r [] n q f (λ hit of. other (sym hit))
 
 -- the chain of a region that is flushed up to a sequence id that none of its entries is above
-carries_none : (k : Kept) (r n q : ℕ) → q ≡ r → ((e : Entry) → Contains (k.durable ++ k.staged) e → e.region ≡ r → e.number ≤ n) → CarriesUnflushed (flushed_to k r n) q []
+carries_none : (k : Kept) (r n q : ℕ) → q ≡ r → ((e : Entry) → Contains (k.durable ++ k.staged) e → e.region ≡ r → e.number ≤ n) → CarriesUnflushed (flushed_to k r [] n) q []
 carries_none k r n q here low = record {
   entries = [];
   held = tt;
   apart = tt;
-  each = λ e. ((λ has. absurd (none_in e has)), (λ is. absurd (omega (arith, low e is.0 (is.1 ∙ here), is.2, flushed_here k r n q here))));
+  each = λ e. ((λ has. absurd (none_in e has)), (λ is. absurd (omega (arith, low e is.0 (is.1 ∙ here), is.2, flushed_here k r n q [] here))));
 }
 
-carries_other : (k : Kept) (r n q : ℕ) (chain : List Held) → (q ≡ r → ⊥) → CarriesUnflushed k q chain → CarriesUnflushed (flushed_to k r n) q chain
+carries_other : (k : Kept) (r n q : ℕ) (chain : List Held) → (q ≡ r → ⊥) → CarriesUnflushed k q chain → CarriesUnflushed (flushed_to k r [] n) q chain
 carries_other k r n q chain other carries = record {
   entries = carries.entries;
   held = carries.held;
   apart = carries.apart;
-  each = λ e. subst (λ (m : ℕ). Contains carries.entries e ↔ (Contains (k.durable ++ k.staged) e × (e.region ≡ q) × (m < e.number))) (sym (flushed_there k r n q other)) (carries.each e);
+  each = λ e. subst (λ (m : ℕ). Contains carries.entries e ↔ (Contains (k.durable ++ k.staged) e × (e.region ≡ q) × (m < e.number))) (sym (flushed_there k r n q [] other)) (carries.each e);
 }
 
 pub counted_flushed : (old new : Books) (r : ℕ) (h : History) → AreInOrder old → FlushedBy old new r → IsServed old r → get_or old.accounts.flushed r 0 < get_or old.drawn r 0
@@ -83,23 +83,28 @@ pub counted_flushed : (old new : Books) (r : ℕ) (h : History) → AreInOrder o
 counted_flushed old new r h order s served some counted none = record {
   synced = λ q ours. same_at old.synced new.synced q 0 s.synced ∙ counted.synced q (was q ours);
   drawn = λ q ours. same_at old.drawn new.drawn q 0 s.drawn ∙ counted.drawn q (was q ours);
-  flushed = λ q ours. elim (cases_eq q r) as (λ _. get_or new.accounts.flushed q 0 ≡ (flushed_to h.kept r (get_or old.drawn r 0)).flushed q) [
-    | inl here ↦ set_here old.accounts.flushed new.accounts.flushed r (get_or old.drawn r 0) q 0 s.flushed flushed_place here ∙ sym (flushed_here h.kept r (get_or old.drawn r 0) q here)
-    | inr other ↦ set_there old.accounts.flushed new.accounts.flushed r (get_or old.drawn r 0) q 0 s.flushed other ∙ counted.flushed q (was q ours) ∙ sym (flushed_there h.kept r (get_or old.drawn r 0) q other)
+  flushed = λ q ours. elim (cases_eq q r) as (λ _. get_or new.accounts.flushed q 0 ≡ (flushed_to h.kept r [] (get_or old.drawn r 0)).flushed q []) [
+    | inl here ↦ set_here old.accounts.flushed new.accounts.flushed r (get_or old.drawn r 0) q 0 s.flushed flushed_place here ∙ sym (flushed_here h.kept r (get_or old.drawn r 0) q [] here)
+    | inr other ↦ set_there old.accounts.flushed new.accounts.flushed r (get_or old.drawn r 0) q 0 s.flushed other ∙ counted.flushed q (was q ours) ∙ sym (flushed_there h.kept r (get_or old.drawn r 0) q [] other)
   ];
-  stored = λ q. elim (cases_eq q r) as (λ _. get_or new.stored q 0 ≤ (flushed_to h.kept r (get_or old.drawn r 0)).flushed q) [
-    | inl here ↦ omega (arith, set_here old.stored new.stored r (get_or old.drawn r 0) q 0 s.stored stored_place here, flushed_here h.kept r (get_or old.drawn r 0) q here)
-    | inr other ↦ omega (arith, set_there old.stored new.stored r (get_or old.drawn r 0) q 0 s.stored other, counted.stored q, flushed_there h.kept r (get_or old.drawn r 0) q other)
+  evenly = λ q f. elim (cases_eq q r) as (λ _. (flushed_to h.kept r [] (get_or old.drawn r 0)).flushed q f ≡ (flushed_to h.kept r [] (get_or old.drawn r 0)).flushed q []) [
+    | inl here ↦ flushed_here h.kept r (get_or old.drawn r 0) q f here ∙ sym (flushed_here h.kept r (get_or old.drawn r 0) q [] here)
+    | inr other ↦ flushed_there h.kept r (get_or old.drawn r 0) q f other ∙ counted.evenly q f ∙ sym (flushed_there h.kept r (get_or old.drawn r 0) q [] other)
+  ];
+  stored = λ q. elim (cases_eq q r) as (λ _. get_or new.stored q 0 ≤ (flushed_to h.kept r [] (get_or old.drawn r 0)).flushed q []) [
+    | inl here ↦ omega (arith, set_here old.stored new.stored r (get_or old.drawn r 0) q 0 s.stored stored_place here, flushed_here h.kept r (get_or old.drawn r 0) q [] here)
+    | inr other ↦ omega (arith, set_there old.stored new.stored r (get_or old.drawn r 0) q 0 s.stored other, counted.stored q, flushed_there h.kept r (get_or old.drawn r 0) q [] other)
   ];
   newer = λ e has. omega (arith, same_at old.closed new.closed e.region 0 s.closed, counted.newer e has);
   ours = λ e has. is_served e.region (counted.ours e has);
+  given = counted.given;
   current = λ q. subst (IsHighest q (h.current ++ h.kept.staged)) (sym (same_at old.accounts.current new.accounts.current q 0 s.current)) (counted.current q);
   logs = subst (λ (cs : List ClosedFile). AreCounted new cs h.logs) (sym s.files) (counted_logs old new old.accounts.closed h.logs is_served counted.logs);
-  chains = λ q ours. elim (cases_eq q r) as (λ _. CarriesUnflushed (flushed_to h.kept r (get_or old.drawn r 0)) q (get_or new.chains q [])) [
-    | inl here ↦ subst (CarriesUnflushed (flushed_to h.kept r (get_or old.drawn r 0)) q) (sym (set_here old.chains new.chains r [] q [] s.chains chain_place here)) (carries_none h.kept r (get_or old.drawn r 0) q here low)
-    | inr other ↦ subst (CarriesUnflushed (flushed_to h.kept r (get_or old.drawn r 0)) q) (sym (set_there old.chains new.chains r [] q [] s.chains other)) (carries_other h.kept r (get_or old.drawn r 0) q (get_or old.chains q []) other (counted.chains q (was q ours)))
+  chains = λ q ours. elim (cases_eq q r) as (λ _. CarriesUnflushed (flushed_to h.kept r [] (get_or old.drawn r 0)) q (get_or new.chains q [])) [
+    | inl here ↦ subst (CarriesUnflushed (flushed_to h.kept r [] (get_or old.drawn r 0)) q) (sym (set_here old.chains new.chains r [] q [] s.chains chain_place here)) (carries_none h.kept r (get_or old.drawn r 0) q here low)
+    | inr other ↦ subst (CarriesUnflushed (flushed_to h.kept r [] (get_or old.drawn r 0)) q) (sym (set_there old.chains new.chains r [] q [] s.chains other)) (carries_other h.kept r (get_or old.drawn r 0) q (get_or old.chains q []) other (counted.chains q (was q ours)))
   ];
-  orderly = orderly_flushed h.kept r (get_or old.drawn r 0) counted.orderly (omega (arith, counted.flushed r served, some))
+  orderly = orderly_flushed h.kept r [] (get_or old.drawn r 0) counted.orderly (λ f of. omega (arith, counted.evenly r f, counted.flushed r served, some))
       (omega (arith, counted.drawn r served ∙ ap (λ (l : List Entry). lasts (lasts h.kept.first h.kept.durable) l r) none));
 }
   where
@@ -131,7 +136,7 @@ counted_flushed old new r h order s served some counted none = record {
     ]
 
     low : (e : Entry) → Contains (h.kept.durable ++ h.kept.staged) e → e.region ≡ r → e.number ≤ get_or old.drawn r 0
-    low e has region = elim (cases_lt (h.kept.flushed r) e.number) as (λ _. e.number ≤ get_or old.drawn r 0) [
+    low e has region = elim (cases_lt (h.kept.flushed r []) e.number) as (λ _. e.number ≤ get_or old.drawn r 0) [
       | inl above ↦ unflushed_bound h.kept r (get_or old.accounts.flushed r 0) (get_or old.drawn r 0) (get_or old.chains r []) (order.regions r).chain (counted.chains r served) e has region above
       | inr under ↦ omega (arith, under, counted.flushed r served, some)
     ]
@@ -142,12 +147,14 @@ counted_kept b r h order served counted = record {
   synced = counted.synced;
   drawn = counted.drawn;
   flushed = counted.flushed;
-  stored = λ q. elim (cases_eq q r) as (λ _. get_or (set b.stored r (get_or b.accounts.flushed r 0)) q 0 ≤ h.kept.flushed q) [
-    | inl here ↦ omega (arith, set_here b.stored (set b.stored r (get_or b.accounts.flushed r 0)) r (get_or b.accounts.flushed r 0) q 0 refl place here, counted.flushed r served, ap h.kept.flushed here)
+  evenly = counted.evenly;
+  stored = λ q. elim (cases_eq q r) as (λ _. get_or (set b.stored r (get_or b.accounts.flushed r 0)) q 0 ≤ h.kept.flushed q []) [
+    | inl here ↦ omega (arith, set_here b.stored (set b.stored r (get_or b.accounts.flushed r 0)) r (get_or b.accounts.flushed r 0) q 0 refl place here, counted.flushed r served, ap (λ (x : ℕ). h.kept.flushed x []) here)
     | inr other ↦ omega (arith, set_there b.stored (set b.stored r (get_or b.accounts.flushed r 0)) r (get_or b.accounts.flushed r 0) q 0 refl other, counted.stored q)
   ];
   newer = counted.newer;
   ours = counted.ours;
+  given = counted.given;
   current = counted.current;
   logs = counted_logs b (record b { stored = set b.stored r (get_or b.accounts.flushed r 0) }) b.accounts.closed h.logs (λ q ours. ours) counted.logs;
   chains = counted.chains;
@@ -167,9 +174,11 @@ counted_forgotten old new h order s counted = (
     synced = λ r served. same_at old.synced new.synced r 0 s.same.synced ∙ counted.synced r (was r served);
     drawn = λ r served. same_at old.drawn new.drawn r 0 s.same.drawn ∙ counted.drawn r (was r served);
     flushed = λ r served. same_at old.accounts.flushed new.accounts.flushed r 0 s.same.flushed ∙ counted.flushed r (was r served);
+    evenly = counted.evenly;
     stored = λ r. omega (arith, same_at old.stored new.stored r 0 s.same.stored, counted.stored r);
     newer = λ e has. omega (arith, same_at old.closed new.closed e.region 0 s.same.closed, counted.newer e has);
     ours = λ e has. is_served e.region (counted.ours e has);
+    given = counted.given;
     current = λ r. subst (IsHighest r (h.current ++ h.kept.staged)) (sym (same_at old.accounts.current new.accounts.current r 0 s.current)) (counted.current r);
     logs = subst (λ (cs : List ClosedFile). AreCounted new cs found.left) (sym s.files)
         (counted_logs old new (unflushed old.accounts.flushed old.accounts.closed) found.left is_served found.counted);
@@ -179,7 +188,7 @@ counted_forgotten old new h order s counted = (
 )
   where
     found : Sieved old h.kept.flushed old.accounts.closed h.logs
-    found = sieved old h.kept.flushed order.wide.next_store counted.flushed old.accounts.closed h.logs counted.logs
+    found = sieved old h.kept.flushed order.wide.next_store counted.flushed counted.evenly old.accounts.closed h.logs counted.logs
 
     was : (r : ℕ) → IsServed new r → IsServed old r
     was r served = omega (arith, served, same_at old.next_store new.next_store r 0 s.same.next_store)

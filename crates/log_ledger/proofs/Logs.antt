@@ -17,7 +17,7 @@ pub counted_logs : (a b : Books) (cs : List ClosedFile) (ls : List ClosedLog) �
 counted_logs a b [] [] served are = are
 counted_logs a b [] (l ∷ ls) served are = absurd are
 counted_logs a b (c ∷ cs) [] served are = absurd are
-counted_logs a b (c ∷ cs) (l ∷ ls) served are = (record { number = are.0.number; highest = are.0.highest; ours = λ e has. served e.region (are.0.ours e has) }, counted_logs a b cs ls served are.1)
+counted_logs a b (c ∷ cs) (l ∷ ls) served are = (record { number = are.0.number; highest = are.0.highest; ours = λ e has. served e.region (are.0.ours e has); given = are.0.given }, counted_logs a b cs ls served are.1)
 
 -- one more
 pub counted_more : (b : Books) (cs : List ClosedFile) (ls : List ClosedLog) (c : ClosedFile) (l : ClosedLog) → AreCounted b cs ls → IsCountedLog b c l → AreCounted b (cs ++ c ∷ []) (ls ++ l ∷ [])
@@ -53,25 +53,25 @@ file_of b (c ∷ cs) (k ∷ ls) are l h = elim (at_either k ls l h) [
 ]
 
 -- its numbers are at or below the flushed ones exactly if its entries are wholly flushed
-pub lower_flushed : (b : Books) (c : ClosedFile) (l : ClosedLog) (flushed : ℕ → ℕ) → IsCountedLog b c l → length b.next_store ≡ 65 → ((r : ℕ) → IsServed b r → get_or b.accounts.flushed r 0 ≡ flushed r)
-    → AreLower c.highest b.accounts.flushed → IsWhollyFlushed flushed l.entries
-lower_flushed b c l flushed is wide same lower e has =
+pub lower_flushed : (b : Books) (c : ClosedFile) (l : ClosedLog) (flushed : ℕ → List ℕ → ℕ) → IsCountedLog b c l → length b.next_store ≡ 65 → ((r : ℕ) → IsServed b r → get_or b.accounts.flushed r 0 ≡ flushed r [])
+    → ((r : ℕ) (f : List ℕ) → flushed r f ≡ flushed r []) → AreLower c.highest b.accounts.flushed → IsWhollyFlushed flushed l.entries
+lower_flushed b c l flushed is wide same evenly lower e f has of =
     let served = is.ours e has in
     let place = within b.next_store e.region served in
-    omega (arith, (is.highest e.region).bound e.number (e, has, refl, refl), lower e.region (omega (arith, place, wide)), same e.region served)
+    omega (arith, (is.highest e.region).bound e.number (e, has, refl, refl), lower e.region (omega (arith, place, wide)), same e.region served, evenly e.region f)
 
-pub flushed_lower : (b : Books) (c : ClosedFile) (l : ClosedLog) (flushed : ℕ → ℕ) → IsCountedLog b c l → ((r : ℕ) → IsServed b r → get_or b.accounts.flushed r 0 ≡ flushed r)
-    → IsWhollyFlushed flushed l.entries → AreLower c.highest b.accounts.flushed
-flushed_lower b c l flushed is same whole r region = highest_lower r (get_or c.highest r 0) (get_or b.accounts.flushed r 0) l.entries (is.highest r)
-    (λ e has of. let served : IsServed b r = subst (IsServed b) of (is.ours e has) in omega (arith, whole e has, ap flushed of, same r served))
+pub flushed_lower : (b : Books) (c : ClosedFile) (l : ClosedLog) (flushed : ℕ → List ℕ → ℕ) → IsCountedLog b c l → ((r : ℕ) → IsServed b r → get_or b.accounts.flushed r 0 ≡ flushed r [])
+    → ((r : ℕ) (f : List ℕ) → flushed r f ≡ flushed r []) → IsWhollyFlushed flushed l.entries → AreLower c.highest b.accounts.flushed
+flushed_lower b c l flushed is same evenly whole r region = highest_lower r (get_or c.highest r 0) (get_or b.accounts.flushed r 0) l.entries (is.highest r)
+    (λ e has of. let served : IsServed b r = subst (IsServed b) of (is.ours e has) in let f = is.given e has in omega (arith, whole e f.0 has f.1, evenly e.region f.0, ap (λ (q : ℕ). flushed q []) of, same r served))
 
 -- the logs of the files of which not all is flushed
-pub record Sieved (b : Books) (flushed : ℕ → ℕ) (cs : List ClosedFile) (ls : List ClosedLog) : Type 0 where
+pub record Sieved (b : Books) (flushed : ℕ → List ℕ → ℕ) (cs : List ClosedFile) (ls : List ClosedLog) : Type 0 where
   pub left : List ClosedLog
   pub counted : AreCounted b (unflushed b.accounts.flushed cs) left
   pub those : (l : ClosedLog) → Contains left l ↔ (Contains ls l × (IsWhollyFlushed flushed l.entries → ⊥))
 
-module _ (b : Books) (flushed : ℕ → ℕ) (wide : length b.next_store ≡ 65) (same : (r : ℕ) → IsServed b r → get_or b.accounts.flushed r 0 ≡ flushed r) where
+module _ (b : Books) (flushed : ℕ → List ℕ → ℕ) (wide : length b.next_store ≡ 65) (same : (r : ℕ) → IsServed b r → get_or b.accounts.flushed r 0 ≡ flushed r []) (evenly : (r : ℕ) (f : List ℕ) → flushed r f ≡ flushed r []) where
   none_left : Sieved b flushed [] []
   none_left = record { left = []; counted = tt; those = λ l. (λ has. absurd (none_at l has), λ has. absurd (none_at l has.0)) }
 
@@ -79,7 +79,7 @@ module _ (b : Books) (flushed : ℕ → ℕ) (wide : length b.next_store ≡ 65)
   one_more : (c : ClosedFile) (l : ClosedLog) (cs : List ClosedFile) (ls : List ClosedLog) → IsCountedLog b c l → Sieved b flushed cs ls
       → (t : Bool) → are_lower 65 c.highest b.accounts.flushed ≡ t → Sieved b flushed (c ∷ cs) (l ∷ ls)
   one_more c l cs ls is rest true lower =
-      let whole = lower_flushed b c l flushed is wide same (lower_of_test c.highest b.accounts.flushed lower) in record {
+      let whole = lower_flushed b c l flushed is wide same evenly (lower_of_test c.highest b.accounts.flushed lower) in record {
         left = rest.left;
         counted = subst (λ (t : Bool). AreCounted b (cond (not t) (c ∷ unflushed b.accounts.flushed cs) (unflushed b.accounts.flushed cs)) rest.left) (sym lower) rest.counted;
         those = λ k. (
@@ -91,7 +91,7 @@ module _ (b : Books) (flushed : ℕ → ℕ) (wide : length b.next_store ≡ 65)
         );
       }
   one_more c l cs ls is rest false lower =
-      let stays : IsWhollyFlushed flushed l.entries → ⊥ = λ whole. absurd (cc (sym lower ∙ test_of_lower c.highest b.accounts.flushed (flushed_lower b c l flushed is same whole))) in record {
+      let stays : IsWhollyFlushed flushed l.entries → ⊥ = λ whole. absurd (cc (sym lower ∙ test_of_lower c.highest b.accounts.flushed (flushed_lower b c l flushed is same evenly whole))) in record {
         left = l ∷ rest.left;
         counted = subst (λ (t : Bool). AreCounted b (cond (not t) (c ∷ unflushed b.accounts.flushed cs) (unflushed b.accounts.flushed cs)) (l ∷ rest.left)) (sym lower) (is, rest.counted);
         those = λ k. (
@@ -117,15 +117,15 @@ pub first_counted : (b : Books) (h : History) (above : ℕ) (o : Option ℕ) →
     → MatchOption o (NoneToGo b.accounts above) (λ file. IsFirstToGo b.accounts above file) → MatchOption o (NoneMayGoAbove h above) (GoesNext h above)
 first_counted b h above None wide counted none = λ l has later whole.
     let f = file_of b b.accounts.closed h.logs counted.logs l has in
-    none f.0 f.1 (omega (arith, later, f.2.number)) (flushed_lower b f.0 l h.kept.flushed f.2 counted.flushed whole)
+    none f.0 f.1 (omega (arith, later, f.2.number)) (flushed_lower b f.0 l h.kept.flushed f.2 counted.flushed counted.evenly whole)
 first_counted b h above (Some file) wide counted first =
     let l = log_of b b.accounts.closed h.logs counted.logs first.which first.there in record {
       log = l.0;
       member = l.1;
       number = sym l.2.number ∙ first.named;
-      flushed = lower_flushed b first.which l.0 h.kept.flushed l.2 wide counted.flushed first.lower;
+      flushed = lower_flushed b first.which l.0 h.kept.flushed l.2 wide counted.flushed counted.evenly first.lower;
       least = λ k has later whole.
           let f = file_of b b.accounts.closed h.logs counted.logs k has in
-          let low = first.least f.0 f.1 (omega (arith, later, f.2.number)) (flushed_lower b f.0 k h.kept.flushed f.2 counted.flushed whole) in
+          let low = first.least f.0 f.1 (omega (arith, later, f.2.number)) (flushed_lower b f.0 k h.kept.flushed f.2 counted.flushed counted.evenly whole) in
           omega (arith, low, f.2.number);
     }

@@ -6,7 +6,8 @@ use Rattle.log_model.specs.Entry.{Entry, IsEntry, entry_frame}
 use Rattle.recovery.specs.Kept.{Kept, lasts, with_staged}
 use Rattle.recovery.proofs.Rising.{lasts_here, lasts_other}
 use Rattle.recovery.proofs.Likes.{orderly_staged}
-use Rattle.recovery.proofs.Lists.{first_or_later, is_first, is_later}
+use Rattle.log_model.specs.Recovered.{HasFamily}
+use Rattle.recovery.proofs.Lists.{first_or_later, is_first, is_later, some_family}
 use Rattle.seq_accounting.specs.Accounts.{ClosedFile}
 use Rattle.log_trucks.specs.Held.{Held, Haul, held_of, IsHeld}
 use Rattle.log_ledger.specs.History.{History, staged_in}
@@ -27,7 +28,7 @@ was_or_is h e d has = Contains-push_cases (h.current ++ h.kept.staged) e d (subs
 
 -- a truck in front of a chain whose entries have lower sequence ids
 pub carries_more : (k : Kept) (e : Entry) (r : ℕ) (x : Held) (chain : List Held) → CarriesUnflushed k r chain → e.region ≡ r → IsHeld x e
-    → ((y : Held) → Contains chain y → y.number < e.number) → k.flushed r < e.number → CarriesUnflushed (with_staged k e) r (x ∷ chain)
+    → ((y : Held) → Contains chain y → y.number < e.number) → k.flushed r [] < e.number → CarriesUnflushed (with_staged k e) r (x ∷ chain)
 carries_more k e r x chain carries here held below above = record {
   entries = e ∷ carries.entries;
   held = (held, carries.held);
@@ -38,15 +39,15 @@ carries_more k e r x chain carries here held below above = record {
     all : (k.durable ++ k.staged) ++ e ∷ [] ≡ k.durable ++ (k.staged ++ e ∷ [])
     all = append_assoc k.durable k.staged (e ∷ [])
 
-    forth : (d : Entry) → Contains (e ∷ carries.entries) d → Contains (k.durable ++ (k.staged ++ e ∷ [])) d × (d.region ≡ r) × (k.flushed r < d.number)
-    forth d has = elim (first_or_later e carries.entries d has) as (λ _. Contains (k.durable ++ (k.staged ++ e ∷ [])) d × (d.region ≡ r) × (k.flushed r < d.number)) [
-      | inl is ↦ subst (λ (y : Entry). Contains (k.durable ++ (k.staged ++ e ∷ [])) y × (y.region ≡ r) × (k.flushed r < y.number)) is
+    forth : (d : Entry) → Contains (e ∷ carries.entries) d → Contains (k.durable ++ (k.staged ++ e ∷ [])) d × (d.region ≡ r) × (k.flushed r [] < d.number)
+    forth d has = elim (first_or_later e carries.entries d has) as (λ _. Contains (k.durable ++ (k.staged ++ e ∷ [])) d × (d.region ≡ r) × (k.flushed r [] < d.number)) [
+      | inl is ↦ subst (λ (y : Entry). Contains (k.durable ++ (k.staged ++ e ∷ [])) y × (y.region ≡ r) × (k.flushed r [] < y.number)) is
           (subst (λ (l : List Entry). Contains l e) all (Contains-push (k.durable ++ k.staged) e), here, above)
       | inr later ↦ (let old = (carries.each d).0 later in
           (subst (λ (l : List Entry). Contains l d) all (Contains-append_left (k.durable ++ k.staged) (e ∷ []) d old.0), old.1, old.2))
     ]
 
-    back : (d : Entry) → Contains (k.durable ++ (k.staged ++ e ∷ [])) d × (d.region ≡ r) × (k.flushed r < d.number) → Contains (e ∷ carries.entries) d
+    back : (d : Entry) → Contains (k.durable ++ (k.staged ++ e ∷ [])) d × (d.region ≡ r) × (k.flushed r [] < d.number) → Contains (e ∷ carries.entries) d
     back d is = elim (Contains-push_cases (k.durable ++ k.staged) e d (subst (λ (l : List Entry). Contains l d) (sym all) is.0)) as (λ _. Contains (e ∷ carries.entries) d) [
       | inl old ↦ is_later e carries.entries d ((carries.each d).1 (old, is.1, is.2))
       | inr new ↦ subst (λ (y : Entry). Contains (e ∷ carries.entries) y) new (is_first e carries.entries)
@@ -59,10 +60,10 @@ carries_on k e r chain carries other = record { entries = carries.entries; held 
     all : (k.durable ++ k.staged) ++ e ∷ [] ≡ k.durable ++ (k.staged ++ e ∷ [])
     all = append_assoc k.durable k.staged (e ∷ [])
 
-    forth : (d : Entry) → Contains carries.entries d → Contains (k.durable ++ (k.staged ++ e ∷ [])) d × (d.region ≡ r) × (k.flushed r < d.number)
+    forth : (d : Entry) → Contains carries.entries d → Contains (k.durable ++ (k.staged ++ e ∷ [])) d × (d.region ≡ r) × (k.flushed r [] < d.number)
     forth d has = let old = (carries.each d).0 has in (subst (λ (l : List Entry). Contains l d) all (Contains-append_left (k.durable ++ k.staged) (e ∷ []) d old.0), old.1, old.2)
 
-    back : (d : Entry) → Contains (k.durable ++ (k.staged ++ e ∷ [])) d × (d.region ≡ r) × (k.flushed r < d.number) → Contains carries.entries d
+    back : (d : Entry) → Contains (k.durable ++ (k.staged ++ e ∷ [])) d × (d.region ≡ r) × (k.flushed r [] < d.number) → Contains carries.entries d
     back d is = elim (Contains-push_cases (k.durable ++ k.staged) e d (subst (λ (l : List Entry). Contains l d) (sym all) is.0)) as (λ _. Contains carries.entries d) [
       | inl old ↦ (carries.each d).1 (old, is.1, is.2)
       | inr new ↦ absurd (other (ap (λ (y : Entry). y.region) new ∙ is.1))
@@ -79,6 +80,7 @@ counted_staged old new t h e order s ours above counted is bytes region number =
         ∙ sym (lasts_other (lasts h.kept.first h.kept.durable) h.kept.staged e r (λ same. other (sym same ∙ region)))
   ];
   flushed = λ r served. same_at old.accounts.flushed new.accounts.flushed r 0 s.flushed ∙ counted.flushed r (was r served);
+  evenly = counted.evenly;
   stored = λ r. omega (arith, same_at old.stored new.stored r 0 s.stored, counted.stored r);
   newer = λ d has. elim (was_or_is h e d has) as (λ _. get_or new.closed d.region 0 < d.number) [
     | inl before ↦ omega (arith, same_at old.closed new.closed d.region 0 s.closed, counted.newer d before)
@@ -91,6 +93,10 @@ counted_staged old new t h e order s ours above counted is bytes region number =
     ])
     | inr durable ↦ counted.ours d (inr durable)
   ]);
+  given = λ d has. elim (was_or_is h e d has) as (λ _. (f : List ℕ) × HasFamily d f) [
+    | inl before ↦ counted.given d before
+    | inr same ↦ subst (λ (y : Entry). (f : List ℕ) × HasFamily y f) same (some_family e is.batch.given)
+  ];
   current = λ r. subst (λ (l : List Entry). IsHighest r l (get_or new.accounts.current r 0)) (joined h e) (elim (cases_eq r t.region) as (λ _. IsHighest r ((h.current ++ h.kept.staged) ++ e ∷ []) (get_or new.accounts.current r 0)) [
     | inl here ↦ subst (IsHighest r ((h.current ++ h.kept.staged) ++ e ∷ [])) (number ∙ sym (set_here old.accounts.current new.accounts.current t.region t.number r 0 s.current current_place here))
         (highest_here r (get_or old.accounts.current r 0) (h.current ++ h.kept.staged) e (counted.current r) (region ∙ sym here) (below r here))

@@ -4,7 +4,7 @@ use Rattle.std.specs.FinMap.{get, empty}
 use Rattle.cell_model.specs.Order.{VersionKey, Payload, NumberedCell}
 use Rattle.cell_model.specs.Merge.{put_numbered}
 use Rattle.log_model.specs.Entry.{Entry}
-use Rattle.log_model.specs.Recovered.{IsGreatest, IsWhollyFlushed, Puts}
+use Rattle.log_model.specs.Recovered.{IsGreatest, HasFamily, IsWhollyFlushed, Puts}
 use Rattle.recovery.specs.Kept.{Kept, lasts, AreApart, IsOrderly}
 use Rattle.seq_accounting.specs.Accounts.{ClosedFile}
 use Rattle.log_trucks.specs.Held.{Held, AreHeld}
@@ -20,6 +20,7 @@ pub record IsCountedLog (b : Books) (c : ClosedFile) (l : ClosedLog) : Type 0 wh
   pub number : c.file ≡ l.number
   pub highest : (r : ℕ) → IsHighest r l.entries (get_or c.highest r 0)
   pub ours : (e : Entry) → Contains l.entries e → IsServed b e.region
+  pub given : (e : Entry) → Contains l.entries e → (f : List ℕ) × HasFamily e f
 
 -- the same of each closed file, in order
 abbrev pub AreCounted : Books → List ClosedFile → List ClosedLog → Type 0
@@ -33,17 +34,21 @@ pub record CarriesUnflushed (k : Kept) (r : ℕ) (chain : List Held) : Type 0 wh
   pub entries : List Entry
   pub held : AreHeld chain entries
   pub apart : AreApart entries
-  pub each : (e : Entry) → Contains entries e ↔ (Contains (k.durable ++ k.staged) e × (e.region ≡ r) × (k.flushed r < e.number))
+  pub each : (e : Entry) → Contains entries e ↔ (Contains (k.durable ++ k.staged) e × (e.region ≡ r) × (k.flushed r [] < e.number))
 
 -- the numbers are those of this history
 pub record IsCounted (b : Books) (h : History) : Type 0 where
   pub synced : (r : ℕ) → IsServed b r → get_or b.synced r 0 ≡ lasts h.kept.first h.kept.durable r
   pub drawn : (r : ℕ) → IsServed b r → get_or b.drawn r 0 ≡ lasts (lasts h.kept.first h.kept.durable) h.kept.staged r
-  pub flushed : (r : ℕ) → IsServed b r → get_or b.accounts.flushed r 0 ≡ h.kept.flushed r
-  pub stored : (r : ℕ) → get_or b.stored r 0 ≤ h.kept.flushed r
+  pub flushed : (r : ℕ) → IsServed b r → get_or b.accounts.flushed r 0 ≡ h.kept.flushed r []
+  -- no family is flushed alone
+  pub evenly : (r : ℕ) (f : List ℕ) → h.kept.flushed r f ≡ h.kept.flushed r []
+  pub stored : (r : ℕ) → get_or b.stored r 0 ≤ h.kept.flushed r []
   -- what stands in the current file is newer than the roll
   pub newer : (e : Entry) → Contains (h.current ++ h.kept.staged) e → get_or b.closed e.region 0 < e.number
   pub ours : (e : Entry) → Contains (h.current ++ h.kept.staged) e ⊎ Contains h.kept.durable e → IsServed b e.region
+  -- each entry there has a cell
+  pub given : (e : Entry) → Contains (h.current ++ h.kept.staged) e → (f : List ℕ) × HasFamily e f
   pub current : (r : ℕ) → IsHighest r (h.current ++ h.kept.staged) (get_or b.accounts.current r 0)
   pub logs : AreCounted b b.accounts.closed h.logs
   pub chains : (r : ℕ) → IsServed b r → CarriesUnflushed h.kept r (get_or b.chains r [])
@@ -71,7 +76,7 @@ LogsLeft h left = (c : ClosedLog) → Contains left c ↔ (Contains h.logs c × 
 
 -- cells put exactly what the region's unflushed entries put up to a sequence id
 abbrev pub PutsCut : Kept → ℕ → ℕ → List NumberedCell → Type 0
-PutsCut k r n cells = (v : VersionKey) (p : Payload) → (get (put_numbered empty cells) v ≡ Some p) ↔ ((e : Entry) × Contains k.durable e × (e.region ≡ r) × (k.flushed r < e.number) × (e.number ≤ n) × Puts e v p)
+PutsCut k r n cells = (v : VersionKey) (p : Payload) → (get (put_numbered empty cells) v ≡ Some p) ↔ ((e : Entry) × Contains k.durable e × (e.region ≡ r) × (k.flushed r v.key.family < e.number) × (e.number ≤ n) × Puts e v p)
 
 -- the region's last durable entry isn't flushed, and has this sequence id
 pub record IsHighestKept (k : Kept) (r n : ℕ) : Type 0 where
@@ -79,5 +84,5 @@ pub record IsHighestKept (k : Kept) (r n : ℕ) : Type 0 where
   pub member : Contains k.durable entry
   pub region : entry.region ≡ r
   pub number : entry.number ≡ n
-  pub above : k.flushed r < n
+  pub above : k.flushed r [] < n
   pub bound : (e : Entry) → Contains k.durable e → e.region ≡ r → e.number ≤ n

@@ -34,7 +34,7 @@ closed_in h number = record { kept = h.kept; logs = h.logs ++ record { number = 
 
 -- the same with one region flushed up to this sequence id
 abbrev pub flushed_in : History → ℕ → ℕ → History
-flushed_in h r n = record { kept = flushed_to h.kept r n; logs = h.logs; current = h.current }
+flushed_in h r n = record { kept = flushed_to h.kept r [] n; logs = h.logs; current = h.current }
 
 -- the same with these closed logs
 abbrev pub with_logs : History → List ClosedLog → History

@@ -19,7 +19,7 @@ impl Ledger {
         ensures order { AreInOrder self.now }
         ensures above { IsTrue result ↔ (get_or self.now.accounts.flushed region 0 < get_or self.now.drawn region 0) }
         ensures none { (h : History) → IsCounted self.now h → result ≡ false → (e : Entry) → Contains (h.kept.durable ++ h.kept.staged) e
-            → e.region ≡ region → e.number ≤ h.kept.flushed region }
+            → e.region ≡ region → e.number ≤ h.kept.flushed region [] }
         ensures highest { (h : History) → IsCounted self.now h → h.kept.staged ≡ [] → result ≡ true
             → IsHighestKept h.kept region (get_or self.now.drawn region 0) }
     {

@@ -1,6 +1,6 @@
 //! The ledger, and how it begins.
 
-ghost use Rattle.std.specs.Prelude.{◌≡◌, ◌↔◌, ◌+◌, ◌<◌, ◌≤◌, ◌^◌, ℕ, [], Contains, IfOk, get_or};
+ghost use Rattle.std.specs.Prelude.{◌≡◌, ◌↔◌, ◌+◌, ◌<◌, ◌≤◌, ◌^◌, ℕ, List, [], Contains, IfOk, get_or};
 ghost use Rattle.log_model.specs.Files.{Files};
 ghost use Rattle.log_model.specs.Recovered.{IsFlushed};
 ghost use Rattle.recovery.specs.Kept.{HasNoLogs};
@@ -44,7 +44,7 @@ impl Ledger {
     pub fn new(alloc: Global, regions: &[RegionBase]) -> Result<Ledger, NoMemory>
         requires { AreRegions regions.now }
         ensures counted { (F : Files) (flushed : ℕ → ℕ) → ((m : RegionBase) → Contains regions.now m → flushed m.region ≡ m.flushed)
-            → HasNoLogs F → ((r : ℕ) → IsFlushed F r (flushed r)) → IfOk result (λ l. IsCounted l (started_in F flushed)) }
+            → HasNoLogs F → ((r : ℕ) (f : List ℕ) → IsFlushed F r f (flushed r)) → IfOk result (λ l. IsCounted l (started_in F flushed)) }
         ensures served { IfOk result (λ l. (r : ℕ) → IsServed l r ↔ IsAmong regions.now r) }
         ensures drawn { IfOk result (λ l. AreNumbersOf (λ m. m.flushed) regions.now l.drawn) }
         ensures synced { IfOk result (λ l. l.synced ≡ l.drawn) }

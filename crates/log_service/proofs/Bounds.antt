@@ -22,7 +22,7 @@ entry_low J e h = go (with_version (file_key h.name) h.file.bytes h.entries h.fi
 pub last_low : (J : Files) (r n : ℕ) → IsLast J r n → n < 2 ^ 48
 last_low J r n last = elim last.reached as (λ _. n < 2 ^ 48) [
   | inl seen ↦ elim seen as (λ _. n < 2 ^ 48) [
-    | inl flushes ↦ subst (λ (m : ℕ). m < 2 ^ 48) flushes.3 flushes.2.text.store.limit
+    | inl flushes ↦ subst (λ (m : ℕ). m < 2 ^ 48) flushes.3 flushes.2.file.text.store.limit
     | inr logged ↦ subst (λ (m : ℕ). m < 2 ^ 48) logged.3 (entry_low J logged.0 logged.1)
   ]
   | inr none ↦ omega (arith, none)

@@ -72,10 +72,10 @@ module _ (found : Files) (first : List ℕ) (r : ℕ) (low : 0 < r) (high : r �
         let every : k ≡ length pushed = sym (held_length (of_held r popped) (entries_of r h.kept.durable) (held_region r popped h.kept.durable s.all)) ∙ held_length (of_held r popped) pushed all in
         let synced_is = s.whole.counted.synced r served in
         let stored_is = s.whole.counted.stored r in
-        let flushed_low = orderly.low r in
+        let flushed_low = orderly.low r [] in
         let left : (J : Files) → IsImageNow disk J → Leaves (books_of d).stored (books_of d).closed J [] J = λ J now.
         let shows = s.whole.keeps.images J now in
-        leaves (books_of d).stored (books_of d).closed h.kept s.whole.file.name h.current J [] J s.whole.keeps.kind s.whole.keeps.region shows s.whole.counted.stored
+        leaves (books_of d).stored (books_of d).closed h.kept s.whole.file.name h.current J [] J s.whole.keeps.kind s.whole.keeps.region shows (λ q f. omega (arith, s.whole.counted.stored q, s.whole.counted.evenly q f))
         (λ e member. s.whole.counted.newer e (Contains-append_left h.current h.kept.staged e member)) (some_alike h.kept J J shows.like shows.like orderly) in
         record {
           images = λ J now.
@@ -101,7 +101,7 @@ module _ (found : Files) (first : List ℕ) (r : ℕ) (low : 0 < r) (high : r �
         let count = counted h f.began was (drop (length h.kept.durable) front ++ drop f.taken popped) (subst (FollowFrom first) (sym was_all) follow) (held_take front h.kept.durable h.kept.staged f.all) in
         let synced_is = f.synced r low high in
         let stored_is = f.stored r in
-        let flushed_low = f.orderly.low r in
+        let flushed_low = f.orderly.low r [] in
         record {
           images = λ J now.
               let left = f.left J now in

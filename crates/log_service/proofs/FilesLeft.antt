@@ -8,11 +8,12 @@ use Rattle.std.proofs.lemmas.List.Elements.{Contains-append_left, Contains-appen
 use Rattle.log_model.specs.declared.name.Name.{Name}
 use Rattle.log_model.specs.declared.name.NameKind.TheVariants as kinds
 use Rattle.log_model.specs.Entry.{Entry}
-use Rattle.log_model.specs.Files.{Files, content, IsFit, IsSound, IsPresent, IsLogFile, IsLastLog}
-use Rattle.log_model.specs.Recovered.{IsRecovered, IsLast, IsFlushed, IsWhollyFlushed, RecoversAlike}
+use Rattle.log_model.specs.LogText.{IsEntryOf, in_version}
+use Rattle.log_model.specs.Files.{Files, content, key_of, IsFit, IsSound, IsPresent, IsLogFile, IsLastLog}
+use Rattle.log_model.specs.Recovered.{IsRecovered, IsLast, IsFlushed, HasFamily, IsWhollyFlushed, RecoversAlike}
 use Rattle.recovery.specs.Change.{RecoversWith, LastsWith, last_of}
 use Rattle.recovery.specs.Kept.{IsOrderly}
-use Rattle.recovery.proofs.Lists.{none_in, first_or_later, is_first, is_later}
+use Rattle.recovery.proofs.Lists.{none_in, first_or_later, is_first, is_later, entries_in, some_family}
 use Rattle.recovery.proofs.Logs.{one_list}
 use Rattle.recovery.proofs.Rising.{last_is, last_of-append}
 use Rattle.recovery.proofs.Numbers.{one_last}
@@ -52,16 +53,17 @@ alike_with found J more r last fit recovers lasts_too was none = record {
     still n = elim (last_is r n more) as (λ _. last_of r n more ≡ n) [ inl e ↦ absurd (none e.0 e.1 e.2) | inr same ↦ same ]
 
 -- one of these entries isn't flushed, where not all are
-unflushed : (flushed : ℕ → ℕ) (es : List Entry) → (IsWhollyFlushed flushed es → ⊥) → (e : Entry) × Contains es e × (flushed e.region < e.number)
-unflushed flushed [] some = absurd (some (λ e has. absurd (none_in e has)))
-unflushed flushed (x ∷ xs) some = elim (cases_lt (flushed x.region) x.number) as (λ _. (e : Entry) × Contains (x ∷ xs) e × (flushed e.region < e.number)) [
-  | inl above ↦ (x, is_first x xs, above)
+unflushed : (flushed : ℕ → List ℕ → ℕ) → ((r : ℕ) (f : List ℕ) → flushed r f ≡ flushed r []) → (es : List Entry) → ((e : Entry) → Contains es e → (f : List ℕ) × HasFamily e f) → (IsWhollyFlushed flushed es → ⊥)
+    → (e : Entry) × (f : List ℕ) × Contains es e × HasFamily e f × (flushed e.region f < e.number)
+unflushed flushed evenly [] given some = absurd (some (λ e f has of. absurd (none_in e has)))
+unflushed flushed evenly (x ∷ xs) given some = elim (cases_lt (flushed x.region []) x.number) as (λ _. (e : Entry) × (f : List ℕ) × Contains (x ∷ xs) e × HasFamily e f × (flushed e.region f < e.number)) [
+  | inl above ↦ (let f = given x (is_first x xs) in (x, f.0, is_first x xs, f.1, omega (arith, above, evenly x.region f.0)))
   | inr low ↦
-      let rest = unflushed flushed xs (λ all. some (λ e has. elim (first_or_later x xs e has) as (λ _. e.number ≤ flushed e.region) [
-        | inl is ↦ subst (λ (d : Entry). d.number ≤ flushed d.region) is (omega (arith, low))
-        | inr later ↦ all e later
+      let rest = unflushed flushed evenly xs (λ e has. given e (is_later x xs e has)) (λ all. some (λ e f has of. elim (first_or_later x xs e has) as (λ _. e.number ≤ flushed e.region f) [
+        | inl is ↦ subst (λ (d : Entry). d.number ≤ flushed d.region f) is (omega (arith, low, evenly x.region f))
+        | inr later ↦ all e f later of
       ])) in
-      (rest.0, is_later x xs rest.0 rest.1, rest.2)
+      (rest.0, rest.1, is_later x xs rest.0 rest.2, rest.3, rest.4)
 ]
 
 module _ {D : Type 0} (found : Files) (first : List ℕ) (few : length first ≤ 64) (d : Device D) (disk : DiskView) (popped : List Held) (h : History) (follow : FollowFrom first popped) where
@@ -73,12 +75,12 @@ module _ {D : Type 0} (found : Files) (first : List ℕ) (few : length first ≤
       let most = left_most (length first) (base_of first) in
       sound_by found J bears.next_store bears.last sound (omega (arith, bears.logs (2 ^ 61 + 1) up, many, most, few)) (λ r. omega (arith, bears.stores (2 ^ 61 + 1) up r, flushed_low r)) fit (bears.names J now)
     where
-      flushed_low : (r : ℕ) → h.kept.flushed r < 2 ^ 48
-      flushed_low r = elim (last_is r (h.kept.first r) h.kept.durable) as (λ _. h.kept.flushed r < 2 ^ 48) [
+      flushed_low : (r : ℕ) → h.kept.flushed r [] < 2 ^ 48
+      flushed_low r = elim (last_is r (h.kept.first r) h.kept.durable) as (λ _. h.kept.flushed r [] < 2 ^ 48) [
         | inl e ↦
             let low = held_entry (length first) (base_of first) front (h.kept.durable ++ h.kept.staged) e.0 f held (Contains-append_left h.kept.durable h.kept.staged e.0 e.1) in
-            omega (arith, orderly.low r, e.3, low.1)
-        | inr same ↦ omega (arith, orderly.low r, same, last_low h.kept.base r (h.kept.first r) (orderly.begun r))
+            omega (arith, orderly.low r [], e.3, low.1)
+        | inr same ↦ omega (arith, orderly.low r [], same, last_low h.kept.base r (h.kept.first r) (orderly.begun r))
       ]
 
   -- a region that no truck is of recovers alike
@@ -112,7 +114,7 @@ module _ {D : Type 0} (found : Files) (first : List ℕ) (few : length first ≤
         others = λ J r now over.
             (let like = (keeps.images J now).like in
             others_alike s.began orderly popped follow h.kept.durable s.all h.kept.durable (λ e has. has) J like.fit (like_recovers h.kept J like) (like_lasts h.kept J like orderly) r over);
-        archived = λ unbroken name entries file kind not_last. elim (keeps.there name kind (present name entries file)) as (λ _. (e : Entry) × Contains entries e × ((n : ℕ) → IsFlushed disk.files e.region n → n < e.number)) [
+        archived = λ unbroken name entries file kind not_last. elim (keeps.there name kind (present name entries file)) as (λ _. (e : Entry) × (f : List ℕ) × Contains entries e × HasFamily e f × ((n : ℕ) → IsFlushed disk.files e.region f n → n < e.number)) [
           | inl last ↦ absurd (not_last (last_one name kind (present name entries file) last))
           | inr c ↦ closed_one name entries file c.0 c.1 c.2
         ];
@@ -132,14 +134,14 @@ module _ {D : Type 0} (found : Files) (first : List ℕ) (few : length first ≤
       }
 
       closed_one : (name : Name) (entries : List Entry) → IsLogFile disk.files name entries → (c : ClosedLog) → Contains h.logs c → log_name c.number ≡ name
-          → (e : Entry) × Contains entries e × ((n : ℕ) → IsFlushed disk.files e.region n → n < e.number)
+          → (e : Entry) × (f : List ℕ) × Contains entries e × HasFamily e f × ((n : ℕ) → IsFlushed disk.files e.region f n → n < e.number)
       closed_one name entries file c has is =
           let closed = (s.whole.keeps.logs c has).0 in
           let text = ended_has (log_name c.number) c.entries (content disk.files (log_name c.number)) closed.each closed.file.reads in
           let same : c.entries ≡ entries = one_list disk.files (log_name c.number) c.entries entries (inl (Some (length c.entries), text)) (subst (λ (m : Name). IsLogFile disk.files m entries) (sym is) file) in
-          let e = unflushed h.kept.flushed c.entries (s.none_may_go c has) in
-          let flushed = (s.whole.keeps.images disk.files true_disk.reads).like.flushed e.0.region in
-          (e.0, subst (λ (l : List Entry). Contains l e.0) same e.1, λ n is_flushed. elim is_flushed.reached as (λ _. n < e.0.number) [ inl to ↦ omega (arith, flushed.bound n to, e.2) | inr none ↦ omega (arith, none, e.2) ])
+          let e = unflushed h.kept.flushed s.whole.counted.evenly c.entries (λ x member. some_family x (entries_in (IsEntryOf (in_version 2 (key_of (log_name c.number)))) c.entries x closed.each member).entry.batch.given) (s.none_may_go c has) in
+          let flushed = (s.whole.keeps.images disk.files true_disk.reads).like.flushed e.0.region e.1 in
+          (e.0, e.1, subst (λ (l : List Entry). Contains l e.0) same e.2, e.3, λ n is_flushed. elim is_flushed.reached as (λ _. n < e.0.number) [ inl to ↦ omega (arith, flushed.bound n to, e.4) | inr none ↦ omega (arith, none, e.4) ])
 
   pub fell_leaves : Fell found first d disk popped h → LeavesFiles found disk true (length first)
   fell_leaves f =

@@ -5,7 +5,7 @@ use Rattle.log_model.specs.declared.name.Name.{Name}
 use Rattle.log_model.specs.Entry.{Entry}
 use Rattle.log_model.specs.declared.name.NameKind.TheVariants as kinds
 use Rattle.log_model.specs.Files.{Files, IsLogFile, IsLastLog, IsFit, IsSound, IsPresent}
-use Rattle.log_model.specs.Recovered.{IsRecovered, IsStored, IsContent, IsLast, IsFlushed, RecoversAlike, put_entries}
+use Rattle.log_model.specs.Recovered.{IsRecovered, IsStored, IsContent, IsLast, IsFlushed, HasFamily, RecoversAlike, put_entries}
 use Rattle.disk_images.specs.Crash.{DiskView, IsImageNow, Since}
 use Rattle.append_ring.specs.Rules.{base_of}
 use Rattle.append_ring.specs.declared.pass.RingPass.{RingPass}
@@ -66,4 +66,4 @@ pub record LeavesFiles (found : Files) (disk : DiskView) (broken : Bool) (region
   pub others : (J : Files) (r : ℕ) → IsImageNow disk J → regions < r → RecoversAlike found J r
   pub archived : broken ≡ false → (name : Name) (entries : List Entry) → IsLogFile disk.files name entries → name.kind ≡ kinds.Log
       → (IsLastLog disk.files name → ⊥)
-      → (e : Entry) × Contains entries e × ((n : ℕ) → IsFlushed disk.files e.region n → n < e.number)
+      → (e : Entry) × (f : List ℕ) × Contains entries e × HasFamily e f × ((n : ℕ) → IsFlushed disk.files e.region f n → n < e.number)

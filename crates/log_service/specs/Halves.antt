@@ -35,7 +35,7 @@ pub record BearsFew (found : Files) (disk : DiskView) (h : History) : Type 0 whe
   pub last : ℕ
   pub names : (J : Files) → IsImageNow disk J → Bears found next_store last J
   pub logs : (n : ℕ) → AreNumbersUpTo n found → last ≤ n + 2 + length (h.kept.durable ++ h.kept.staged)
-  pub stores : (n : ℕ) → AreNumbersUpTo n found → (r : ℕ) → get_or next_store r 0 ≤ n + 1 + h.kept.flushed r
+  pub stores : (n : ℕ) → AreNumbersUpTo n found → (r : ℕ) → get_or next_store r 0 ≤ n + 1 + h.kept.flushed r []
 
 -- a device that isn't broken: all these are committed, and no closed log is wholly flushed
 pub record Stands {D : Type 0} (base : Files) (first : List ℕ) (d : Device D) (disk : DiskView) (popped : List Held) (h : History) : Type 0 where
@@ -56,7 +56,7 @@ pub record Fell {D : Type 0} (base : Files) (first : List ℕ) (d : Device D) (d
   pub within : taken ≤ length popped
   pub all : AreHeld (take taken popped) (h.kept.durable ++ h.kept.staged)
   pub synced : (r : ℕ) → 0 < r → r ≤ length first → get_or (books_of d).synced r 0 ≤ lasts h.kept.first h.kept.durable r
-  pub stored : (r : ℕ) → get_or (books_of d).stored r 0 ≤ h.kept.flushed r
+  pub stored : (r : ℕ) → get_or (books_of d).stored r 0 ≤ h.kept.flushed r []
   pub left : (J : Files) → IsImageNow disk J → Leaves (books_of d).stored (books_of d).closed files h.kept.staged J
   pub names : BearsFew base disk h
 

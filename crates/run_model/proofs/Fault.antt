@@ -10,9 +10,10 @@ use Rattle.cell_model.specs.Order.{cell_of, NumberedCell, VersionKey, Payload, v
 use Rattle.cell_model.specs.Lists.{IsPrefix}
 use Rattle.cell_model.proofs.OrderLaws.{put_in, entries-empty, entries-put_cells}
 use Rattle.log_model.specs.declared.name.Name.{Name}
+use Rattle.log_model.specs.StoreText.{Store}
 use Rattle.log_model.specs.Entry.{Entry}
 use Rattle.log_model.specs.Files.{Files, name_cmp, IsFit, IsSound, IsLogFile, IsLogged, IsLastLog}
-use Rattle.log_model.specs.Recovered.{IsRecovered, IsStored, IsContent, IsLast, FlushesTo, RecoversAlike}
+use Rattle.log_model.specs.Recovered.{IsRecovered, IsStored, IsContent, IsLast, IsCounting, IsSeen, RecoversAlike}
 use Rattle.region_model.specs.Journal.{Edit, Done, InCallOrder, visible, is_in_range}
 use Rattle.region_model.specs.Calls.{Call, Put, Scan, Raw, Roll, Answer, PutOk, Scanned, RollFault, Reply}
 use Rattle.region_model.specs.Crash.{Fits}
@@ -42,8 +43,8 @@ no_file name bytes there = let no : None ≡ Some bytes = sym (absent name) ∙ 
 nothing_logged : {X : Type 0} (e : Entry) → IsLogged none_found e → X
 nothing_logged e is = no_file is.name is.file.bytes is.file.there
 
-nothing_stored : {X : Type 0} (r n : ℕ) → FlushesTo none_found r n → X
-nothing_stored r n is = no_file is.0 is.2.bytes is.2.there
+nothing_stored : {X : Type 0} (r : ℕ) (name : Name) (s : Store) → IsCounting none_found r name s → X
+nothing_stored r name s is = no_file name is.file.bytes is.file.there
 
 fit : IsFit none_found
 fit = record {
@@ -61,14 +62,14 @@ sound = record {
 }
 
 nothing_recovered : {X : Type 0} (r : ℕ) (v : VersionKey) (p : Payload) → IsRecovered none_found r v p → X
-nothing_recovered r v p (inl stored) = no_file stored.name stored.file.bytes stored.file.there
+nothing_recovered r v p (inl stored) = nothing_stored r stored.name stored.store stored.file
 nothing_recovered r v p (inr unflushed) = nothing_logged unflushed.entry unflushed.logged
 
 last_is_0 : (r : ℕ) → IsLast none_found r 0
 last_is_0 r = record { reached = inr refl; bound = bound }
   where
-    bound : (m : ℕ) → FlushesTo none_found r m ⊎ ((e : Entry) × IsLogged none_found e × (e.region ≡ r) × (e.number ≡ m)) → m ≤ 0
-    bound m (inl flushed) = nothing_stored r m flushed
+    bound : (m : ℕ) → IsSeen none_found r m → m ≤ 0
+    bound m (inl stored) = nothing_stored r stored.0 stored.1 stored.2
     bound m (inr logged) = nothing_logged logged.0 logged.1
 
 is_nothing : (r : ℕ) → IsContent (IsRecovered none_found r) empty

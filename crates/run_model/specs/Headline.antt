@@ -7,7 +7,7 @@ use Rattle.log_model.specs.declared.name.Name.{Name}
 use Rattle.log_model.specs.declared.name.NameKind.TheVariants as kinds
 use Rattle.log_model.specs.Entry.{Entry}
 use Rattle.log_model.specs.Files.{Files, IsFit, IsLogFile, IsSound, IsPresent, IsLastLog}
-use Rattle.log_model.specs.Recovered.{IsRecovered, IsContent, IsLast, IsStored, IsFlushed, RecoversAlike}
+use Rattle.log_model.specs.Recovered.{IsRecovered, IsContent, IsLast, IsStored, IsFlushed, HasFamily, RecoversAlike}
 use Rattle.region_model.specs.Journal.{Base, Edit, IsJournal, last_of, is_completed, is_done}
 use Rattle.region_model.specs.Calls.{Put, Flush, Roll, Answer, PutOk, PutFault, Scanned, FlushOk, FlushNothing, FlushBusy, RollOk, RollNothing, PutMemory, ScanMemory, FlushMemory, RollMemory, Reply, is_get}
 use Rattle.region_model.specs.Lawful.{IsLawful, flushed_of}
@@ -83,7 +83,7 @@ pub record AreDone (left : DiskView) (status : ℕ) (replies : List Reply) : Typ
   pub rolls : AllPairs (λ put roll. (r n : ℕ) → IsRolledBehind r n put roll
       → (J : Files) (log : Name) (es : List Entry) (e : Entry) → IsImageNow left J → IsLastLog J log → IsLogFile J log es → Contains es e → e.region ≡ r → n < e.number) replies
   pub archived : status ≢ 5 → (log : Name) (es : List Entry) → log.kind ≡ kinds.Log → IsLogFile left.files log es → (IsLastLog left.files log → ⊥)
-      → (e : Entry) × Contains es e × ((n : ℕ) → IsFlushed left.files e.region n → n < e.number)
+      → (e : Entry) × (f : List ℕ) × Contains es e × HasFamily e f × ((n : ℕ) → IsFlushed left.files e.region f n → n < e.number)
 
 -- ---- which answers a report of this status has
 

@@ -6,7 +6,7 @@ use Rattle.log_model.specs.declared.name.Name.{Name}
 use Rattle.log_model.specs.declared.name.NameKind.TheVariants as kinds
 use Rattle.log_model.specs.Entry.{Entry}
 use Rattle.log_model.specs.Files.{Files, IsLogFile, IsSound, IsPresent, IsLastLog}
-use Rattle.log_model.specs.Recovered.{IsRecovered, IsStored, IsFlushed, RecoversAlike}
+use Rattle.log_model.specs.Recovered.{IsRecovered, IsStored, IsFlushed, HasFamily, RecoversAlike}
 use Rattle.region_model.specs.Journal.{Base, Edit, Caller, IsJournal, last_of}
 use Rattle.region_model.specs.Calls.{Flush, Reply}
 use Rattle.region_model.specs.Crash.{Fits}
@@ -58,7 +58,7 @@ pub record Leaves (found : Files) (disk : DiskView) (broken : Bool) (regions : �
   -- no log file but the last is wholly flushed
   pub archived : broken ≡ false → (name : Name) (entries : List Entry) → IsLogFile disk.files name entries → name.kind ≡ kinds.Log
       → (IsLastLog disk.files name → ⊥)
-      → (e : Entry) × Contains entries e × ((n : ℕ) → IsFlushed disk.files e.region n → n < e.number)
+      → (e : Entry) × (f : List ℕ) × Contains entries e × HasFamily e f × ((n : ℕ) → IsFlushed disk.files e.region f n → n < e.number)
 
 -- a handler's pass at the end, with its calls
 pub record Handled : Type 0 where

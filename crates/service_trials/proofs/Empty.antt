@@ -24,10 +24,10 @@ module _ (v : DiskView) (regions : List RegionBase) (empty : (m : Name) → IsAb
     agree = λ d e is other same number. absurd (no_file is.name is.file.bytes is.file.there);
   }
 
-  flushed : (r : ℕ) → IsFlushed v.files r 0
-  flushed r = record {
+  flushed : (r : ℕ) (f : List ℕ) → IsFlushed v.files r f 0
+  flushed r f = record {
     reached = inr refl;
-    bound = λ m is. absurd (no_file is.0 is.2.bytes is.2.there);
+    bound = λ m is. absurd (no_file is.0 is.2.file.bytes is.2.file.there);
   }
 
   pub opened_empty : IsOpened v regions (λ r. 0)

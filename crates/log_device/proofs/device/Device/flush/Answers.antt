@@ -1,4 +1,4 @@
-use Rattle.std.proofs.Common.{◌+◌, get_or, refl, sym, ◌∙◌, subst}
+use Rattle.std.proofs.Common.{[], ◌+◌, get_or, refl, sym, ◌∙◌, subst}
 use Rattle.chronicle_model.proofs.Grown.{prolonged, appends_and_stays}
 use Rattle.disk_images.specs.Crash.{Elapses}
 use Rattle.log_ledger.specs.History.{committed_in, flushed_in}
@@ -20,7 +20,7 @@ returns-in_err-commit_staged-clause-flushes g c told h whole =
       any_moment = (4, sync.any_moment);
       names = λ file is. (4, sync.names file is);
       flushed = none_of c.from_residual.result (λ n. IsHighestKept (committed_in h).kept c.args.region n × HasHistory g.D.Disk mid (flushed_in (committed_in h) c.args.region n)) failed.0;
-      store = none_of c.from_residual.result (λ n. HasStore (g.D.Disk.view mid.disk) c.args.region (get_or c.args.self.now.ledger.value.next_store c.args.region 0) (h.kept.flushed c.args.region + 1) n) failed.0;
+      store = none_of c.from_residual.result (λ n. HasStore (g.D.Disk.view mid.disk) c.args.region (get_or c.args.self.now.ledger.value.next_store c.args.region 0) (h.kept.flushed c.args.region [] + 1) n) failed.0;
       nothing = λ n is. absurd (not_nothing c.from_residual.result refusals.WriteFault (λ m is. absurd (cc is)) failed.1 n is);
       refused = on_any {P = (IsBroken mid → ⊥) → HasHistory g.D.Disk mid (committed_in h)} c.from_residual.result (λ unbroken. absurd (unbroken (c.in_err-commit_staged.ensures.breaks.broken.0 refl)));
       lower = sync.lower;

@@ -18,5 +18,5 @@ returns-clause-cut c h counted none =
     let b = c.args.self.now in
     let order = subst AreInOrder c.self.view_is c.self.invariant in
     cells_cut c.cells.result h.kept c.args.region (get_or b.accounts.flushed c.args.region 0) (get_or b.drawn c.args.region 0) (get_or b.chains c.args.region []) (order.regions c.args.region).chain
-    (counted.chains c.args.region c.requires) none
+    (counted.chains c.args.region c.requires) (counted.evenly c.args.region) none
     (subst (λ (b : Books). (es : List Entry) → AreHeld (get_or b.chains c.args.region []) es → IfOk c.cells.result (λ cells. cells ≡ cells_of_all es)) c.self.view_is c.cells.ensures)
