@@ -13,4 +13,7 @@ pub mod Disagreeing
 pub mod Sound
 pub mod Filters
 pub mod InRegion
+pub mod Counts
 pub mod Dealing
+pub mod Greatest
+pub mod Replaced

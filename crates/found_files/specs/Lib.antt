@@ -6,3 +6,5 @@ pub mod Checked
 pub mod Sorted
 pub mod OfRegion
 pub mod Dealt
+pub mod Counting
+pub mod Counted

@@ -1,13 +1,13 @@
 //! Entries dealt to their regions, which puts those of one log into order without a comparison.
 
-ghost use Rattle.std.specs.Prelude.{◌≡◌, ◌↔◌, ◌≤◌, ◌++◌, ◌∷◌, [], Contains, IfOk, OnOk, vec_len};
+ghost use Rattle.std.specs.Prelude.{◌≡◌, ◌↔◌, ◌≤◌, ◌++◌, ◌∷◌, [], length, Contains, IfOk, OnOk, vec_len};
 ghost use Rattle.std.specs.List.{flat_map};
 ghost use Rattle.found_files.specs.declared.found.FoundEntry.{FoundEntry as TheFound};
 ghost use Rattle.found_files.specs.Dealt.{entries_in, AddsTo, AreDealt, AreEmptyLists};
 
+use crate::entry_counts::{count_entries, region_of};
 use crate::found::FoundEntry;
 use kv_cell::NoMemory;
-use log_model::REGIONS;
 use std::alloc::Global;
 
 /// Some entries of one region, in the order in which they were found.
@@ -37,21 +37,21 @@ pub(crate) fn by_region(
 fn deal(alloc: Global, entries: Vec<FoundEntry>) -> Result<Vec<RegionEntries>, NoMemory>
     ensures { IfOk result (λ lists. AreDealt entries.items lists.items) }
 {
-    let mut lists = empty_lists(alloc)?;
+    let counts = count_entries(alloc, &entries)?;
+    let mut lists = empty_lists(alloc, &counts)?;
     for entry in entries {
         add_to(&mut lists, entry)?;
     }
     Ok(lists)
 }
 
-/// A list without entries for each region from 0 to 64.
-fn empty_lists(alloc: Global) -> Result<Vec<RegionEntries>, NoMemory>
-    ensures { IfOk result (λ lists. AreEmptyLists 65 lists.items) }
+/// A list without entries for each of these numbers, with room for so many.
+fn empty_lists(alloc: Global, counts: &[usize]) -> Result<Vec<RegionEntries>, NoMemory>
+    ensures { IfOk result (λ lists. AreEmptyLists (length counts.now) lists.items) }
 {
-    let count = REGIONS as usize + 1;
-    let mut lists = Vec::with_capacity(alloc, count)?;
-    for _ in 0..count {
-        let entries = Vec::new(alloc);
+    let mut lists = Vec::with_capacity(alloc, counts.len())?;
+    for count in counts {
+        let entries = Vec::with_capacity(alloc, *count)?;
         lists.push(RegionEntries { entries })?;
     }
     Ok(lists)
@@ -65,13 +65,6 @@ fn add_to(lists: &mut Vec<RegionEntries>, entry: FoundEntry) -> Result<(), NoMem
 {
     let region = region_of(&entry);
     add_entry(&mut lists[region], entry)
-}
-
-/// The region of an entry.
-fn region_of(x: &FoundEntry) -> usize
-    ensures { (result ≡ x.now.entry.region) × (result ≤ 64) }
-{
-    x.entry.region as usize
 }
 
 fn add_entry(list: &mut RegionEntries, entry: FoundEntry) -> Result<(), NoMemory>

@@ -6,6 +6,8 @@
 mod agreeing;
 mod by_region;
 mod checking;
+mod counting;
+mod entry_counts;
 mod finding;
 mod found;
 mod names;
@@ -13,6 +15,7 @@ mod one_region;
 mod reading;
 mod refusal;
 
+pub use counting::counting_stores;
 pub use finding::find_files;
 pub use found::{Finding, FoundEntry, FoundFiles, FoundStore, RegionFinding};
 pub use log_model::Damage;

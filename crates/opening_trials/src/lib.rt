@@ -3,6 +3,8 @@
 #![tactic(auto)]
 
 #[cfg(test)]
+mod families;
+#[cfg(test)]
 mod files;
 #[cfg(test)]
 mod many;

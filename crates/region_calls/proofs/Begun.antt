@@ -4,7 +4,7 @@ use Rattle.std.proofs.lemmas.Bool.{cases_lt}
 use Rattle.std.proofs.lemmas.Option.{slice_get_within}
 use Rattle.log_model.specs.Entry.{Entry}
 use Rattle.log_model.specs.Files.{Files, IsLogged}
-use Rattle.log_model.specs.Recovered.{IsGreatest, FlushesTo, IsFlushed, IsLast, IsRecovered}
+use Rattle.log_model.specs.Recovered.{IsGreatest, IsSeen, IsFlushed, IsLast, IsRecovered}
 use Rattle.recovery.specs.Alike.{AllAlike}
 use Rattle.recovery.specs.Change.{RecoversSome, PutBy}
 use Rattle.recovery.proofs.Turns.{in_turn}
@@ -37,23 +37,24 @@ pub same_greatest : (P : ℕ → Type 0) (a b : ℕ) → IsGreatest P a → IsGr
 same_greatest P a b x y = let low = greatest_below P a b x y in let high = greatest_below P b a y x in omega (arith, low, high)
 
 module _ (disk : DiskView) (F : Files) (xs : List Found) (ready : IsReady disk) (of : AreOf F disk.files 1 xs) (all : length xs ≡ 64) where
-  none_flushed : (r : ℕ) → ((1 ≤ r) × (r ≤ 64) → ⊥) → IsFlushed disk.files r 0
-  none_flushed r out = record {
+  none_flushed : (r : ℕ) (f : List ℕ) → ((1 ≤ r) × (r ≤ 64) → ⊥) → IsFlushed disk.files r f 0
+  none_flushed r f out = record {
     reached = inr refl;
-    bound = λ m f.
-        let range = ready.regions f.0 (λ none. absurd (cc (sym none ∙ f.2.there))) f.2.kind in
-        absurd (out (omega (arith, range.0, f.2.of), omega (arith, range.1, f.2.of)));
+    bound = λ m to.
+        let file = to.2.file in
+        let range = ready.regions to.0 (λ none. absurd (cc (sym none ∙ file.there))) file.kind in
+        absurd (out (omega (arith, range.0, file.of), omega (arith, range.1, file.of)));
   }
 
-  pub each_flushed : (r : ℕ) → IsFlushed disk.files r (flushed_in xs r)
-  each_flushed zero = none_flushed 0 (λ p. omega (arith, p.0))
-  each_flushed (suc k) = elim (cases_lt k 64) as (λ _. IsFlushed disk.files (suc k) (flushed_in xs (suc k))) [
+  pub each_flushed : (r : ℕ) (f : List ℕ) → IsFlushed disk.files r f (flushed_in xs r)
+  each_flushed zero f = none_flushed 0 f (λ p. omega (arith, p.0))
+  each_flushed (suc k) f = elim (cases_lt k 64) as (λ _. IsFlushed disk.files (suc k) f (flushed_in xs (suc k))) [
     | inl low ↦
         let x = some_at xs k (omega (arith, low, all)) in
         let is = of_at F disk.files 1 xs of k x.0 x.1 in
         let same : 1 + k ≡ suc k = omega arith in
-        subst (λ r. IsFlushed disk.files r (flushed_in xs (suc k))) same (subst (IsFlushed disk.files (1 + k)) (sym (flushed_at xs k x.0 x.1)) is.flushed)
-    | inr high ↦ subst (IsFlushed disk.files (suc k)) (sym (flushed_none xs k (omega (arith, high, all)))) (none_flushed (suc k) (λ p. omega (arith, p.1, high)))
+        subst (λ r. IsFlushed disk.files r f (flushed_in xs (suc k))) same (subst (IsFlushed disk.files (1 + k) f) (sym (flushed_at xs k x.0 x.1)) (is.flushed f))
+    | inr high ↦ subst (IsFlushed disk.files (suc k) f) (sym (flushed_none xs k (omega (arith, high, all)))) (none_flushed (suc k) f (λ p. omega (arith, p.1, high)))
   ]
 
   pub is_opened : (n : ℕ) → IsOpened disk (marks_from 1 (take n xs)) (flushed_in xs)
@@ -78,12 +79,12 @@ module _ (disk : DiskView) (F : Files) (xs : List Found) (ready : IsReady disk) 
   -- with no log the last sequence id is the flushed one
   each_last : (r : ℕ) → IsLast disk.files r (flushed_in xs r)
   each_last r = record {
-    reached = elim (each_flushed r).reached as (λ _. (FlushesTo disk.files r (flushed_in xs r) ⊎ ((e : Entry) × IsLogged disk.files e × (e.region ≡ r) × (e.number ≡ flushed_in xs r))) ⊎ (flushed_in xs r ≡ 0)) [
-      | inl f ↦ inl (inl f)
+    reached = elim (each_flushed r []).reached as (λ _. IsSeen disk.files r (flushed_in xs r) ⊎ (flushed_in xs r ≡ 0)) [
+      | inl f ↦ inl (inl (f.0, f.1, f.2, f.4))
       | inr e ↦ inr e
     ];
     bound = λ m seen. elim seen as (λ _. m ≤ flushed_in xs r) [
-      | inl f ↦ (each_flushed r).bound m f
+      | inl (name, s, counts, to) ↦ (each_flushed r s.family).bound m (name, s, counts, inr refl, to)
       | inr (e, logged, region, number) ↦ absurd (cc (sym (ready.no_logs logged.name logged.file.kind) ∙ logged.file.there))
     ];
   }

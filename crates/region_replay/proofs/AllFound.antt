@@ -7,6 +7,7 @@ use Rattle.log_model.specs.declared.name.Name.{Name}
 use Rattle.log_model.specs.declared.name.NameKind.TheVariants as kinds
 use Rattle.log_model.specs.Files.{Files, name_cmp, IsPresent}
 use Rattle.recovery.specs.Alike.{AllAlike}
+use Rattle.wal_split.specs.declared.flushed.RegionFlushed.{RegionFlushed}
 use Rattle.wal_split.specs.declared.job.EditsJob.{EditsJob}
 use Rattle.wal_split.specs.declared.split_files.SplitFiles.{SplitFiles}
 use Rattle.wal_split.specs.Left.{IsInRange, AreLeft}
@@ -28,6 +29,10 @@ AreFrom r xs = (k : ℕ) (d : RegionFiles) → k < length xs → (get_or xs k d)
 first_job : (xs : List EditsJob) → 0 < length xs → EditsJob
 first_job [] lt = absurd (omega (arith, lt))
 first_job (x ∷ xs) lt = x
+
+first_flushed : (xs : List RegionFlushed) → 0 < length xs → RegionFlushed
+first_flushed [] lt = absurd (omega (arith, lt))
+first_flushed (x ∷ xs) lt = x
 
 first_region : (xs : List RegionFiles) → 0 < length xs → RegionFiles
 first_region [] lt = absurd (omega (arith, lt))
@@ -60,8 +65,11 @@ module _ (told : Type 0) (x : SplitFiles) (range : IsInRange x) (xs : List Regio
   some_job : EditsJob
   some_job = (let long = range.long in first_job x.plan.jobs.items (omega (arith, long)))
 
+  some_flushed : RegionFlushed
+  some_flushed = (let long = range.flushed.long in first_flushed x.plan.flushed.items (omega (arith, long)))
+
   from_one : AreFrom 1 xs
-  from_one k d lt = (let long = dealt.long in let r = (dealt.each k d some_job (omega (arith, lt, long))).region in omega (arith, r))
+  from_one k d lt = (let long = dealt.long in let r = (dealt.each k d some_job some_flushed (omega (arith, lt, long))).region in omega (arith, r))
 
   pub are_apart : AreApart xs
   are_apart = apart_regions 1 xs from_one
@@ -74,14 +82,14 @@ module _ (told : Type 0) (x : SplitFiles) (range : IsInRange x) (xs : List Regio
       let long = dealt.long in
       let within = has.1 in
       let lt : has.0 < 64 = omega (arith, within, long) in
-      in_order told x range has.0 lt some_job y dealt.valid (subst (λ (z : RegionFiles). IsDealt (get_or x.plan.jobs.items has.0 some_job) (has.0 + 1) (get_or x.plan.flushed.items (has.0 + 1) 0) x.names x.stores.items x.plan.kept.items z) has.2 (dealt.each has.0 y some_job lt)) rise
+      in_order told x range has.0 lt some_job some_flushed y dealt.valid (subst (λ (z : RegionFiles). IsDealt (get_or x.plan.jobs.items has.0 some_job) (has.0 + 1) (get_or x.plan.flushed.items (has.0 + 1) some_flushed) x.names x.stores.items x.plan.kept.items z) has.2 (dealt.each has.0 y some_job some_flushed lt)) rise
 
   each_found : (files : Files) → AreLeft files x → (y : RegionFiles) → Contains xs y → IsFound files y
   each_found files left y has =
       let long = dealt.long in
       let within = has.1 in
       let lt : has.0 < 64 = omega (arith, within, long) in
-      is_found told x range has.0 lt some_job y dealt.valid (subst (λ (z : RegionFiles). IsDealt (get_or x.plan.jobs.items has.0 some_job) (has.0 + 1) (get_or x.plan.flushed.items (has.0 + 1) 0) x.names x.stores.items x.plan.kept.items z) has.2 (dealt.each has.0 y some_job lt)) files left
+      is_found told x range has.0 lt some_job some_flushed y dealt.valid (subst (λ (z : RegionFiles). IsDealt (get_or x.plan.jobs.items has.0 some_job) (has.0 + 1) (get_or x.plan.flushed.items (has.0 + 1) some_flushed) x.names x.stores.items x.plan.kept.items z) has.2 (dealt.each has.0 y some_job some_flushed lt)) files left
 
   -- an edits file that is there is of a region from 1 to 64
   edits_region : (files : Files) → AreLeft files x → (m : Name) → m.kind ≡ kinds.Edits → IsPresent files m → (1 ≤ m.region) × (m.region ≤ 64)
@@ -117,7 +125,7 @@ module _ (told : Type 0) (x : SplitFiles) (range : IsInRange x) (xs : List Regio
         let long = dealt.long in
         let within = has.1 in
         let lt : has.0 < 64 = omega (arith, within, long) in
-        let one = subst (λ (z : RegionFiles). IsDealt (get_or x.plan.jobs.items has.0 some_job) (has.0 + 1) (get_or x.plan.flushed.items (has.0 + 1) 0) x.names x.stores.items x.plan.kept.items z) has.2 (dealt.each has.0 y some_job lt) in
+        let one = subst (λ (z : RegionFiles). IsDealt (get_or x.plan.jobs.items has.0 some_job) (has.0 + 1) (get_or x.plan.flushed.items (has.0 + 1) some_flushed) x.names x.stores.items x.plan.kept.items z) has.2 (dealt.each has.0 y some_job some_flushed lt) in
         let number : m.number ≡ y.next_store = ap (λ (k : Name). k.number) is in
         elim one.next as (λ _. m.number ≤ n + 1) [
           | inl first ↦ omega (arith, number, first)

@@ -7,15 +7,15 @@ use Rattle.log_model.specs.declared.name.Name.{Name}
 use Rattle.log_model.specs.declared.name.NameKind.TheVariants as kinds
 use Rattle.log_model.specs.Entry.{Entry}
 use Rattle.log_model.specs.Files.{Files, content, IsAbsent}
-use Rattle.log_model.specs.Recovered.{FlushesTo}
 use Rattle.disk_images.specs.Crash.{DiskView, Throughout}
 use Rattle.disk_images.specs.Calls.{Removes}
 use Rattle.disk_images.proofs.Moments.{at_once, joined}
 use Rattle.recovery.specs.Change.{HasText}
-use Rattle.recovery.proofs.Stores.{flushes_kept}
+use Rattle.recovery.specs.Laws.{IsFlushedEntry}
 use Rattle.recovery.specs.Alike.{AllAlike}
 use Rattle.wal_split.specs.Held.{IsHeld}
 use Rattle.wal_split.proofs.Moving.{remove_moments, removed_held}
+use Rattle.wal_split.proofs.Above.{entry_kept}
 use Rattle.region_replay.specs.Cuts.{AreEdits, EditsFlushed}
 
 abbrev pub IsElse : List Name → Name → Type 0
@@ -56,10 +56,9 @@ module _ (told : Type 0) (first v w : DiskView) (names : List Name) (count : ℕ
   taken_in : (m : Name) → Contains (take count names) m → m.kind ≡ kinds.Edits
   taken_in m has = edits.kind m (subst (λ (l : List Name). Contains l m) (take-append-drop count names) (Contains-append_left (take count names) (drop count names) m has))
 
-  flushed_now : told → (es : List Entry) → ((e : Entry) → Contains es e → (n : ℕ) × FlushesTo first.files e.region n × (e.number ≤ n)) → (e : Entry) → Contains es e → (n : ℕ) × FlushesTo v.files e.region n × (e.number ≤ n)
+  flushed_now : told → (es : List Entry) → ((e : Entry) → Contains es e → IsFlushedEntry first.files e) → (e : Entry) → Contains es e → IsFlushedEntry v.files e
   flushed_now is_told es flushed e has =
-      let f = flushed e has in
-      (f.0, flushes_kept first.files v.files (λ m store. so_far.others is_told m (λ n in_it is. absurd (cc (sym store ∙ ap (λ (k : Name). k.kind) is ∙ taken_in n in_it)))) e.region f.0 f.1, f.2)
+      entry_kept first.files v.files (λ m store. so_far.others is_told m (λ n in_it is. absurd (cc (sym store ∙ ap (λ (k : Name). k.kind) is ∙ taken_in n in_it)))) e (flushed e has)
 
   module _ {T E : Type 0} {result : Result T E} (removes : told → Removes this result v w) where
     pub moments_on : told → (base : Files) → IsHeld base first → EditsFlushed first.files names → Throughout (AllAlike base) (count + 1) first w

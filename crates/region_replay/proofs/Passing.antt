@@ -1,5 +1,5 @@
 -- What the replay of one region leaves of the others.
-use Rattle.std.proofs.Common.{◌≡◌, ◌≢◌, ◌⊎◌, inl, inr, ℕ, ◌≤◌, List, Contains, Option, refl, sym, ap, ◌∙◌, subst, arith}
+use Rattle.std.proofs.Common.{◌≡◌, ◌≢◌, ◌⊎◌, inl, inr, ℕ, ◌≤◌, List, [], Contains, Option, refl, sym, ap, ◌∙◌, subst, arith}
 use Rattle.std.proofs.lemmas.Bool.{cases_eq}
 use Rattle.log_model.specs.declared.name.Name.{Name}
 use Rattle.log_model.specs.declared.name.NameKind.{NameKind}
@@ -7,16 +7,19 @@ use Rattle.log_model.specs.declared.name.NameKind.TheVariants as kinds
 use Rattle.log_model.specs.Entry.{Entry}
 use Rattle.log_model.specs.StoreText.{Store}
 use Rattle.log_model.specs.Files.{Files, content, IsAbsent, IsLogged, IsPresent, IsLogFile, IsStoreFile}
-use Rattle.log_model.specs.Recovered.{FlushesTo, IsFlushed}
+use Rattle.log_model.specs.Recovered.{IsGreatest, IsCounting, FlushesTo, IsFlushed}
 use Rattle.disk_images.proofs.Settled.{present_cases}
 use Rattle.recovery.proofs.Names.{name_cases}
 use Rattle.recovery.specs.Change.{HasText}
 use Rattle.recovery.specs.Alike.{AllAlike}
+use Rattle.found_files.proofs.Greatest.{greatest_same}
 use Rattle.found_files.proofs.InRegion.{entry_region}
+use Rattle.wal_split.specs.Flushed.{flushed_of}
+use Rattle.wal_split.specs.Unflushed.{IsUnflushedEntry}
 use Rattle.region_replay.specs.declared.found.RegionFiles.{RegionFiles}
 use Rattle.region_replay.specs.Names.{store_name, IsElsewhere}
 use Rattle.region_replay.specs.Ready.{Found, IsOf}
-use Rattle.region_replay.specs.Regions.{IsInOrder, IsFound}
+use Rattle.region_replay.specs.Regions.{Reaches, IsInOrder, IsFound}
 use Rattle.region_replay.proofs.Finding.{no_store, no_edits}
 
 -- the region's store and edits files are the same
@@ -29,14 +32,25 @@ back r I J same m kind region = sym (same m kind region)
 store_on : (r : ℕ) (I J : Files) → SameOf r I J → (name : Name) (s : Store) → IsStoreFile I r name s → IsStoreFile J r name s
 store_on r I J same name s f = record { kind = f.kind; of = f.of; bytes = f.bytes; there = same name (inl f.kind) f.of ∙ f.there; gate = f.gate; text = f.text }
 
-flushes_on : (r : ℕ) (I J : Files) → SameOf r I J → (n : ℕ) → FlushesTo I r n → FlushesTo J r n
-flushes_on r I J same n (name, s, f, to) = (name, s, store_on r I J same name s f, to)
+counts_on : (r : ℕ) (I J : Files) → SameOf r I J → (name : Name) (s : Store) → IsCounting I r name s → IsCounting J r name s
+counts_on r I J same name s c = record { file = store_on r I J same name s c.file; stands = λ other t file scope. c.stands other t (store_on r J I (back r I J same) other t file) scope }
 
-pub flushed_on : (r : ℕ) (I J : Files) → SameOf r I J → (n : ℕ) → IsFlushed I r n → IsFlushed J r n
-flushed_on r I J same n f = record {
-  reached = elim f.reached as (λ _. FlushesTo J r n ⊎ (n ≡ 0)) [ inl a ↦ inl (flushes_on r I J same n a) | inr zero ↦ inr zero ];
-  bound = λ m g. f.bound m (flushes_on r J I (back r I J same) m g);
+flushes_on : (r : ℕ) (I J : Files) → SameOf r I J → (f : List ℕ) (n : ℕ) → FlushesTo I r f n → FlushesTo J r f n
+flushes_on r I J same f n (name, s, c, is_for, to) = (name, s, counts_on r I J same name s c, is_for, to)
+
+pub flushed_on : (r : ℕ) (I J : Files) → SameOf r I J → (f : List ℕ) (n : ℕ) → IsFlushed I r f n → IsFlushed J r f n
+flushed_on r I J same f n is = record {
+  reached = elim is.reached as (λ _. FlushesTo J r f n ⊎ (n ≡ 0)) [ inl a ↦ inl (flushes_on r I J same f n a) | inr zero ↦ inr zero ];
+  bound = λ m g. is.bound m (flushes_on r J I (back r I J same) f m g);
 }
+
+reached_on : (r : ℕ) (I J : Files) → SameOf r I J → (n : ℕ) → IsGreatest (Reaches I r) n → IsGreatest (Reaches J r) n
+reached_on r I J same n is = greatest_same (Reaches I r) (Reaches J r) n is
+    (λ m h. (h.0, h.1, counts_on r I J same h.0 h.1 h.2, h.3)) (λ m h. (h.0, h.1, counts_on r J I (back r I J same) h.0 h.1 h.2, h.3))
+
+-- an entry of the region with a cell that isn't flushed
+unflushed_on : (r : ℕ) (I J : Files) → SameOf r I J → (e : Entry) → e.region ≡ r → IsUnflushedEntry I e → IsUnflushedEntry J e
+unflushed_on r I J same e region (f, has, above) = (f, has, λ n g. above n (subst (λ (q : ℕ). FlushesTo I q f n) (sym region) (flushes_on r J I (back r I J same) f n (subst (λ (q : ℕ). FlushesTo J q f n) region g))))
 
 pub no_log_edits : (files : Files) → ((m : Name) → m.kind ≡ kinds.Log → IsAbsent files m) → (m : Name) (l : List Entry) → IsLogFile files m l → m.kind ≡ kinds.Edits
 no_log_edits files none m l f = elim f.kind as (λ _. m.kind ≡ kinds.Edits) [ inl log ↦ absurd (cc (sym (none m log) ∙ f.there)) | inr edits ↦ edits ]
@@ -59,16 +73,16 @@ pub found_on : (I J : Files) (x : RegionFiles) → SameOf x.region I J → ((m :
 found_on I J x same none_i none_j given_i given_j {told} order f = record {
   stores = f.stores;
   are_stores = record {
-    each = λ y has. (let s = f.are_stores.each y has in (s.0, store_on x.region I J same s.0 y.1 s.1, s.2));
-    all = λ name s file. f.are_stores.all name s (store_on x.region J I (back x.region I J same) name s file);
+    each = λ y has. (let s = f.are_stores.each y has in (s.0, counts_on x.region I J same s.0 y.1 s.1, s.2));
+    all = λ name s counts. f.are_stores.all name s (counts_on x.region J I (back x.region I J same) name s counts);
     rising = f.are_stores.rising;
   };
   cells = f.cells;
   unflushed = record {
     each = λ e has. (
         let u = f.unflushed.each e has in
-        (logged_on I J x.region same none_i given_i e u.1 u.0, u.1, λ n g. u.2 n (flushes_on x.region J I (back x.region I J same) n g)));
-    all = λ e logged region above. f.unflushed.all e (logged_on J I x.region (back x.region I J same) none_j given_j e region logged) region (λ n g. above n (flushes_on x.region I J same n g));
+        (logged_on I J x.region same none_i given_i e u.1 u.0, u.1, unflushed_on x.region I J same e u.1 u.2));
+    all = λ e logged region unflushed. f.unflushed.all e (logged_on J I x.region (back x.region I J same) none_j given_j e region logged) region (unflushed_on x.region J I (back x.region I J same) e region unflushed);
     apart = f.unflushed.apart;
   };
   edited = λ e has. (
@@ -76,7 +90,9 @@ found_on I J x same none_i none_j given_i given_j {told} order f = record {
       let region = (f.unflushed.each e has).1 in
       let of : e.region ≡ d.name.region = entry_region I d.name d.entries e d.file d.member (given_i d.name d.kind (λ gone. absurd (cc (sym gone ∙ d.file.there)))) in
       record { name = d.name; entries = d.entries; file = record { kind = d.file.kind; bytes = d.file.bytes; there = same d.name (inr d.kind) (sym of ∙ region) ∙ d.file.there; ended = d.file.ended; text = d.file.text }; kind = d.kind; member = d.member });
-  flushed = flushed_on x.region I J same x.flushed f.flushed;
+  whole = flushed_on x.region I J same [] x.flushed.whole f.whole;
+  flushed = λ g. flushed_on x.region I J same g (flushed_of x.flushed g) (f.flushed g);
+  last = reached_on x.region I J same x.flushed.last f.last;
   next = λ m store region here. f.next m store region (λ gone. here (same m (inl store) region ∙ gone));
   few = λ n bound. f.few n (λ m store region here. bound m store region (λ gone. here (sym (same m (inl store) region) ∙ gone)));
   texts = λ m has. (
@@ -90,7 +106,7 @@ pub of_on : (old I J : Files) (r : ℕ) (y : Found) → SameOf r I J → IsOf ol
 of_on old I J r y same f = record {
   content = f.content;
   last = f.last;
-  flushed = flushed_on r I J same y.flushed f.flushed;
+  flushed = λ g. flushed_on r I J same g y.flushed (f.flushed g);
   next = λ m store region here. f.next m store region (λ gone. here (same m (inl store) region ∙ gone));
   few = λ n bound. f.few n (λ m store region here. bound m store region (λ gone. here (sym (same m (inl store) region) ∙ gone)));
 }

@@ -1,5 +1,5 @@
 -- What was read of one region alone is what stands in its files.
-use Rattle.std.proofs.Common.{◌≡◌, ◌≢◌, ◌⊎◌, inl, inr, ℕ, ◌+◌, ◌<◌, ◌≤◌, ◌^◌, List, map, get_or, Contains, Option, Some, refl, sym, ap, ◌∙◌, subst, arith}
+use Rattle.std.proofs.Common.{◌≡◌, ◌≢◌, inl, inr, ℕ, ◌+◌, ◌<◌, ◌≤◌, ◌^◌, List, [], map, get_or, Contains, Option, refl, sym, ap, ◌∙◌, subst, arith}
 use Rattle.std.specs.Prelude.{AllPairs}
 use Rattle.std.specs.List.{AllByRecursion}
 use Rattle.std.proofs.lemmas.Bool.{eq-eqb, eqb-true}
@@ -9,12 +9,11 @@ use Rattle.cell_model.specs.Order.{NumberedCell}
 use Rattle.log_model.specs.declared.name.Name.{Name}
 use Rattle.log_model.specs.declared.name.NameKind.TheVariants as kinds
 use Rattle.log_model.specs.Entry.{Entry}
-use Rattle.log_model.specs.StoreText.{Store, IsStoreText}
-use Rattle.log_model.specs.Files.{Files, content, HoldsEntries, IsAbsent, IsPresent, IsLogged, IsStoreFile, Reads}
-use Rattle.log_model.specs.Recovered.{FlushesTo, IsFlushed, IsGreatest, is_of, entries_of}
+use Rattle.log_model.specs.StoreText.{Store}
+use Rattle.log_model.specs.Files.{Files, content, HoldsEntries, IsAbsent, IsPresent, IsLogged, Reads}
+use Rattle.log_model.specs.Recovered.{FlushesTo, IsCounting, IsFlushed, IsGreatest, is_of, entries_of}
 use Rattle.disk_images.proofs.Settled.{present_cases}
 use Rattle.recovery.proofs.Numbers.{logged_given}
-use Rattle.recovery.proofs.OneStore.{one_store}
 use Rattle.recovery.specs.Change.{HasText}
 use Rattle.recovery.specs.Kept.{AreApart}
 use Rattle.found_files.specs.declared.found.FoundEntry.{FoundEntry}
@@ -23,51 +22,68 @@ use Rattle.found_files.specs.Found.{AreContents, store_of, place_in}
 use Rattle.found_files.specs.OfRegion.{IsOfRegion, IsEditsOf, AreNamesOf}
 use Rattle.found_files.proofs.Files.{one_list}
 use Rattle.found_files.proofs.InRegion.{entry_region}
-use Rattle.wal_split.specs.Flushed.{GoesTo}
-use Rattle.wal_split.specs.Unflushed.{IsAbove, IsBefore, flushed_of}
+use Rattle.found_files.specs.Counting.{AreCountingOf}
+use Rattle.found_files.proofs.Greatest.{greatest_same}
+use Rattle.found_files.proofs.Replaced.{counting_of}
+use Rattle.wal_split.specs.declared.flushed.RegionFlushed.{RegionFlushed}
+use Rattle.wal_split.specs.Flushed as by_stores
+use Rattle.wal_split.specs.Flushed.{GoesTo, IsFlushedBy, flushed_of, flushed_at}
+use Rattle.wal_split.specs.Unflushed.{IsAbove, IsAboveBy, IsBefore, IsUnflushedEntry}
+use Rattle.wal_split.proofs.Above.{at_region, unflushed_above, goes_flushes, flushes_goes}
 use Rattle.region_replay.specs.declared.found.RegionFiles.{RegionFiles}
 use Rattle.region_replay.specs.Alone.{IsRegionOf}
 use Rattle.region_replay.specs.Bases.{Numbered, AreStores, AreUnflushed}
 use Rattle.region_replay.specs.Dealt.{is_edits}
 use Rattle.region_replay.specs.Names.{store_name}
-use Rattle.region_replay.specs.Regions.{IsInOrder, IsEdited, IsFound}
+use Rattle.region_replay.specs.Regions.{Reaches, IsInOrder, IsEdited, IsFound}
 use Rattle.found_files.proofs.Filters.{in_filter, to_filter}
 use Rattle.region_replay.proofs.Lists.{in_map, to_map, apart_of, apart_from}
 use Rattle.region_replay.proofs.Passing.{no_log_edits}
 use Rattle.region_replay.proofs.RegionsInOrder.{numbered, rising_of, cells_same, stored_low, edits_kind, apart_names}
 
-same_bytes : (a b : List ℕ) → Some a ≡ Some b → a ≡ b
-same_bytes a b e = cc e
-
 edits_only : (r : ℕ) (m : Name) → IsOfRegion r m → HoldsEntries m.kind → m.kind ≡ kinds.Edits
 edits_only r m of (inr edits) = edits
 edits_only r m of (inl log) = elim of.1 as (λ _. m.kind ≡ kinds.Edits) [ inl store ↦ absurd (cc (sym store ∙ log)) | inr edits ↦ edits ]
 
-module _ (told : Type 0) (files : Files) (r : ℕ) (given : 1 ≤ r) (low : r ≤ 64) (names : List Name) (es : List FoundEntry) (ss : List FoundStore)
-    (are : AreNamesOf told files r names) (read : AreContents told files names es ss) (x : RegionFiles) (of : IsRegionOf r names es ss x) where
+module _ (told : Type 0) (files : Files) (r : ℕ) (given : 1 ≤ r) (low : r ≤ 64) (names : List Name) (es : List FoundEntry) (every : List FoundStore)
+    (are : AreNamesOf told files r names) (read : AreContents told files names es every) (x : RegionFiles) (of : IsRegionOf r names es every x) where
+  abbrev ss : List FoundStore
+  ss = of.ss
+
   store_region : (y : FoundStore) → Contains ss y → (y.name.kind ≡ kinds.Store) × (y.name.region ≡ r)
   store_region y has =
-      let e = (read.each y has).1 in
+      let e = (read.each y (of.counting.each y has).0).1 in
       (ap (λ (m : Name). m.kind) e.2 ∙ e.3, ap (λ (m : Name). m.region) e.2 ∙ (are.each e.0 e.1).0)
 
-  greatest : IsGreatest (GoesTo ss r) x.flushed
-  greatest = subst (λ (n : ℕ). IsGreatest (GoesTo ss r) n) (sym of.upto) (of.are_flushed.each r (omega (arith, low)))
+  -- what is flushed of it is so by the stores that count
+  flushed_by : IsFlushedBy ss r x.flushed
+  flushed_by = subst (λ (z : RegionFlushed). IsFlushedBy ss r z) (sym (of.upto x.flushed)) (of.are_flushed.each r x.flushed (omega (arith, low)))
 
-  flushed_low : x.flushed < 2 ^ 48
-  flushed_low = elim greatest.reached as (λ _. x.flushed < 2 ^ 48) [
-    | inl (s, has, region, to) ↦ (let limit = (read.each s has).0.limit in omega (arith, to, limit))
+  flushed_low : x.flushed.last < 2 ^ 48
+  flushed_low = elim flushed_by.last.reached as (λ _. x.flushed.last < 2 ^ 48) [
+    | inl (s, has, region, to) ↦ (let limit = (read.each s (of.counting.each s has).0).0.limit in omega (arith, to, limit))
+    | inr none ↦ omega (arith, none)
+  ]
+
+  whole_low : x.flushed.whole ≤ x.flushed.last
+  whole_low = elim flushed_by.whole.reached as (λ _. x.flushed.whole ≤ x.flushed.last) [
+    | inl (s, has, region, is_for, to) ↦ flushed_by.last.bound x.flushed.whole (s, has, region, to)
     | inr none ↦ omega (arith, none)
   ]
 
   kept_of : (e : Entry) → Contains x.unflushed.items e → Contains of.kept e × (e.region ≡ r)
   kept_of e has = (let f = in_filter (is_of r) of.kept e (subst (λ (l : List Entry). Contains l e) of.unflushed has) in (f.0, eqb-true e.region r f.1))
 
-  above_of : (e : Entry) → Contains x.unflushed.items e → x.flushed < e.number
+  -- what is flushed of the families of the region's entries
+  own_flushed : (f : List ℕ) → flushed_at of.flushed r f ≡ flushed_of x.flushed f
+  own_flushed f = at_region of.flushed r x.flushed f (omega (arith, low, of.are_flushed.long)) ∙ ap (λ (z : RegionFlushed). flushed_of z f) (sym (of.upto x.flushed))
+
+  above_of : (e : Entry) → Contains x.unflushed.items e → IsAboveBy (flushed_of x.flushed) e
   above_of e has =
       let k = kept_of e has in
       let f = of.parts.from_edits e k.0 in
-      let a : flushed_of of.flushed r < e.number = subst (λ (q : ℕ). flushed_of of.flushed q < e.number) k.1 f.4 in
-      subst (λ (n : ℕ). n < e.number) (sym of.upto) a
+      let a : IsAboveBy (flushed_at of.flushed r) e = subst (λ (q : ℕ). IsAboveBy (flushed_at of.flushed q) e) k.1 f.4 in
+      (a.0, a.1, subst (λ (n : ℕ). n < e.number) (own_flushed a.0) a.2)
 
   edits_of_it : (m : Name) → Contains x.edits.items m → Contains names m × (m.kind ≡ kinds.Edits) × (m.region ≡ r)
   edits_of_it m has =
@@ -81,10 +97,11 @@ module _ (told : Type 0) (files : Files) (r : ℕ) (given : 1 ≤ r) (low : r �
   in_order = record {
     given = (let region = of.region in omega (arith, given, region));
     region = (let region = of.region in omega (arith, low, region));
-    above = above_of;
+    above = λ e has. (let a = above_of e has in omega (arith, a.2));
     low = λ e has. (of.valid e has).number;
-    flushed = flushed_low;
-    stored = subst (λ (l : List NumberedCell). AllByRecursion (λ c. c.0 ≤ x.flushed) l) (sym of.stored) (stored_low x.flushed ss (λ s has. ((read.each s has).0, greatest.bound s.text.to (s, has, (store_region s has).1, refl))));
+    whole = whole_low;
+    last = flushed_low;
+    stored = subst (λ (l : List NumberedCell). AllByRecursion (λ c. c.0 ≤ x.flushed.last) l) (sym of.stored) (stored_low x.flushed.last ss (λ s has. ((read.each s (of.counting.each s has).0).0, flushed_by.last.bound s.text.to (s, has, (store_region s has).1, refl))));
     next_given = elim of.next.one as (λ _. 1 ≤ x.next_store) [ inl is ↦ omega (arith, is) | inr (m, has, store, is) ↦ omega (arith, is) ];
     next = of.next.low;
     edits = record {
@@ -121,42 +138,29 @@ module _ (told : Type 0) (files : Files) (r : ℕ) (given : 1 ≤ r) (low : r �
     ]
 
     module _ (no_logs : (m : Name) → m.kind ≡ kinds.Log → IsAbsent files m) (regions : (m : Name) → m.kind ≡ kinds.Edits → IsPresent files m → 1 ≤ m.region) where
-      goes_to : (n : ℕ) → FlushesTo files r n → GoesTo ss r n
-      goes_to n (name, s, file, to) =
-          let f : IsStoreFile files name.region name s = subst (λ (i : ℕ). IsStoreFile files i name s) (sym file.of) file in
-          let q = found_store name s f file.of in
-          (q.0, q.1, ap (λ (m : Name). m.region) q.2 ∙ file.of, ap (λ (t : Store). t.to) (sym q.3) ∙ to)
-        where
-          found_store : (m : Name) (s : Store) → IsStoreFile files m.region m s → m.region ≡ r → (y : FoundStore) × Contains ss y × (y.name ≡ m) × (s ≡ store_of y)
-          found_store m s f region =
-              let q = read.stores is_told m f.bytes (are.all is_told m (region, inl f.kind) (λ gone. absurd (cc (sym gone ∙ f.there)))) f.kind f.there f.gate in
-              (q.0, q.1, q.2, one_store m.region f.bytes s (store_of q.0) f.text (subst (λ (b : List ℕ). IsStoreText m.region b (store_of q.0)) (same_bytes q.3.bytes f.bytes (sym q.3.there ∙ f.there)) q.3.text))
+      -- the stores that count in the files are these
+      counting_now : AreCountingOf files r ss
+      counting_now = counting_of told is_told files names es every ss read of.counting r (λ m store region here. are.all is_told m (region, inl store) here)
 
-      all_stores : (m : Name) (s : Store) → IsStoreFile files r m s → Contains (map numbered ss) (m.number, s)
-      all_stores m s file =
-          let f : IsStoreFile files m.region m s = subst (λ (i : ℕ). IsStoreFile files i m s) (sym file.of) file in
-          let q = read.stores is_told m f.bytes (are.all is_told m (file.of, inl f.kind) (λ gone. absurd (cc (sym gone ∙ f.there)))) f.kind f.there f.gate in
-          let is : s ≡ store_of q.0 = one_store m.region f.bytes s (store_of q.0) f.text (subst (λ (b : List ℕ). IsStoreText m.region b (store_of q.0)) (same_bytes q.3.bytes f.bytes (sym q.3.there ∙ f.there)) q.3.text) in
-          subst (λ (t : Store). Contains (map numbered ss) (m.number, t)) (sym is)
-          (subst (λ (n : Name). Contains (map numbered ss) (n.number, store_of q.0)) q.2 (to_map numbered ss q.0 q.1))
+      flushed_is : (f : List ℕ) (n : ℕ) → IsGreatest (GoesTo ss r f) n → IsFlushed files r f n
+      flushed_is f n is = greatest_same (GoesTo ss r f) (FlushesTo files r f) n is (goes_flushes files r ss counting_now f) (flushes_goes files r ss counting_now f)
 
-      flushes_to : (n : ℕ) → GoesTo ss r n → FlushesTo files r n
-      flushes_to n (s, has, region, to) = (s.name, store_of s, subst (λ (i : ℕ). IsStoreFile files i s.name (store_of s)) region (read.from_stores is_told s has), to)
-
-      flushed_is : IsFlushed files r x.flushed
-      flushed_is = record {
-        reached = elim greatest.reached as (λ _. FlushesTo files r x.flushed ⊎ (x.flushed ≡ 0)) [ inl goes ↦ inl (flushes_to x.flushed goes) | inr none ↦ inr none ];
-        bound = λ n f. greatest.bound n (goes_to n f);
-      }
+      last_is : IsGreatest (Reaches files r) x.flushed.last
+      last_is = greatest_same (by_stores.Reaches ss r) (Reaches files r) x.flushed.last flushed_by.last
+          (λ n h. (h.0.name, store_of h.0, counting_now.each h.0 h.1 h.2, h.3))
+          (λ n h. (let q = counting_now.all h.0 h.1 h.2 in (q.0, q.1, ap (λ (m : Name). m.region) q.2 ∙ h.2.file.of, ap (λ (t : Store). t.to) (sym q.3) ∙ h.3)))
 
       are_stores : AreStores files r (map numbered ss)
       are_stores = record {
         each = λ z has. (
             let q = in_map numbered ss z has in
-            subst (λ (w : Numbered). (name : Name) × IsStoreFile files r name w.1 × (name.number ≡ w.0)) q.2
-            (q.0.name, subst (λ (i : ℕ). IsStoreFile files i q.0.name (store_of q.0)) (store_region q.0 q.1).1 (read.from_stores is_told q.0 q.1), refl));
-        all = all_stores;
-        rising = rising_of r ss (read.rising is_told) store_region;
+            subst (λ (w : Numbered). (name : Name) × IsCounting files r name w.1 × (name.number ≡ w.0)) q.2
+            (q.0.name, counting_now.each q.0 q.1 (store_region q.0 q.1).1, refl));
+        all = λ m s counts. (
+            let q = counting_now.all m s counts in
+            subst (λ (t : Store). Contains (map numbered ss) (m.number, t)) (sym q.3)
+            (subst (λ (n : Name). Contains (map numbered ss) (n.number, store_of q.0)) q.2 (to_map numbered ss q.0 q.1)));
+        rising = rising_of r ss (of.counting.rising (read.rising is_told)) store_region;
       }
 
       edited : (e : Entry) → Contains x.unflushed.items e → IsEdited files e
@@ -178,8 +182,8 @@ module _ (told : Type 0) (files : Files) (r : ℕ) (given : 1 ≤ r) (low : r �
           let mine = entry_region files logged.name logged.entries e logged.file logged.member (regions logged.name kind (λ gone. absurd (cc (sym gone ∙ logged.file.there)))) in
           (sym mine ∙ region, kind)
 
-      all_unflushed : (e : Entry) → IsLogged files e → e.region ≡ r → ((n : ℕ) → FlushesTo files r n → n < e.number) → Contains x.unflushed.items e
-      all_unflushed e logged region above =
+      all_unflushed : (e : Entry) → IsLogged files e → e.region ≡ r → IsUnflushedEntry files e → Contains x.unflushed.items e
+      all_unflushed e logged region unflushed =
           let own = file_region e logged region in
           let has = are.all is_told logged.name (own.0, inr own.1) (λ gone. absurd (cc (sym gone ∙ logged.file.there))) in
           let l = read.logs is_told logged.name has logged.file.kind in
@@ -194,14 +198,11 @@ module _ (told : Type 0) (files : Files) (r : ℕ) (given : 1 ≤ r) (low : r �
           not_log : (m : Name) → IsOfRegion r m → m.kind ≡ kinds.Log → ⊥
           not_log m own log = elim own.1 as (λ _. ⊥) [ inl store ↦ absurd (cc (sym store ∙ log)) | inr edits ↦ absurd (cc (sym edits ∙ log)) ]
 
-          up : x.flushed < e.number
-          up = elim flushed_is.reached as (λ _. x.flushed < e.number) [
-            | inl f ↦ above x.flushed f
-            | inr none ↦ (let one = logged_given files e logged in omega (arith, none, one))
-          ]
+          up : IsAboveBy (flushed_of x.flushed) e
+          up = unflushed_above files e (flushed_of x.flushed) (λ f. subst (λ (q : ℕ). IsFlushed files q f (flushed_of x.flushed f)) (sym region) (flushed_is f (flushed_of x.flushed f) (flushed_by.each f))) (logged_given files e logged) unflushed
 
           is_above : IsAbove of.flushed e
-          is_above = subst (λ (q : ℕ). flushed_of of.flushed q < e.number) (sym region) (subst (λ (n : ℕ). n < e.number) of.upto up)
+          is_above = subst (λ (q : ℕ). IsAboveBy (flushed_at of.flushed q) e) (sym region) (up.0, up.1, subst (λ (n : ℕ). n < e.number) (sym (own_flushed up.0)) up.2)
 
       unflushed_apart : AreApart x.unflushed.items
       unflushed_apart = subst AreApart (sym of.unflushed) (apart_of (entries_of r of.kept) rise)
@@ -222,10 +223,13 @@ module _ (told : Type 0) (files : Files) (r : ℕ) (given : 1 ≤ r) (low : r �
       are_unflushed = record {
         each = λ e has. (
             let d = edited e has in
-            (record { name = d.name; entries = d.entries; file = d.file; member = d.member }, (kept_of e has).1, λ n f. (let bound = flushed_is.bound n f in let above = above_of e has in omega (arith, bound, above))));
+            (record { name = d.name; entries = d.entries; file = d.file; member = d.member }, (kept_of e has).1, not_flushed e (kept_of e has).1 (above_of e has)));
         all = all_unflushed;
         apart = unflushed_apart;
       }
+        where
+          not_flushed : (e : Entry) → e.region ≡ r → IsAboveBy (flushed_of x.flushed) e → IsUnflushedEntry files e
+          not_flushed e region (f, has, above) = (f, has, λ n g. (let bound = (flushed_by.each f).bound n (flushes_goes files r ss counting_now f n (subst (λ (q : ℕ). FlushesTo files q f n) region g)) in omega (arith, bound, above)))
 
       texts : (m : Name) → Contains x.edits.items m → (l : List Entry) × (ended : Option ℕ) × HasText m l ended (content files m) × ((e : Entry) → Contains l e → e.region ≡ x.region)
       texts m has =
@@ -240,7 +244,9 @@ module _ (told : Type 0) (files : Files) (r : ℕ) (given : 1 ≤ r) (low : r �
         cells = of.stored ∙ cells_same ss;
         unflushed = subst (λ (q : ℕ). AreUnflushed files q x.unflushed.items) (sym of.region) are_unflushed;
         edited = edited;
-        flushed = subst (λ (q : ℕ). IsFlushed files q x.flushed) (sym of.region) flushed_is;
+        whole = subst (λ (q : ℕ). IsFlushed files q [] x.flushed.whole) (sym of.region) (flushed_is [] x.flushed.whole flushed_by.whole);
+        flushed = λ f. subst (λ (q : ℕ). IsFlushed files q f (flushed_of x.flushed f)) (sym of.region) (flushed_is f (flushed_of x.flushed f) (flushed_by.each f));
+        last = subst (λ (q : ℕ). IsGreatest (Reaches files q) x.flushed.last) (sym of.region) last_is;
         next = λ m store region here. of.next.above m (are.all is_told m (region ∙ of.region, inl store) here) store;
         few = λ n bound. elim of.next.one as (λ _. x.next_store ≤ n + 1) [
           | inl is ↦ omega (arith, is)

@@ -16,15 +16,19 @@ use Rattle.log_model.specs.declared.name.NameKind.TheVariants as kinds
 use Rattle.log_model.specs.Entry.{Entry, IsEntry}
 use Rattle.log_model.specs.StoreText.{IsStore, IsStoredCell}
 use Rattle.log_model.specs.Files.{rank_of, name_cmp}
-use Rattle.log_model.specs.Recovered.{is_of, entries_of}
+use Rattle.log_model.specs.Recovered.{IsGreatest, is_of, entries_of}
 use Rattle.log_model.proofs.NameLaws.{name_cmp_total}
 use Rattle.found_files.specs.declared.found.FoundStore.{FoundStore}
 use Rattle.found_files.specs.Found.{store_of, AreInNameOrder}
 use Rattle.found_files.proofs.Ordered.{rank_cases}
+use Rattle.wal_split.specs.declared.flushed.RegionFlushed.{RegionFlushed}
 use Rattle.wal_split.specs.declared.job.EditsJob.{EditsJob}
 use Rattle.wal_split.specs.declared.split_files.SplitFiles.{SplitFiles}
 use Rattle.wal_split.specs.Grouped.{edits_name}
 use Rattle.wal_split.specs.Left.{IsInRange}
+use Rattle.wal_split.specs.Flushed.{GoesTo, IsFlushedBy, flushed_of, flushed_at}
+use Rattle.wal_split.specs.Unflushed.{IsAbove, IsAboveBy}
+use Rattle.wal_split.proofs.Above.{at_region}
 use Rattle.region_replay.specs.declared.found.RegionFiles.{RegionFiles}
 use Rattle.region_replay.specs.Bases.{Numbered, AreRising, stores_cells}
 use Rattle.region_replay.specs.Regions.{IsInOrder}
@@ -119,13 +123,23 @@ apart_written : (es : List Entry) (name : Name) (ns : List Name) → AllPairs (�
 apart_written [] name ns apart other = apart
 apart_written (e ∷ es) name ns apart other = AllPairs-cons (λ a b. a ≢ b) name ns (λ k d lt. other (get_or ns k d) (Contains-get_or ns k d lt)) apart
 
-module _ (told : Type 0) (x : SplitFiles) (range : IsInRange x) (k : ℕ) (lt : k < 64) (j : EditsJob) (y : RegionFiles) (valid : (e : Entry) → Contains x.plan.kept.items e → IsEntry e)
-    (one : IsDealt (get_or x.plan.jobs.items k j) (k + 1) (get_or x.plan.flushed.items (k + 1) 0) x.names x.stores.items x.plan.kept.items y) where
+module _ (told : Type 0) (x : SplitFiles) (range : IsInRange x) (k : ℕ) (lt : k < 64) (j : EditsJob) (u : RegionFlushed) (y : RegionFiles) (valid : (e : Entry) → Contains x.plan.kept.items e → IsEntry e)
+    (one : IsDealt (get_or x.plan.jobs.items k j) (k + 1) (get_or x.plan.flushed.items (k + 1) u) x.names x.stores.items x.plan.kept.items y) where
   abbrev pub job : EditsJob
   job = get_or x.plan.jobs.items k j
 
-  abbrev pub upto : ℕ → ℕ
-  upto r = get_or x.plan.flushed.items r 0
+  -- what is flushed of it is so by the stores
+  pub flushed_by : IsFlushedBy x.stores.items (k + 1) y.flushed
+  flushed_by = subst (λ (z : RegionFlushed). IsFlushedBy x.stores.items (k + 1) z) (sym one.flushed) (range.flushed.each (k + 1) u (omega (arith, lt)))
+
+  -- and is what is flushed of its entries' families
+  above_own : (e : Entry) → e.region ≡ k + 1 → IsAbove x.plan.flushed.items e → IsAboveBy (flushed_of y.flushed) e
+  above_own e region (f, has, above) = (
+    f,
+    has,
+    subst (λ (z : RegionFlushed). flushed_of z f < e.number) (sym one.flushed)
+        (subst (λ (n : ℕ). n < e.number) (ap (λ (r : ℕ). flushed_at x.plan.flushed.items r f) region ∙ at_region x.plan.flushed.items (k + 1) u f (omega (arith, lt, range.flushed.long))) above),
+  )
 
   pub entry_cases : (e : Entry) → Contains y.unflushed.items e → Contains job.entries.items e ⊎ (Contains x.plan.kept.items e × (e.region ≡ k + 1))
   entry_cases e has = elim (Contains-append_cases job.entries.items (entries_of (k + 1) x.plan.kept.items) e (subst (λ (l : List Entry). Contains l e) one.unflushed has)) as (λ _. Contains job.entries.items e ⊎ (Contains x.plan.kept.items e × (e.region ≡ k + 1))) [
@@ -134,10 +148,10 @@ module _ (told : Type 0) (x : SplitFiles) (range : IsInRange x) (k : ℕ) (lt : 
   ]
 
   -- what holds of each of its unflushed entries
-  pub of_entry : (e : Entry) → Contains y.unflushed.items e → (e.region ≡ k + 1) × IsEntry e × (upto (k + 1) < e.number)
-  of_entry e has = elim (entry_cases e has) as (λ _. (e.region ≡ k + 1) × IsEntry e × (upto (k + 1) < e.number)) [
-    | inl mine ↦ (let r = range.pending k j e lt mine in (r.0, r.1, subst (λ (r : ℕ). upto r < e.number) r.0 r.2))
-    | inr other ↦ (other.1, valid e other.0, subst (λ (r : ℕ). upto r < e.number) other.1 (range.kept e other.0))
+  pub of_entry : (e : Entry) → Contains y.unflushed.items e → (e.region ≡ k + 1) × IsEntry e × IsAboveBy (flushed_of y.flushed) e
+  of_entry e has = elim (entry_cases e has) as (λ _. (e.region ≡ k + 1) × IsEntry e × IsAboveBy (flushed_of y.flushed) e) [
+    | inl mine ↦ (let r = range.pending k j e lt mine in (r.0, r.1, above_own e r.0 r.2))
+    | inr other ↦ (other.1, valid e other.0, above_own e other.1 (range.kept e other.0))
   ]
 
   pub store_in : (s : FoundStore) → Contains (stores_of (k + 1) x.stores.items) s → Contains x.stores.items s × (s.name.region ≡ k + 1)
@@ -169,14 +183,13 @@ module _ (told : Type 0) (x : SplitFiles) (range : IsInRange x) (k : ℕ) (lt : 
   in_order rise = record {
     given = (let r = one.region in omega (arith, r));
     region = (let r = one.region in omega (arith, r, lt));
-    above = λ e has. (let r = of_entry e has in let above = r.2 in let f = one.flushed in omega (arith, f, above));
+    above = λ e has. (let a = (of_entry e has).2 in omega (arith, a.2));
     low = λ e has. (of_entry e has).1.number;
-    flushed = flushed_low;
-    stored = subst (λ (l : List NumberedCell). AllByRecursion (λ c. c.0 ≤ y.flushed) l) (sym one.stored) (stored_low y.flushed (stores_of (k + 1) x.stores.items) (λ s has. (
+    whole = reached_by y.flushed.whole flushed_by.whole;
+    last = flushed_low;
+    stored = subst (λ (l : List NumberedCell). AllByRecursion (λ c. c.0 ≤ y.flushed.last) l) (sym one.stored) (stored_low y.flushed.last (stores_of (k + 1) x.stores.items) (λ s has. (
         let r = store_in s has in
-        let bound = (range.flushed.each (k + 1) (omega (arith, lt))).bound s.text.to (s, r.0, r.1, refl) in
-        let f = one.flushed in
-        ((range.stores s r.0).0, omega (arith, bound, f)))));
+        ((range.stores s r.0).0, flushed_by.last.bound s.text.to (s, r.0, r.1, refl)))));
     next_given = elim one.next as (λ _. 1 ≤ y.next_store) [ inl is ↦ omega (arith, is) | inr (m, has, store, of, is) ↦ omega (arith, is) ];
     next = elim one.next as (λ _. y.next_store ≤ 2 ^ 63) [
       | inl is ↦ omega (arith, is)
@@ -195,10 +208,14 @@ module _ (told : Type 0) (x : SplitFiles) (range : IsInRange x) (k : ℕ) (lt : 
     ];
   }
     where
-      flushed_low : y.flushed < 2 ^ 48
-      flushed_low =
-          let f = one.flushed in
-          elim (range.flushed.each (k + 1) (omega (arith, lt))).reached as (λ _. y.flushed < 2 ^ 48) [
-            | inl (s, has, region, to) ↦ (let limit = (range.stores s has).0.limit in omega (arith, f, to, limit))
-            | inr none ↦ omega (arith, f, none)
-          ]
+      flushed_low : y.flushed.last < 2 ^ 48
+      flushed_low = elim flushed_by.last.reached as (λ _. y.flushed.last < 2 ^ 48) [
+        | inl (s, has, region, to) ↦ (let limit = (range.stores s has).0.limit in omega (arith, to, limit))
+        | inr none ↦ omega (arith, none)
+      ]
+
+      reached_by : (n : ℕ) → IsGreatest (GoesTo x.stores.items (k + 1) []) n → n ≤ y.flushed.last
+      reached_by n is = elim is.reached as (λ _. n ≤ y.flushed.last) [
+        | inl (s, has, region, is_for, to) ↦ flushed_by.last.bound n (s, has, region, to)
+        | inr none ↦ omega (arith, none)
+      ]

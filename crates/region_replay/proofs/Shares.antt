@@ -14,6 +14,7 @@ use Rattle.log_model.specs.Entry.{Entry, IsEntry}
 use Rattle.log_model.specs.Recovered.{entries_of}
 use Rattle.found_files.specs.declared.found.FoundStore.{FoundStore}
 use Rattle.found_files.specs.Names.{IsBadAmong}
+use Rattle.wal_split.specs.declared.flushed.RegionFlushed.{RegionFlushed}
 use Rattle.wal_split.specs.declared.job.EditsJob.{EditsJob}
 use Rattle.wal_split.specs.Grouped.{edits_name}
 use Rattle.wal_split.proofs.Grouped.{of_more}
@@ -64,7 +65,7 @@ edits_one_more r ns name is = edits_more r ns name ∙ ap (λ (b : Bool). edits_
 
 -- ---- a name
 
-module _ (job : EditsJob) (r upto : ℕ) (ns : List Name) (ss : List FoundStore) (ks : List Entry) (name : Name) where
+module _ (job : EditsJob) (r : ℕ) (upto : RegionFlushed) (ns : List Name) (ss : List FoundStore) (ks : List Entry) (name : Name) where
   next_on : (n : ℕ) → IsNext r ns n → IsNext r (ns ++ name ∷ []) n
   next_on n (inl one) = inl one
   next_on n (inr (m, has, store, region, is)) = inr (m, Contains-append_left ns (name ∷ []) m has, store, region, is)
@@ -115,7 +116,7 @@ module _ (job : EditsJob) (r upto : ℕ) (ns : List Name) (ss : List FoundStore)
     next = subst (λ (n : ℕ). IsNext r (ns ++ name ∷ []) n) (sym step.next) (next_on x.next_store old.next);
   }
 
-pub name_dealt : (jobs : List EditsJob) (flushed : List ℕ) (ns : List Name) (ss : List FoundStore) (ks : List Entry) (old new : List RegionFiles) (name : Name) → IsGood name → DealsName name old new → AreDealt jobs flushed ns ss ks old → AreDealt jobs flushed (ns ++ name ∷ []) ss ks new
+pub name_dealt : (jobs : List EditsJob) (flushed : List RegionFlushed) (ns : List Name) (ss : List FoundStore) (ks : List Entry) (old new : List RegionFiles) (name : Name) → IsGood name → DealsName name old new → AreDealt jobs flushed ns ss ks old → AreDealt jobs flushed (ns ++ name ∷ []) ss ks new
 name_dealt jobs flushed ns ss ks old new name good deals are = go name.kind refl
   where
     Now : Type 0
@@ -124,7 +125,7 @@ name_dealt jobs flushed ns ss ks old new name good deals are = go name.kind refl
     same : new ≡ old → is_edits name.kind ≡ false → name.kind ≢ kinds.Store → Now
     same is not none = subst (λ (l : List RegionFiles). AreDealt jobs flushed (ns ++ name ∷ []) ss ks l) (sym is) (record {
       long = are.long;
-      each = λ k d j lt. keep_name (get_or jobs k j) (k + 1) (get_or flushed (k + 1) 0) ns ss ks name (get_or old k d) (false_and (is_edits name.kind) (name.region == (k + 1)) not) (λ store region. none store) (are.each k d j lt);
+      each = λ k d j u lt. keep_name (get_or jobs k j) (k + 1) (get_or flushed (k + 1) u) ns ss ks name (get_or old k d) (false_and (is_edits name.kind) (name.region == (k + 1)) not) (λ store region. none store) (are.each k d j u lt);
       valid = are.valid;
     })
 
@@ -136,10 +137,10 @@ name_dealt jobs flushed ns ss ks old new name good deals are = go name.kind refl
         let step = deals.store is in
         record {
           long = deals_long name.region (RaisesNext name.number) old new step are.long;
-          each = λ k d j lt. elim (deals_cases name.region (RaisesNext name.number) old new step range.0 range.1 are.long k d) as (λ _. IsDealt (get_or jobs k j) (k + 1) (get_or flushed (k + 1) 0) (ns ++ name ∷ []) ss ks (get_or new k d)) [
-            | inl (here, one) ↦ raise_name (get_or jobs k j) (k + 1) (get_or flushed (k + 1) 0) ns ss ks name (get_or old k d) (get_or new k d) is (sym here) one (are.each k d j lt)
-            | inr (apart, kept) ↦ subst (λ (y : RegionFiles). IsDealt (get_or jobs k j) (k + 1) (get_or flushed (k + 1) 0) (ns ++ name ∷ []) ss ks y) (sym kept)
-                (keep_name (get_or jobs k j) (k + 1) (get_or flushed (k + 1) 0) ns ss ks name (get_or old k d) (false_and (is_edits name.kind) (name.region == (k + 1)) (ap is_edits is)) (λ store region. apart (sym region)) (are.each k d j lt))
+          each = λ k d j u lt. elim (deals_cases name.region (RaisesNext name.number) old new step range.0 range.1 are.long k d) as (λ _. IsDealt (get_or jobs k j) (k + 1) (get_or flushed (k + 1) u) (ns ++ name ∷ []) ss ks (get_or new k d)) [
+            | inl (here, one) ↦ raise_name (get_or jobs k j) (k + 1) (get_or flushed (k + 1) u) ns ss ks name (get_or old k d) (get_or new k d) is (sym here) one (are.each k d j u lt)
+            | inr (apart, kept) ↦ subst (λ (y : RegionFiles). IsDealt (get_or jobs k j) (k + 1) (get_or flushed (k + 1) u) (ns ++ name ∷ []) ss ks y) (sym kept)
+                (keep_name (get_or jobs k j) (k + 1) (get_or flushed (k + 1) u) ns ss ks name (get_or old k d) (false_and (is_edits name.kind) (name.region == (k + 1)) (ap is_edits is)) (λ store region. apart (sym region)) (are.each k d j u lt))
           ];
           valid = are.valid;
         }
@@ -148,10 +149,10 @@ name_dealt jobs flushed ns ss ks old new name good deals are = go name.kind refl
         let step = deals.edits is in
         record {
           long = deals_long name.region (AddsEdits name) old new step are.long;
-          each = λ k d j lt. elim (deals_cases name.region (AddsEdits name) old new step range.0 range.1 are.long k d) as (λ _. IsDealt (get_or jobs k j) (k + 1) (get_or flushed (k + 1) 0) (ns ++ name ∷ []) ss ks (get_or new k d)) [
-            | inl (here, one) ↦ add_name (get_or jobs k j) (k + 1) (get_or flushed (k + 1) 0) ns ss ks name (get_or old k d) (get_or new k d) is (sym here) one (are.each k d j lt)
-            | inr (apart, kept) ↦ subst (λ (y : RegionFiles). IsDealt (get_or jobs k j) (k + 1) (get_or flushed (k + 1) 0) (ns ++ name ∷ []) ss ks y) (sym kept)
-                (keep_name (get_or jobs k j) (k + 1) (get_or flushed (k + 1) 0) ns ss ks name (get_or old k d) (and_false (is_edits name.kind) (name.region == (k + 1)) (ne_eqb name.region (k + 1) (λ region. apart (sym region)))) (λ store region. apart (sym region)) (are.each k d j lt))
+          each = λ k d j u lt. elim (deals_cases name.region (AddsEdits name) old new step range.0 range.1 are.long k d) as (λ _. IsDealt (get_or jobs k j) (k + 1) (get_or flushed (k + 1) u) (ns ++ name ∷ []) ss ks (get_or new k d)) [
+            | inl (here, one) ↦ add_name (get_or jobs k j) (k + 1) (get_or flushed (k + 1) u) ns ss ks name (get_or old k d) (get_or new k d) is (sym here) one (are.each k d j u lt)
+            | inr (apart, kept) ↦ subst (λ (y : RegionFiles). IsDealt (get_or jobs k j) (k + 1) (get_or flushed (k + 1) u) (ns ++ name ∷ []) ss ks y) (sym kept)
+                (keep_name (get_or jobs k j) (k + 1) (get_or flushed (k + 1) u) ns ss ks name (get_or old k d) (and_false (is_edits name.kind) (name.region == (k + 1)) (ne_eqb name.region (k + 1) (λ region. apart (sym region)))) (λ store region. apart (sym region)) (are.each k d j u lt))
           ];
           valid = are.valid;
         }
@@ -167,13 +168,13 @@ cells_in y = y.text.cells
 cells_more : (ss : List FoundStore) (y : FoundStore) → cells_of (ss ++ y ∷ []) ≡ cells_of ss ++ y.text.cells
 cells_more ss y = flat_map-append cells_in ss (y ∷ []) ∙ ap (λ (l : List NumberedCell). cells_of ss ++ l) (append-nil y.text.cells)
 
-pub store_dealt : (jobs : List EditsJob) (flushed : List ℕ) (ns : List Name) (ss : List FoundStore) (ks : List Entry) (old new : List RegionFiles) (s : FoundStore) → 1 ≤ s.name.region → s.name.region ≤ 64
+pub store_dealt : (jobs : List EditsJob) (flushed : List RegionFlushed) (ns : List Name) (ss : List FoundStore) (ks : List Entry) (old new : List RegionFiles) (s : FoundStore) → 1 ≤ s.name.region → s.name.region ≤ 64
     → Deals s.name.region (AddsStored s.text.cells) old new → AreDealt jobs flushed ns ss ks old → AreDealt jobs flushed ns (ss ++ s ∷ []) ks new
 store_dealt jobs flushed ns ss ks old new s given low deals are = record {
   long = deals_long s.name.region (AddsStored s.text.cells) old new deals are.long;
-  each = λ k d j lt. elim (deals_cases s.name.region (AddsStored s.text.cells) old new deals given low are.long k d) as (λ _. IsDealt (get_or jobs k j) (k + 1) (get_or flushed (k + 1) 0) ns (ss ++ s ∷ []) ks (get_or new k d)) [
+  each = λ k d j u lt. elim (deals_cases s.name.region (AddsStored s.text.cells) old new deals given low are.long k d) as (λ _. IsDealt (get_or jobs k j) (k + 1) (get_or flushed (k + 1) u) ns (ss ++ s ∷ []) ks (get_or new k d)) [
     | inl (here, step) ↦ (
-        let o = are.each k d j lt in
+        let o = are.each k d j u lt in
         let more : stores_of (k + 1) (ss ++ s ∷ []) ≡ stores_of (k + 1) ss ++ s ∷ [] = stores_more (k + 1) ss s ∙ ap (λ (b : Bool). stores_of (k + 1) ss ++ cond b (s ∷ []) []) (eq-eqb s.name.region (k + 1) (sym here)) in
         record {
           region = step.region ∙ o.region;
@@ -185,9 +186,9 @@ store_dealt jobs flushed ns ss ks old new s given low deals are = record {
           next = subst (λ (n : ℕ). IsNext (k + 1) ns n) (sym step.next) o.next;
         })
     | inr (apart, kept) ↦ (
-        let o = are.each k d j lt in
+        let o = are.each k d j u lt in
         let same : stores_of (k + 1) (ss ++ s ∷ []) ≡ stores_of (k + 1) ss = stores_more (k + 1) ss s ∙ ap (λ (b : Bool). stores_of (k + 1) ss ++ cond b (s ∷ []) []) (ne_eqb s.name.region (k + 1) (λ region. apart (sym region))) ∙ append-nil (stores_of (k + 1) ss) in
-        subst (λ (y : RegionFiles). IsDealt (get_or jobs k j) (k + 1) (get_or flushed (k + 1) 0) ns (ss ++ s ∷ []) ks y) (sym kept) (record {
+        subst (λ (y : RegionFiles). IsDealt (get_or jobs k j) (k + 1) (get_or flushed (k + 1) u) ns (ss ++ s ∷ []) ks y) (sym kept) (record {
           region = o.region;
           stored = o.stored ∙ ap cells_of (sym same);
           unflushed = o.unflushed;
@@ -202,13 +203,13 @@ store_dealt jobs flushed ns ss ks old new s given low deals are = record {
 
 -- ---- an entry
 
-pub entry_dealt : (jobs : List EditsJob) (flushed : List ℕ) (ns : List Name) (ss : List FoundStore) (ks : List Entry) (old new : List RegionFiles) (e : Entry) → 1 ≤ e.region → e.region ≤ 64 → IsEntry e
+pub entry_dealt : (jobs : List EditsJob) (flushed : List RegionFlushed) (ns : List Name) (ss : List FoundStore) (ks : List Entry) (old new : List RegionFiles) (e : Entry) → 1 ≤ e.region → e.region ≤ 64 → IsEntry e
     → Deals e.region (AddsEntry e) old new → AreDealt jobs flushed ns ss ks old → AreDealt jobs flushed ns ss (ks ++ e ∷ []) new
 entry_dealt jobs flushed ns ss ks old new e given low valid deals are = record {
   long = deals_long e.region (AddsEntry e) old new deals are.long;
-  each = λ k d j lt. elim (deals_cases e.region (AddsEntry e) old new deals given low are.long k d) as (λ _. IsDealt (get_or jobs k j) (k + 1) (get_or flushed (k + 1) 0) ns ss (ks ++ e ∷ []) (get_or new k d)) [
+  each = λ k d j u lt. elim (deals_cases e.region (AddsEntry e) old new deals given low are.long k d) as (λ _. IsDealt (get_or jobs k j) (k + 1) (get_or flushed (k + 1) u) ns ss (ks ++ e ∷ []) (get_or new k d)) [
     | inl (here, step) ↦ (
-        let o = are.each k d j lt in
+        let o = are.each k d j u lt in
         let own : List Entry = (get_or jobs k j).entries.items in
         let more : entries_of (k + 1) (ks ++ e ∷ []) ≡ entries_of (k + 1) ks ++ e ∷ [] = of_more (k + 1) ks e ∙ ap (λ (b : Bool). entries_of (k + 1) ks ++ cond b (e ∷ []) []) (eq-eqb e.region (k + 1) (sym here)) in
         record {
@@ -221,10 +222,10 @@ entry_dealt jobs flushed ns ss ks old new e given low valid deals are = record {
           next = subst (λ (n : ℕ). IsNext (k + 1) ns n) (sym step.next) o.next;
         })
     | inr (apart, kept) ↦ (
-        let o = are.each k d j lt in
+        let o = are.each k d j u lt in
         let own : List Entry = (get_or jobs k j).entries.items in
         let same : entries_of (k + 1) (ks ++ e ∷ []) ≡ entries_of (k + 1) ks = of_more (k + 1) ks e ∙ ap (λ (b : Bool). entries_of (k + 1) ks ++ cond b (e ∷ []) []) (ne_eqb e.region (k + 1) (λ region. apart (sym region))) ∙ append-nil (entries_of (k + 1) ks) in
-        subst (λ (y : RegionFiles). IsDealt (get_or jobs k j) (k + 1) (get_or flushed (k + 1) 0) ns ss (ks ++ e ∷ []) y) (sym kept) (record {
+        subst (λ (y : RegionFiles). IsDealt (get_or jobs k j) (k + 1) (get_or flushed (k + 1) u) ns ss (ks ++ e ∷ []) y) (sym kept) (record {
           region = o.region;
           stored = o.stored;
           unflushed = o.unflushed ∙ ap (λ (l : List Entry). own ++ l) (sym same);
@@ -242,32 +243,32 @@ entry_dealt jobs flushed ns ss ks old new e given low valid deals are = record {
 
 -- ---- the beginning
 
-pub all_begun : (jobs : List EditsJob) (flushed : List ℕ) (xs : List RegionFiles) (number : ℕ) → length jobs ≡ 64 → ((k : ℕ) (d : EditsJob) → k < 64 → (get_or jobs k d).name ≡ edits_name (k + 1) number) → AreBegun jobs flushed xs → AreDealt jobs flushed [] [] [] xs
+pub all_begun : (jobs : List EditsJob) (flushed : List RegionFlushed) (xs : List RegionFiles) (number : ℕ) → length jobs ≡ 64 → ((k : ℕ) (d : EditsJob) → k < 64 → (get_or jobs k d).name ≡ edits_name (k + 1) number) → AreBegun jobs flushed xs → AreDealt jobs flushed [] [] [] xs
 all_begun jobs flushed xs number long named begun = record {
   long = begun.long ∙ long;
-  each = λ k d j lt. subst (λ (r : ℕ). IsDealt (get_or jobs k j) r (get_or flushed r 0) [] [] [] (get_or xs k d)) (ap (λ (m : Name). m.region) (named k j lt)) (begun.each k d j (omega (arith, lt, long)));
+  each = λ k d j u lt. subst (λ (r : ℕ). IsDealt (get_or jobs k j) r (get_or flushed r u) [] [] [] (get_or xs k d)) (ap (λ (m : Name). m.region) (named k j lt)) (begun.each k d j u (omega (arith, lt, long)));
   valid = λ e has. absurd (none_in e has);
 }
 
-pub none_begun : (flushed : List ℕ) (xs : List RegionFiles) → length xs ≡ 0 → AreBegun [] flushed xs
-none_begun flushed xs none = record { long = none; each = λ k d j lt. absurd (omega (arith, lt)) }
+pub none_begun : (flushed : List RegionFlushed) (xs : List RegionFiles) → length xs ≡ 0 → AreBegun [] flushed xs
+none_begun flushed xs none = record { long = none; each = λ k d j u lt. absurd (omega (arith, lt)) }
 
-pub one_begun : (jobs : List EditsJob) (flushed : List ℕ) (xs : List RegionFiles) (job : EditsJob) (x : RegionFiles) → AreBegun jobs flushed xs → IsDealt job job.name.region (get_or flushed job.name.region 0) [] [] [] x → AreBegun (jobs ++ job ∷ []) flushed (xs ++ x ∷ [])
+pub one_begun : (jobs : List EditsJob) (flushed : List RegionFlushed) (xs : List RegionFiles) (job : EditsJob) (x : RegionFiles) → AreBegun jobs flushed xs → ((u : RegionFlushed) → IsDealt job job.name.region (get_or flushed job.name.region u) [] [] [] x) → AreBegun (jobs ++ job ∷ []) flushed (xs ++ x ∷ [])
 one_begun jobs flushed xs job x begun dealt = record {
   long = omega (arith, length-append jobs (job ∷ []), length-append xs (x ∷ []), begun.long);
-  each = λ k d j lt. elim (cases_lt k (length jobs)) as (λ _. IsBegunAt (get_or (jobs ++ job ∷ []) k j) (get_or (xs ++ x ∷ []) k d)) [
-    | inl early ↦ subst (λ (i : EditsJob). IsBegunAt i (get_or (xs ++ x ∷ []) k d)) (sym (get_or_append_left jobs (job ∷ []) j k early))
-        (subst (λ (y : RegionFiles). IsBegunAt (get_or jobs k j) y) (sym (get_or_append_left xs (x ∷ []) d k (omega (arith, early, begun.long)))) (begun.each k d j early))
+  each = λ k d j u lt. elim (cases_lt k (length jobs)) as (λ _. IsBegunAt u (get_or (jobs ++ job ∷ []) k j) (get_or (xs ++ x ∷ []) k d)) [
+    | inl early ↦ subst (λ (i : EditsJob). IsBegunAt u i (get_or (xs ++ x ∷ []) k d)) (sym (get_or_append_left jobs (job ∷ []) j k early))
+        (subst (λ (y : RegionFiles). IsBegunAt u (get_or jobs k j) y) (sym (get_or_append_left xs (x ∷ []) d k (omega (arith, early, begun.long)))) (begun.each k d j u early))
     | inr late ↦ (
         let at : k ≡ length jobs = omega (arith, late, lt, length-append jobs (job ∷ [])) in
         let one : get_or (jobs ++ job ∷ []) k j ≡ job = ap (λ (i : ℕ). get_or (jobs ++ job ∷ []) i j) at ∙ get_or-append_seam jobs job [] j in
         let two : get_or (xs ++ x ∷ []) k d ≡ x = ap (λ (i : ℕ). get_or (xs ++ x ∷ []) i d) (at ∙ sym begun.long) ∙ get_or-append_seam xs x [] d in
-        subst (λ (i : EditsJob). IsBegunAt i (get_or (xs ++ x ∷ []) k d)) (sym one) (subst (λ (y : RegionFiles). IsBegunAt job y) (sym two) dealt))
+        subst (λ (i : EditsJob). IsBegunAt u i (get_or (xs ++ x ∷ []) k d)) (sym one) (subst (λ (y : RegionFiles). IsBegunAt u job y) (sym two) (dealt u)))
   ];
 }
   where
-    IsBegunAt : EditsJob → RegionFiles → Type 0
-    IsBegunAt i y = IsDealt i i.name.region (get_or flushed i.name.region 0) [] [] [] y
+    IsBegunAt : RegionFlushed → EditsJob → RegionFiles → Type 0
+    IsBegunAt u i y = IsDealt i i.name.region (get_or flushed i.name.region u) [] [] [] y
 
 pub name_long : (name : Name) (old new : List RegionFiles) → DealsName name old new → length old ≡ 64 → length new ≡ 64
 name_long name old new deals long = go name.kind refl

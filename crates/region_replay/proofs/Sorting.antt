@@ -1,25 +1,29 @@
 -- Cells of stores and of entries, sorted as one.
-use Rattle.std.proofs.Common.{◌≡◌, ◌⊎◌, inl, inr, ◌≤◌, Bool, true, cond, List, [], ◌∷◌, ◌++◌, map, Contains, Option, Some, None, refl, sym, ap, ◌∙◌, subst, arith}
+use Rattle.std.proofs.Common.{◌≡◌, ◌≢◌, ◌⊎◌, ◌↔◌, inl, inr, ℕ, ◌<◌, ◌≤◌, nat_lt, Bool, true, false, cond, List, [], ◌∷◌, ◌++◌, map, Contains, Option, Some, None, refl, sym, ap, ◌∙◌, subst, arith}
 use Rattle.std.specs.Prelude.{T}
 use Rattle.std.specs.declared.cmp.Ordering.{Ordering}
 use Rattle.std.specs.declared.cmp.Ordering.TheVariants.{Less, Equal, Greater}
 use Rattle.std.specs.Ordering.{eq_by_cmp, is_eq}
 use Rattle.std.specs.FinMap.{get, insert, empty, get-insert, get-empty}
 use Rattle.std.specs.FinMap.Entries.{below_all}
-use Rattle.std.proofs.lemmas.Bool.{cases_Bool}
+use Rattle.std.proofs.lemmas.Bool.{cases_Bool, cases_lt, ltb-true, ltb-false}
 use Rattle.std.proofs.lemmas.Cmp.{tied_itself, eq_by_cmp_equiv}
 use Rattle.std.proofs.lemmas.List.Elements.{Contains-append_left, Contains-append_right, Contains-append_cases, Contains-push, Contains-push_cases}
+use Rattle.cell_model.specs.Cell.{Cell}
 use Rattle.cell_model.specs.Order.{VersionKey, version_cmp, Payload, payload_of, Content, NumberedCell, version_of, put_cells}
 use Rattle.cell_model.specs.Merge.{entry_of, IsRising, put_numbered, at_number}
 use Rattle.cell_model.specs.Join.{or_else}
 use Rattle.cell_model.proofs.OrderLaws.{version_cmp_total, version_cmp_exact}
 use Rattle.cell_model.proofs.MergeLaws.{get-put_numbered, put_numbered-append, put_cells-numbered}
 use Rattle.log_model.specs.Entry.{Entry}
-use Rattle.log_model.specs.Recovered.{Holds, IsRecovered, put_entries}
-use Rattle.recovery.proofs.Contents.{cut_has, puts_number}
-use Rattle.recovery.proofs.Numbers.{held_range}
+use Rattle.log_model.specs.Files.{Files}
+use Rattle.log_model.specs.Recovered.{FlushesTo, IsFlushed, Holds, Puts, IsUnflushed, IsRecovered, put_entries}
+use Rattle.recovery.specs.Kept.{AreApart}
+use Rattle.recovery.proofs.Contents.{cut_has, puts_family, puts_number}
+use Rattle.recovery.proofs.Numbers.{held_range, logged_given}
+use Rattle.recovery.proofs.Stores.{held_family}
 use Rattle.mem_segments.proofs.Contents.{first, second, less}
-use Rattle.region_replay.specs.Bases.{Numbered, AreRising, stores_cells, entries_cells, OneSortGivesTheBase}
+use Rattle.region_replay.specs.Bases.{Numbered, AreRising, AreUnflushed, stores_cells, cells_above, entries_cells, OneSortGivesTheBase}
 
 abbrev pub HasCell : List NumberedCell → VersionKey → Payload → Type 0
 HasCell xs v p = (x : NumberedCell) × Contains xs x × (version_of x ≡ v) × (payload_of x.1 ≡ p)
@@ -188,32 +192,146 @@ newest_got (x ∷ xs) v p each rising h = got_stores x xs v ∙ elim (first_or_l
       (newest_got xs v p (later_each x xs each) rising.1 (record { at = h.at; among = later; holds = h.holds; last = λ y q has holds. h.last y q (is_later x xs y has) holds }))
 ]
 
+-- ---- the cells of entries above what is flushed of their families
+
+module _ (flushed : List ℕ → ℕ) (n : ℕ) (v : VersionKey) where
+  abbrev kept : List Cell → List NumberedCell
+  kept cs = at_number n (cells_above flushed n cs)
+
+  abbrev every : List Cell → List NumberedCell
+  every cs = at_number n cs
+
+  none_here : (c : Cell) → c.family ≢ v.key.family → get (one (n, c)) v ≡ None
+  none_here c other = elim (option_cases (get (one (n, c)) v)) as (λ _. get (one (n, c)) v ≡ None) [
+    | inl none ↦ none
+    | inr some ↦ absurd (other (ap (λ (w : VersionKey). w.key.family) (one_got (n, c) v some.0 some.1).0))
+  ]
+
+  or_none : (a b : Option Payload) → b ≡ None → or_else a b ≡ a
+  or_none None b none = none
+  or_none (Some p) b none = refl
+
+  none_none : (a b : Option Payload) → a ≡ None → b ≡ None → or_else a b ≡ None
+  none_none a b first second = or_none a b second ∙ first
+
+  kept_cells : (c : Cell) (cs : List Cell) → (b : Bool) → nat_lt (flushed c.family) n ≡ b → kept (c ∷ cs) ≡ cond b ((n, c) ∷ kept cs) (kept cs)
+  kept_cells c cs true is = ap (λ (t : Bool). at_number n (cond t (c ∷ cells_above flushed n cs) (cells_above flushed n cs))) is
+  kept_cells c cs false is = ap (λ (t : Bool). at_number n (cond t (c ∷ cells_above flushed n cs) (cells_above flushed n cs))) is
+
+  -- of a family that is flushed up to a lower number each cell is kept
+  pub kept_above : flushed v.key.family < n → (cs : List Cell) → get (put_all (kept cs)) v ≡ get (put_all (every cs)) v
+  kept_above above [] = refl
+  kept_above above (c ∷ cs) = elim (cases_Bool (nat_lt (flushed c.family) n)) as (λ _. get (put_all (kept (c ∷ cs))) v ≡ get (put_all (every (c ∷ cs))) v) [
+    | inl is ↦ ap (λ (xs : List NumberedCell). get (put_all xs) v) (kept_cells c cs true is) ∙ get-put_numbered (one (n, c)) (kept cs) v
+        ∙ ap (λ (o : Option Payload). or_else o (get (one (n, c)) v)) (kept_above above cs) ∙ sym (get-put_numbered (one (n, c)) (every cs) v)
+    | inr not ↦
+        let other : c.family ≢ v.key.family = λ same. (let lt : flushed c.family < n = subst (λ (f : List ℕ). flushed f < n) (sym same) above in let le = ltb-false (flushed c.family) n not in omega (arith, lt, le)) in
+        ap (λ (xs : List NumberedCell). get (put_all xs) v) (kept_cells c cs false not) ∙ kept_above above cs
+        ∙ sym (get-put_numbered (one (n, c)) (every cs) v ∙ or_none (get (put_all (every cs)) v) (get (one (n, c)) v) (none_here c other))
+  ]
+
+  -- and of one that is flushed up to this number none
+  pub none_kept : n ≤ flushed v.key.family → (cs : List Cell) → get (put_all (kept cs)) v ≡ None
+  none_kept low [] = get-empty version_cmp v
+  none_kept low (c ∷ cs) = elim (cases_Bool (nat_lt (flushed c.family) n)) as (λ _. get (put_all (kept (c ∷ cs))) v ≡ None) [
+    | inl is ↦
+        let other : c.family ≢ v.key.family = λ same. (let le : n ≤ flushed c.family = subst (λ (f : List ℕ). n ≤ flushed f) (sym same) low in let lt = ltb-true (flushed c.family) n is in omega (arith, lt, le)) in
+        ap (λ (xs : List NumberedCell). get (put_all xs) v) (kept_cells c cs true is) ∙ get-put_numbered (one (n, c)) (kept cs) v
+        ∙ none_none (get (put_all (kept cs)) v) (get (one (n, c)) v) (none_kept low cs) (none_here c other)
+    | inr not ↦ ap (λ (xs : List NumberedCell). get (put_all xs) v) (kept_cells c cs false not) ∙ none_kept low cs
+  ]
+
+-- an entry with those of its cells alone
+abbrev cut_entry : (List ℕ → ℕ) → Entry → Entry
+cut_entry flushed e = record { region = e.region; number = e.number; time = e.time; batch = record { table = e.batch.table; cells = cells_above flushed e.number e.batch.cells } }
+
+abbrev cut_all : (List ℕ → ℕ) → List Entry → List Entry
+cut_all flushed es = map (cut_entry flushed) es
+
 -- ---- both
 
-pub put_entries_all : (es : List Entry) (m : Content) → put_numbered m (entries_cells es) ≡ put_entries m es
-put_entries_all [] m = refl
-put_entries_all (e ∷ es) m =
-    put_numbered-append m (at_number e.number e.batch.cells) (entries_cells es)
-    ∙ ap (λ (c : Content). put_numbered c (entries_cells es)) (sym (put_cells-numbered m e.number e.batch.cells))
-    ∙ put_entries_all es (put_cells m e.number e.batch.cells)
+put_entries_all : (flushed : List ℕ → ℕ) (es : List Entry) (m : Content) → put_numbered m (entries_cells flushed es) ≡ put_entries m (cut_all flushed es)
+put_entries_all flushed [] m = refl
+put_entries_all flushed (e ∷ es) m =
+    put_numbered-append m (at_number e.number (cells_above flushed e.number e.batch.cells)) (entries_cells flushed es)
+    ∙ ap (λ (c : Content). put_numbered c (entries_cells flushed es)) (sym (put_cells-numbered m e.number (cells_above flushed e.number e.batch.cells)))
+    ∙ put_entries_all flushed es (put_cells m e.number (cells_above flushed e.number e.batch.cells))
+
+in_cut : (flushed : List ℕ → ℕ) (es : List Entry) (d : Entry) → Contains (cut_all flushed es) d → (e : Entry) × Contains es e × (cut_entry flushed e ≡ d)
+in_cut flushed [] d has = absurd (none_in d has)
+in_cut flushed (e ∷ es) d has = elim (first_or_later (cut_entry flushed e) (cut_all flushed es) d has) as (λ _. (y : Entry) × Contains (e ∷ es) y × (cut_entry flushed y ≡ d)) [
+  | inl here ↦ (e, is_first e es, here)
+  | inr later ↦ (let r = in_cut flushed es d later in (r.0, is_later e es r.0 r.1, r.2))
+]
+
+to_cut : (flushed : List ℕ → ℕ) (es : List Entry) (e : Entry) → Contains es e → Contains (cut_all flushed es) (cut_entry flushed e)
+to_cut flushed [] e has = absurd (none_in e has)
+to_cut flushed (y ∷ ys) e has = elim (first_or_later y ys e has) as (λ _. Contains (cut_all flushed (y ∷ ys)) (cut_entry flushed e)) [
+  | inl here ↦ subst (λ (z : Entry). Contains (cut_all flushed (y ∷ ys)) (cut_entry flushed z)) here (is_first (cut_entry flushed y) (cut_all flushed ys))
+  | inr later ↦ is_later (cut_entry flushed y) (cut_all flushed ys) (cut_entry flushed e) (to_cut flushed ys e later)
+]
+
+cut_apart : (flushed : List ℕ → ℕ) (es : List Entry) → AreApart es → AreApart (cut_all flushed es)
+cut_apart flushed [] apart = tt
+cut_apart flushed (e ∷ es) apart = (
+  λ d has same. (let r = in_cut flushed es d has in apart.0 r.0 r.1 (ap (λ (y : Entry). y.number) r.2 ∙ same)),
+  cut_apart flushed es apart.1,
+)
+
+-- such an entry puts what it put of families that are flushed up to a lower number
+cut_puts : (flushed : List ℕ → ℕ) (e : Entry) (v : VersionKey) (p : Payload) → flushed v.key.family < e.number → Puts e v p ↔ Puts (cut_entry flushed e) v p
+cut_puts flushed e v p above = (λ is. same ∙ is, λ is. sym same ∙ is)
+  where
+    by_number : (cs : List Cell) → get (put_cells empty e.number cs) v ≡ get (put_all (at_number e.number cs)) v
+    by_number cs = ap (λ (c : Content). get c v) (put_cells-numbered empty e.number cs)
+
+    same : get (put_cells empty e.number (cells_above flushed e.number e.batch.cells)) v ≡ get (put_cells empty e.number e.batch.cells) v
+    same = by_number (cells_above flushed e.number e.batch.cells) ∙ kept_above flushed e.number v above e.batch.cells ∙ sym (by_number e.batch.cells)
+
+cut_none : (flushed : List ℕ → ℕ) (e : Entry) (v : VersionKey) (p : Payload) → e.number ≤ flushed v.key.family → Puts (cut_entry flushed e) v p → ⊥
+cut_none flushed e v p low puts =
+    let none : get (put_cells empty e.number (cells_above flushed e.number e.batch.cells)) v ≡ None =
+    ap (λ (c : Content). get c v) (put_cells-numbered empty e.number (cells_above flushed e.number e.batch.cells)) ∙ none_kept flushed e.number v low e.batch.cells in
+    absurd (cc (sym none ∙ puts))
+
+module _ (files : Files) (r : ℕ) (flushed : List ℕ → ℕ) (es : List Entry) (are : (f : List ℕ) → IsFlushed files r f (flushed f)) (unflushed : AreUnflushed files r es) (v : VersionKey) (p : Payload) where
+  abbrev cells : Content
+  cells = put_all (entries_cells flushed es)
+
+  -- what the entries' cells put is unflushed, and all that is
+  pub cells_unflushed : get cells v ≡ Some p → IsUnflushed files r v p
+  cells_unflushed is =
+      let h = (cut_has (cut_all flushed es) v p (cut_apart flushed es unflushed.apart)).0 (ap (λ (c : Content). get c v) (sym (put_entries_all flushed es empty)) ∙ is) in
+      let c = in_cut flushed es h.0 h.1 in
+      let puts : Puts (cut_entry flushed c.0) v p = subst (λ (d : Entry). Puts d v p) (sym c.2) h.2 in
+      let e = unflushed.each c.0 c.1 in
+      elim (cases_lt (flushed v.key.family) c.0.number) as (λ _. IsUnflushed files r v p) [
+        | inl above ↦ record { entry = c.0; logged = e.0; region = e.1; above = λ n f. (let low = (are v.key.family).bound n f in omega (arith, low, above)); puts = (cut_puts flushed c.0 v p above).1 puts }
+        | inr low ↦ absurd (cut_none flushed c.0 v p low puts)
+      ]
+
+  pub unflushed_cells : IsUnflushed files r v p → get cells v ≡ Some p
+  unflushed_cells u =
+      let above : flushed v.key.family < u.entry.number = elim (are v.key.family).reached as (λ _. flushed v.key.family < u.entry.number) [
+        | inl f ↦ u.above (flushed v.key.family) f
+        | inr zero ↦ (let given = logged_given files u.entry u.logged in omega (arith, zero, given))
+      ] in
+      let has = unflushed.all u.entry u.logged u.region (v.key.family, puts_family u.entry v p u.puts, λ n f. u.above n (subst (λ (q : ℕ). FlushesTo files q v.key.family n) u.region f)) in
+      ap (λ (c : Content). get c v) (put_entries_all flushed es empty)
+      ∙ (cut_has (cut_all flushed es) v p (cut_apart flushed es unflushed.apart)).1 (cut_entry flushed u.entry, to_cut flushed es u.entry has, (cut_puts flushed u.entry v p above).0 u.puts)
 
 pub one_sort : OneSortGivesTheBase
-one_sort files r ss es stores unflushed v p = (forth, back)
+one_sort files r flushed ss es are stores unflushed v p = (forth, back)
   where
     each : Each ss
-    each x has = (stores.each x has).1.text.store.rising
+    each x has = (stores.each x has).1.file.text.store.rising
 
-    both : get (put_all (stores_cells ss ++ entries_cells es)) v ≡ or_else (get (put_entries empty es) v) (get (put_all (stores_cells ss)) v)
-    both =
-        ap (λ (c : Content). get c v) (put_numbered-append empty (stores_cells ss) (entries_cells es)) ∙ get-put_numbered (put_all (stores_cells ss)) (entries_cells es) v
-        ∙ ap (λ (c : Content). or_else (get c v) (get (put_all (stores_cells ss)) v)) (put_entries_all es empty)
+    both : get (put_all (stores_cells ss ++ entries_cells flushed es)) v ≡ or_else (get (put_all (entries_cells flushed es)) v) (get (put_all (stores_cells ss)) v)
+    both = ap (λ (c : Content). get c v) (put_numbered-append empty (stores_cells ss) (entries_cells flushed es)) ∙ get-put_numbered (put_all (stores_cells ss)) (entries_cells flushed es) v
 
-    forth : get (put_all (stores_cells ss ++ entries_cells es)) v ≡ Some p → IsRecovered files r v p
-    forth is = elim (or_cases (get (put_entries empty es) v) (get (put_all (stores_cells ss)) v) p (sym both ∙ is)) as (λ _. IsRecovered files r v p) [
-      | inl new ↦ (
-          let h = (cut_has es v p unflushed.apart).0 new in
-          let e = unflushed.each h.0 h.1 in
-          inr (record { entry = h.0; logged = e.0; region = e.1; above = e.2; puts = h.2 }))
+    forth : get (put_all (stores_cells ss ++ entries_cells flushed es)) v ≡ Some p → IsRecovered files r v p
+    forth is = elim (or_cases (get (put_all (entries_cells flushed es)) v) (get (put_all (stores_cells ss)) v) p (sym both ∙ is)) as (λ _. IsRecovered files r v p) [
+      | inl new ↦ inr (cells_unflushed files r flushed es are unflushed v p new)
       | inr old ↦ (
           let h = got_newest ss v p each stores.rising old.1 in
           let f = stores.each h.at h.among in
@@ -226,14 +344,15 @@ one_sort files r ss es stores unflushed v p = (forth, back)
           }))
     ]
 
-    back : IsRecovered files r v p → get (put_all (stores_cells ss ++ entries_cells es)) v ≡ Some p
-    back (inl st) = both ∙ or_second (get (put_entries empty es) v) (get (put_all (stores_cells ss)) v) p
-        (elim (option_cases (get (put_entries empty es) v)) as (λ _. get (put_entries empty es) v ≡ None) [
+    back : IsRecovered files r v p → get (put_all (stores_cells ss ++ entries_cells flushed es)) v ≡ Some p
+    back (inl st) = both ∙ or_second (get (put_all (entries_cells flushed es)) v) (get (put_all (stores_cells ss)) v) p
+        (elim (option_cases (get (put_all (entries_cells flushed es)) v)) as (λ _. get (put_all (entries_cells flushed es)) v ≡ None) [
           | inl none ↦ none
           | inr some ↦
-              let h = (cut_has es v some.0 unflushed.apart).0 some.1 in
-              let above = (unflushed.each h.0 h.1).2 st.store.to (st.name, st.store, st.file, refl) in
-              absurd (omega (arith, above, puts_number h.0 v some.0 h.2, (held_range r st.file.bytes st.store v p st.file.text st.holds).1))
+              let u = cells_unflushed files r flushed es are unflushed v some.0 some.1 in
+              let is_for = held_family r st.file.file.bytes st.store v p st.file.file.text st.holds in
+              let above = u.above st.store.to (st.name, st.store, st.file, is_for, refl) in
+              absurd (omega (arith, above, puts_number u.entry v some.0 u.puts, (held_range r st.file.file.bytes st.store v p st.file.file.text st.holds).1))
         ])
         (newest_got ss v p each stores.rising (record {
           at = (st.name.number, st.store);
@@ -241,4 +360,4 @@ one_sort files r ss es stores unflushed v p = (forth, back)
           holds = st.holds;
           last = λ y q has holds. (let f = stores.each y has in let low : f.0.number ≤ st.name.number = st.newest f.0 y.1 q f.1 holds in omega (arith, low, f.2));
         }))
-    back (inr u) = both ∙ or_first (get (put_entries empty es) v) (get (put_all (stores_cells ss)) v) p ((cut_has es v p unflushed.apart).1 (u.entry, unflushed.all u.entry u.logged u.region u.above, u.puts))
+    back (inr u) = both ∙ or_first (get (put_all (entries_cells flushed es)) v) (get (put_all (stores_cells ss)) v) p (unflushed_cells files r flushed es are unflushed v p u)

@@ -1,5 +1,5 @@
 -- How what was read and left of a store goes to its regions.
-use Rattle.std.specs.Prelude.{◌≡◌, ◌≢◌, ◌⊎◌, ◌+◌, ◌-◌, ◌<◌, ◌≤◌, ◌^◌, ◌==◌, ◌&&◌, max, Bool, true, false, ℕ, List, [], ◌∷◌, ◌++◌, filter, length, Contains, slice_index, slice_index_or, slice_set}
+use Rattle.std.specs.Prelude.{◌≡◌, ◌≢◌, ◌⊎◌, ◌+◌, ◌-◌, ◌<◌, ◌≤◌, ◌^◌, ◌==◌, ◌&&◌, max, Bool, true, false, ℕ, List, [], ◌∷◌, ◌++◌, filter, length, Contains, slice_index_or, slice_set}
 use Rattle.std.specs.List.{flat_map}
 use Rattle.cell_model.specs.Order.{NumberedCell}
 use Rattle.log_model.specs.declared.name.Name.{Name}
@@ -8,6 +8,7 @@ use Rattle.log_model.specs.declared.name.NameKind.TheVariants as kinds
 use Rattle.log_model.specs.Entry.{Entry, IsEntry}
 use Rattle.log_model.specs.Recovered.{entries_of}
 use Rattle.found_files.specs.declared.found.FoundStore.{FoundStore}
+use Rattle.wal_split.specs.declared.flushed.RegionFlushed.{RegionFlushed}
 use Rattle.wal_split.specs.declared.job.EditsJob.{EditsJob}
 use Rattle.region_replay.specs.declared.found.RegionFiles.{RegionFiles}
 
@@ -42,7 +43,7 @@ abbrev pub IsNext : ℕ → List Name → ℕ → Type 0
 IsNext r ns n = (n ≡ 1) ⊎ ((m : Name) × Contains ns m × (m.kind ≡ kinds.Store) × (m.region ≡ r) × (n ≡ m.number + 1))
 
 -- A region has the entries of its edits file that was written, and its part of these names, stores and entries.
-pub record IsDealt (job : EditsJob) (r upto : ℕ) (ns : List Name) (ss : List FoundStore) (ks : List Entry) (x : RegionFiles) : Type 0 where
+pub record IsDealt (job : EditsJob) (r : ℕ) (upto : RegionFlushed) (ns : List Name) (ss : List FoundStore) (ks : List Entry) (x : RegionFiles) : Type 0 where
   pub region : x.region ≡ r
   pub stored : x.stored ≡ cells_of (stores_of r ss)
   pub unflushed : x.unflushed.items ≡ job.entries.items ++ entries_of r ks
@@ -52,16 +53,16 @@ pub record IsDealt (job : EditsJob) (r upto : ℕ) (ns : List Name) (ss : List F
   pub next : IsNext r ns x.next_store
 
 -- each has the entries of its edits file and nothing else yet
-pub record AreBegun (jobs : List EditsJob) (flushed : List ℕ) (xs : List RegionFiles) : Type 0 where
+pub record AreBegun (jobs : List EditsJob) (flushed : List RegionFlushed) (xs : List RegionFiles) : Type 0 where
   pub long : length xs ≡ length jobs
-  pub each : (k : ℕ) (d : RegionFiles) (j : EditsJob) → k < length jobs
-      → IsDealt (slice_index_or jobs k j) (slice_index_or jobs k j).name.region (slice_index flushed (slice_index_or jobs k j).name.region) [] [] [] (slice_index_or xs k d)
+  pub each : (k : ℕ) (d : RegionFiles) (j : EditsJob) (u : RegionFlushed) → k < length jobs
+      → IsDealt (slice_index_or jobs k j) (slice_index_or jobs k j).name.region (slice_index_or flushed (slice_index_or jobs k j).name.region u) [] [] [] (slice_index_or xs k d)
 
 -- each of the regions 1 to 64 has
-pub record AreDealt (jobs : List EditsJob) (flushed : List ℕ) (ns : List Name) (ss : List FoundStore) (ks : List Entry) (xs : List RegionFiles) : Type 0 where
+pub record AreDealt (jobs : List EditsJob) (flushed : List RegionFlushed) (ns : List Name) (ss : List FoundStore) (ks : List Entry) (xs : List RegionFiles) : Type 0 where
   pub long : length xs ≡ 64
-  pub each : (k : ℕ) (d : RegionFiles) (j : EditsJob) → k < 64
-      → IsDealt (slice_index_or jobs k j) (k + 1) (slice_index flushed (k + 1)) ns ss ks (slice_index_or xs k d)
+  pub each : (k : ℕ) (d : RegionFiles) (j : EditsJob) (u : RegionFlushed) → k < 64
+      → IsDealt (slice_index_or jobs k j) (k + 1) (slice_index_or flushed (k + 1) u) ns ss ks (slice_index_or xs k d)
   pub valid : (e : Entry) → Contains ks e → IsEntry e
 
 -- the region r alone makes a step

@@ -1,5 +1,5 @@
 -- A region that was recovered.
-use Rattle.std.specs.Prelude.{◌≡◌, ℕ, ◌+◌, ◌<◌, ◌≤◌, ◌^◌, Some, refl}
+use Rattle.std.specs.Prelude.{◌≡◌, ℕ, ◌+◌, ◌<◌, ◌≤◌, ◌^◌, List, Some, refl}
 use Rattle.std.specs.FinMap.{get}
 use Rattle.std.specs.Coded.{Coded, code_by, coded×, coded_ℕ}
 use Rattle.mem_segments.specs.Codes.{coded_base}
@@ -24,11 +24,12 @@ pub record IsWithin (x : Found) : Type 0 where
   pub store_given : 1 ≤ x.next_store
   pub store : x.next_store ≤ 2 ^ 63 + 1
 
--- it is what the old files recover to for the region, and the new ones are flushed up to its last sequence id
+-- it is what the old files recover to for the region, and the new ones are flushed up to its last sequence id, the whole
+-- region (of which the empty family tells) and each family
 pub record IsOf (old new : Files) (r : ℕ) (x : Found) : Type 0 where
   pub content : IsContent (IsRecovered old r) x.base.content
   pub last : IsLast old r x.base.last
-  pub flushed : IsFlushed new r x.flushed
+  pub flushed : (f : List ℕ) → IsFlushed new r f x.flushed
   pub next : (m : Name) → m.kind ≡ kinds.Store → m.region ≡ r → IsPresent new m → m.number < x.next_store
   -- the next store's number is above those of the region's stores by no more than the flushed sequence id and one
   pub few : (n : ℕ) → ((m : Name) → m.kind ≡ kinds.Store → m.region ≡ r → IsPresent new m → m.number ≤ n) → x.next_store ≤ n + 1 + x.flushed

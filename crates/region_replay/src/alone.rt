@@ -13,7 +13,7 @@ use crate::dealing::append_cells;
 use crate::found::RegionFiles;
 use disk_images::{Name, NameKind};
 use entry_frame::Entry;
-use found_files::{FoundFiles, FoundStore, RegionFinding};
+use found_files::{FoundFiles, FoundStore, RegionFinding, counting_stores};
 use kv_cell::{NoMemory, NumberedCells};
 use std::alloc::Global;
 use wal_split::{flushed_numbers, gather};
@@ -39,11 +39,12 @@ pub(crate) fn region_of(
     let FoundFiles { entries, stores } = files;
     let next_store = next_store(&names)?;
     let edits = edits_of(alloc, &names)?;
-    let numbers = flushed_numbers(alloc, &stores)?;
+    let stores = counting_stores(alloc, stores)?;
+    let mut numbers = flushed_numbers(alloc, &stores)?;
     let pending = gather(alloc, entries, &numbers)?;
     let unflushed = of_region(alloc, region, pending.kept)?;
     let stored = all_cells(alloc, stores)?;
-    let flushed = numbers[region as usize];
+    let flushed = numbers.swap_remove(region as usize);
     Ok(RegionFiles {
         region,
         stored,

@@ -7,18 +7,19 @@ use entry_frame::Entry;
 use kv_cell::NumberedCells;
 use mem_segments::Base;
 use std::marker::Model;
+use wal_split::RegionFlushed;
 
 /// What stands in the files of one region, once the logs were split.
 #[derive(Drop)]
 pub struct RegionFiles {
     /// 1 to 64.
     pub region: u32,
-    /// The cells of its store files, in the order of the files' numbers.
+    /// The cells of its store files that count, in the order of the files' numbers.
     pub stored: NumberedCells,
-    /// The entries above the flushed sequence id, each once.
+    /// The entries with a cell above what is flushed of the cell's family, each once.
     pub unflushed: Vec<Entry>,
-    /// The last flushed sequence id, 0 where there is no store file.
-    pub flushed: u64,
+    /// Up to which sequence ids it is flushed.
+    pub flushed: RegionFlushed,
     /// A number above those of all its store files.
     pub next_store: u64,
     /// The names of its edits files.
@@ -30,7 +31,7 @@ pub struct RegionFiles {
 pub struct Replayed {
     /// Its cells, and the last sequence id that was seen.
     pub base: Base,
-    /// The last flushed sequence id: the last one seen.
+    /// The last flushed sequence id, of the whole region and so of each family: the last one seen.
     pub flushed: u64,
     /// A number above those of all its store files, at most 2^63+1.
     pub next_store: u64,

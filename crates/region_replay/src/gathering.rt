@@ -1,11 +1,11 @@
 //! The cells of a region.
 
-ghost use Rattle.std.specs.Prelude.{◌≡◌, [], ◌∷◌, ◌++◌, ◌<◌, Contains, IfOk, OnOk};
+ghost use Rattle.std.specs.Prelude.{◌≡◌, [], ◌∷◌, ◌++◌, IfOk, OnOk};
 ghost use Rattle.std.specs.FinMap.{empty};
 ghost use Rattle.cell_model.specs.Join.{joined};
 ghost use Rattle.cell_model.specs.Merge.{at_number, put_numbered};
-ghost use Rattle.log_model.specs.Entry.{Entry as TheEntry};
-ghost use Rattle.region_replay.specs.Bases.{entries_cells};
+ghost use Rattle.wal_split.specs.Flushed.{flushed_of};
+ghost use Rattle.region_replay.specs.Bases.{cells_above, entries_cells};
 ghost use Rattle.region_replay.specs.Regions.{IsTop};
 
 use entry_frame::Entry;
@@ -13,31 +13,62 @@ use kv_cell::{Cell, NoMemory, NumberedCells};
 use mem_segments::{Base, Segment, merge};
 use std::alloc::Global;
 use std::sync::Arc;
+use wal_split::RegionFlushed;
 
-/// The cells of these entries, each with its entry's sequence id. No byte is copied.
-pub(crate) fn entry_cells(alloc: Global, entries: Vec<Entry>) -> Result<NumberedCells, NoMemory>
-    ensures { IfOk result (λ cells. cells ≡ entries_cells entries.items) }
+/// The cells of these entries that are above what is flushed of their families, each with its entry's sequence id. No byte
+/// is copied.
+pub(crate) fn entry_cells(
+    alloc: Global,
+    entries: Vec<Entry>,
+    flushed: &RegionFlushed,
+) -> Result<NumberedCells, NoMemory>
+    ensures { IfOk result (λ cells. cells ≡ entries_cells (flushed_of flushed.now) entries.items) }
 {
     let mut cells = NumberedCells::new(alloc);
     for entry in entries {
-        add_cells(&mut cells, entry)?;
+        add_cells(&mut cells, entry, flushed)?;
     }
     Ok(cells)
 }
 
-/// Adds the cells of an entry.
-fn add_cells(cells: &mut NumberedCells, entry: Entry) -> Result<(), NoMemory>
-    ensures { OnOk result (cells.new ≡ cells.old ++ at_number entry.number entry.batch.cells) }
+/// Adds the unflushed cells of an entry.
+fn add_cells(
+    cells: &mut NumberedCells,
+    entry: Entry,
+    flushed: &RegionFlushed,
+) -> Result<(), NoMemory>
+    ensures { OnOk result (cells.new ≡ cells.old
+        ++ at_number entry.number (cells_above (flushed_of flushed.now) entry.number entry.batch.cells)) }
 {
     let number = entry.number;
-    push_all(cells, number, entry.batch.into_vec())
+    push_above(cells, number, entry.batch.into_vec(), flushed)
 }
 
-/// Adds cells with this sequence id.
-fn push_all(cells: &mut NumberedCells, number: u64, more: Vec<Cell>) -> Result<(), NoMemory>
-    ensures { OnOk result (cells.new ≡ cells.old ++ at_number number more.items) }
+/// Adds those of these cells that are above what is flushed of their families, with this sequence id.
+fn push_above(
+    cells: &mut NumberedCells,
+    number: u64,
+    more: Vec<Cell>,
+    flushed: &RegionFlushed,
+) -> Result<(), NoMemory>
+    ensures { OnOk result (cells.new ≡ cells.old ++ at_number number (cells_above (flushed_of flushed.now) number more.items)) }
 {
     for cell in more {
+        push_unflushed(cells, number, cell, flushed)?;
+    }
+    Ok(())
+}
+
+/// Adds a cell where this sequence id is above what is flushed of its family.
+fn push_unflushed(
+    cells: &mut NumberedCells,
+    number: u64,
+    cell: Cell,
+    flushed: &RegionFlushed,
+) -> Result<(), NoMemory>
+    ensures { OnOk result (cells.new ≡ cells.old ++ at_number number (cells_above (flushed_of flushed.now) number (cell ∷ []))) }
+{
+    if flushed.of(cell.family.as_slice()) < number {
         cells.push(number, cell)?;
     }
     Ok(())
@@ -69,12 +100,11 @@ pub(crate) fn base_with(
     Ok(Base { cells, last })
 }
 
-/// The greatest sequence id of these entries, and this one, which they are all above, where there is none.
-pub(crate) fn last_number(entries: &[Entry], none: u64) -> u64
-    requires { (e : TheEntry) → Contains entries.now e → none < e.number }
-    ensures { IsTop entries.now none result }
+/// The greatest of this number and the sequence ids of these entries.
+pub(crate) fn last_number(entries: &[Entry], low: u64) -> u64
+    ensures { IsTop entries.now low result }
 {
-    let mut last = none;
+    let mut last = low;
     for entry in entries {
         last = last.max(entry.number);
     }

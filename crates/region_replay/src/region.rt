@@ -1,6 +1,6 @@
 //! The replay of one region whose files were read.
 
-ghost use Rattle.std.specs.Prelude.{◌≡◌, ◌≢◌, ◌<◌, ◌+◌, ℕ, List, [], Contains, IsTrue, IfOk, OnOk, IsErrOf};
+ghost use Rattle.std.specs.Prelude.{◌≡◌, ◌≢◌, ◌<◌, ℕ, List, Contains, IsTrue, IfOk, OnOk, IsErrOf};
 ghost use Rattle.log_model.specs.declared.name.Name.{Name as TheName};
 ghost use Rattle.log_model.specs.declared.name.NameKind.TheVariants as kinds;
 ghost use Rattle.log_model.specs.Files.{Files, Reads, IsAbsent, content};
@@ -10,7 +10,7 @@ ghost use Rattle.wal_split.specs.Held.{IsHeld};
 ghost use Rattle.wal_split.specs.Moments.{During};
 ghost use Rattle.region_replay.specs.Names.{store_name};
 ghost use Rattle.region_replay.specs.Ready.{IsOf};
-ghost use Rattle.region_replay.specs.Regions.{IsInOrder, IsFound};
+ghost use Rattle.region_replay.specs.Regions.{IsInOrder, IsFound, IsTop};
 
 use crate::found::{RegionFiles, Replayed};
 use crate::gathering::{base_of, base_with, entry_cells, last_number};
@@ -21,9 +21,10 @@ use log_file::FileRefusal;
 use mem_segments::Segment;
 use std::alloc::Global;
 
-/// Writes what is unflushed of a region as its next store, and removes its edits files. Where nothing is unflushed, no store
-/// is written. Out of memory may come before anything is written, or when the files are as they are after Ok: then too each
-/// image recovers as before.
+/// Writes the cells of a region that aren't flushed as its next store, which has no family and goes from one above what is
+/// flushed of the whole region up to the last sequence id seen, and removes its edits files. The store is written even
+/// without a cell, and none is written where the whole region is flushed up to the last. Out of memory may come before
+/// anything is written, or when the files are as they are after Ok: then too each image recovers as before.
 pub(crate) fn replay_region<D: Disk>(
     alloc: Global,
     disk: &mut D,
@@ -49,20 +50,21 @@ pub(crate) fn replay_region<D: Disk>(
         → content (D.view disk.new).files m ≡ content (D.view disk.old).files m) }
     ensures cause { HasCause (D.faults disk.old) (D.faults disk.new) (IsErrOf result FileRefusal.DiskFault) }
 {
-    if found.unflushed.is_empty() {
+    let last = last_number(&found.unflushed, found.flushed.last);
+    if found.flushed.whole == last {
         return drop_edits(alloc, disk, found);
     }
-    store_region(alloc, disk, found)
+    store_region(alloc, disk, found, last)
 }
 
-/// The same where nothing is unflushed: the edits files go.
+/// The same where the whole region is flushed up to its last sequence id: the edits files go.
 fn drop_edits<D: Disk>(
     alloc: Global,
     disk: &mut D,
     found: RegionFiles,
 ) -> Result<Replayed, FileRefusal>
     requires order { IsInOrder (IsTrue D.told) found }
-    requires none { found.unflushed.items ≡ [] }
+    requires over { IsTop found.unflushed.items found.flushed.last found.flushed.whole }
     requires there { IsTrue D.told → (m : TheName) → Contains found.edits.items m → ∥ ((c : List ℕ)
         × Reads (D.view disk.old).files m c) ∥₁ }
 
@@ -80,10 +82,11 @@ fn drop_edits<D: Disk>(
         → content (D.view disk.new).files m ≡ content (D.view disk.old).files m) }
     ensures cause { HasCause (D.faults disk.old) (D.faults disk.new) (IsErrOf result FileRefusal.DiskFault) }
 {
-    let base = base_of(alloc, found.stored, found.flushed)?;
+    let last = found.flushed.whole;
+    let base = base_of(alloc, found.stored, last)?;
     let replayed = Replayed {
         base,
-        flushed: found.flushed,
+        flushed: last,
         next_store: found.next_store,
     };
     match remove_all(disk, &found.edits) {
@@ -92,14 +95,16 @@ fn drop_edits<D: Disk>(
     }
 }
 
-/// The same where some entries are unflushed: they go into a store first.
+/// The same where the whole region is flushed up to a lower sequence id than its last: a store is written first.
 fn store_region<D: Disk>(
     alloc: Global,
     disk: &mut D,
     found: RegionFiles,
+    last: u64,
 ) -> Result<Replayed, FileRefusal>
     requires order { IsInOrder (IsTrue D.told) found }
-    requires some { found.unflushed.items ≢ [] }
+    requires last { IsTop found.unflushed.items found.flushed.last last }
+    requires more { found.flushed.whole < last }
     requires absent { IsTrue D.told → IsAbsent (D.view disk.old).files (store_name found.region found.next_store)
         × (¬ (D.view disk.old).gone (store_name found.region found.next_store)) }
     requires there { IsTrue D.told → (m : TheName) → Contains found.edits.items m → ∥ ((c : List ℕ)
@@ -119,20 +124,19 @@ fn store_region<D: Disk>(
         → content (D.view disk.new).files m ≡ content (D.view disk.old).files m) }
     ensures cause { HasCause (D.faults disk.old) (D.faults disk.new) (IsErrOf result FileRefusal.DiskFault) }
 {
-    let from = found.flushed + 1;
-    let to = last_number(&found.unflushed, found.flushed);
-    let cut = entry_cells(alloc, found.unflushed)?;
+    let from = found.flushed.whole + 1;
+    let cut = entry_cells(alloc, found.unflushed, &found.flushed)?;
     let stored = Segment::of_cells(alloc, found.stored)?;
     let name = Name {
         kind: NameKind::Store,
         region: found.region,
         number: found.next_store,
     };
-    let unflushed = replay_found(alloc, disk, name, from, to, cut, &found.edits)?;
-    let base = base_with(alloc, stored, unflushed, to)?;
+    let unflushed = replay_found(alloc, disk, name, from, last, cut, &found.edits)?;
+    let base = base_with(alloc, stored, unflushed, last)?;
     Ok(Replayed {
         base,
-        flushed: to,
+        flushed: last,
         next_store: found.next_store + 1,
     })
 }

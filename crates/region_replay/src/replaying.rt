@@ -11,6 +11,7 @@ ghost use Rattle.disk_images.specs.Crash.{Throughout};
 ghost use Rattle.disk_images.specs.Calls.{HasCause};
 ghost use Rattle.flush_snapshot.specs.Cut.{IsWithin};
 ghost use Rattle.recovery.specs.Alike.{AllAlike};
+ghost use Rattle.recovery.specs.Kept.{IsNotReplaced};
 ghost use Rattle.wal_split.specs.Held.{IsHeld};
 ghost use Rattle.region_replay.specs.Cuts.{IsUnflushedCut, AreEdits, EditsUpTo};
 
@@ -41,13 +42,14 @@ pub(crate) fn replay_found<D: Disk>(
         × Reads (D.view disk.old).files m c) ∥₁ }
 
     ensures any_moment { IsTrue D.told → (base : Files) → IsHeld base (D.view disk.old)
-        → IsUnflushedCut (D.view disk.old).files name.region to cut
+        → IsUnflushedCut (D.view disk.old).files name to cut
         → EditsUpTo (D.view disk.old).files name.region to names.now → (by : ℕ)
         × Throughout (AllAlike base) by (D.view disk.old) (D.view disk.new) }
     ensures held { IsTrue D.told → (base : Files) → IsHeld base (D.view disk.old)
-        → IsUnflushedCut (D.view disk.old).files name.region to cut
+        → IsUnflushedCut (D.view disk.old).files name to cut
         → EditsUpTo (D.view disk.old).files name.region to names.now → OnOk result (IsHeld base (D.view disk.new)) }
-    ensures flushed { IsTrue D.told → OnOk result (FlushesTo (D.view disk.new).files name.region to) }
+    ensures flushed { IsTrue D.told → IsNotReplaced (D.view disk.old).files name
+        → OnOk result ((f : List ℕ) → FlushesTo (D.view disk.new).files name.region f to) }
     ensures gone { IsTrue D.told → OnOk result ((m : TheName) → Contains names.now m
         → IsAbsent (D.view disk.new).files m) }
     ensures others { IsTrue D.told → OnOk result ((m : TheName) → m ≢ name → ((n : TheName) → Contains names.now n

@@ -1,6 +1,6 @@
 //! What is unflushed of a region goes into a store file.
 
-ghost use Rattle.std.specs.Prelude.{◌≡◌, ◌≤◌, ◌<◌, ◌^◌, ℕ, IsTrue, IfOk, OnOk, IsErrOf};
+ghost use Rattle.std.specs.Prelude.{◌≡◌, ◌≤◌, ◌<◌, ◌^◌, ℕ, List, IsTrue, IfOk, OnOk, IsErrOf};
 ghost use Rattle.std.specs.FinMap.{empty};
 ghost use Rattle.cell_model.specs.Merge.{put_numbered};
 ghost use Rattle.log_model.specs.declared.name.NameKind.TheVariants as kinds;
@@ -11,6 +11,7 @@ ghost use Rattle.disk_images.specs.OneFile.{Touches};
 ghost use Rattle.disk_images.specs.Calls.{HasCause};
 ghost use Rattle.flush_snapshot.specs.Cut.{IsWithin};
 ghost use Rattle.recovery.specs.Alike.{AllAlike};
+ghost use Rattle.recovery.specs.Kept.{IsNotReplaced};
 ghost use Rattle.wal_split.specs.Held.{IsHeld};
 ghost use Rattle.region_replay.specs.Cuts.{IsUnflushedCut};
 
@@ -21,7 +22,7 @@ use log_file::FileRefusal;
 use mem_segments::Segment;
 use std::alloc::Global;
 
-/// Writes the region's unflushed cells as its next store file, and hands them back in order. Each image recovers as before.
+/// Writes the region's unflushed cells as its next store file, of all families, and hands them back in order. Each image recovers as before.
 pub(crate) fn store_unflushed<D: Disk>(
     alloc: Global,
     disk: &mut D,
@@ -36,11 +37,12 @@ pub(crate) fn store_unflushed<D: Disk>(
     requires within { IsWithin from to cut }
 
     ensures any_moment { IsTrue D.told → (base : Files) → IsHeld base (D.view disk.old)
-        → IsUnflushedCut (D.view disk.old).files name.region to cut → (by : ℕ)
+        → IsUnflushedCut (D.view disk.old).files name to cut → (by : ℕ)
         × Throughout (AllAlike base) by (D.view disk.old) (D.view disk.new) }
     ensures held { IsTrue D.told → (base : Files) → IsHeld base (D.view disk.old)
-        → IsUnflushedCut (D.view disk.old).files name.region to cut → OnOk result (IsHeld base (D.view disk.new)) }
-    ensures flushed { IsTrue D.told → OnOk result (FlushesTo (D.view disk.new).files name.region to) }
+        → IsUnflushedCut (D.view disk.old).files name to cut → OnOk result (IsHeld base (D.view disk.new)) }
+    ensures flushed { IsTrue D.told → IsNotReplaced (D.view disk.old).files name
+        → OnOk result ((f : List ℕ) → FlushesTo (D.view disk.new).files name.region f to) }
     ensures cells { IfOk result (λ segment. segment ≡ put_numbered empty cut) }
     ensures memory { IsErrOf result FileRefusal.Memory → disk.new ≡ disk.old }
     ensures touches { IsTrue D.told → Touches name (D.view disk.old) (D.view disk.new) }

@@ -1,5 +1,5 @@
 -- What a split leaves, told from its plan.
-use Rattle.std.proofs.Common.{◌≡◌, ◌≢◌, ◌⊎◌, inl, inr, ℕ, ◌+◌, ◌-◌, ◌<◌, ◌≤◌, List, [], ◌∷◌, get_or, Contains, Some, None, refl, sym, ap, ◌∙◌, subst, arith}
+use Rattle.std.proofs.Common.{◌≡◌, ◌≢◌, ◌⊎◌, inl, inr, ℕ, ◌+◌, ◌-◌, ◌<◌, ◌≤◌, List, [], ◌∷◌, get_or, Contains, None, refl, sym, ap, ◌∙◌, subst, arith}
 use Rattle.std.specs.Prelude.{AllPairs}
 use Rattle.std.specs.FinMap.{keys}
 use Rattle.std.specs.declared.cmp.Ordering.TheVariants.{Less}
@@ -10,36 +10,36 @@ use Rattle.std.proofs.lemmas.List.Elements.{Contains-get_or}
 use Rattle.log_model.specs.declared.name.Name.{Name}
 use Rattle.log_model.specs.declared.name.NameKind.TheVariants as kinds
 use Rattle.log_model.specs.Entry.{Entry}
-use Rattle.log_model.specs.StoreText.{Store, IsStoreText}
-use Rattle.log_model.specs.Files.{Files, content, name_cmp, IsPresent, IsLogFile, IsLogged, IsStoreFile}
-use Rattle.log_model.specs.Recovered.{FlushesTo, is_of}
+use Rattle.log_model.specs.StoreText.{Store}
+use Rattle.log_model.specs.Files.{Files, content, name_cmp, IsPresent, IsLogFile, IsLogged}
+use Rattle.log_model.specs.Recovered.{IsCounting, is_of}
 use Rattle.disk_images.specs.Crash.{DiskView}
 use Rattle.disk_images.specs.Calls.{IsTrueDisk}
 use Rattle.disk_images.specs.Settled.{IsSettled}
 use Rattle.disk_images.proofs.Settled.{among_names, there_of, present_cases}
 use Rattle.recovery.specs.Change.{HasText}
-use Rattle.recovery.proofs.OneStore.{one_store}
-use Rattle.recovery.proofs.Stores.{store_kept, flushes_kept}
+use Rattle.recovery.proofs.Stores.{counts_kept, flushes_kept}
 use Rattle.found_files.specs.declared.found.FoundEntry.{FoundEntry}
 use Rattle.found_files.specs.declared.found.FoundStore.{FoundStore}
 use Rattle.found_files.specs.Found.{AreRead, store_of, place_in}
+use Rattle.found_files.specs.Counting.{AreCounting, AreCountingOf}
 use Rattle.found_files.proofs.Files.{one_list}
 use Rattle.found_files.proofs.Placing.{first_in}
 use Rattle.found_files.proofs.NameOrder.{names_rise}
 use Rattle.wal_split.specs.declared.job.EditsJob.{EditsJob}
 use Rattle.wal_split.specs.declared.split_files.SplitFiles.{SplitFiles}
-use Rattle.wal_split.specs.Unflushed.{IsAbove, IsBefore}
+use Rattle.wal_split.specs.Unflushed.{IsAbove, IsBefore, IsUnflushedEntry}
 use Rattle.wal_split.specs.Grouped.{edits_name}
 use Rattle.wal_split.specs.Jobs.{IsNoJob}
 use Rattle.wal_split.specs.Logs.{IsOther, log_name}
 use Rattle.wal_split.specs.Planned.{IsPlan}
 use Rattle.wal_split.specs.Left.{IsInRange, AreLeft, AtMostOneHigher, job_at}
-use Rattle.wal_split.proofs.Plans.{name_at, number_of, valid_entry, is_some_there, log_there, some_job, is_above, no_log_left, small_left, stores_left}
+use Rattle.wal_split.proofs.Plans.{name_at, number_of, valid_entry, is_some_there, log_there, some_job, is_above, counting_in, no_log_left, small_left, stores_left}
 use Rattle.wal_split.proofs.Turning.{edits_other}
 use Rattle.wal_split.proofs.Writing.{list_cases}
 
-pub in_range : (told : Type 0) (files : Files) (x : SplitFiles) (xs : List FoundEntry) → AreRead told files x.names x.names xs x.stores.items → IsPlan x.names xs x.stores.items x.plan → IsInRange x
-in_range told files x xs read plan = record {
+pub in_range : (told : Type 0) (files : Files) (x : SplitFiles) (xs : List FoundEntry) (every : List FoundStore) → AreRead told files x.names x.names xs every → AreCounting every x.stores.items → IsPlan x.names xs x.stores.items x.plan → IsInRange x
+in_range told files x xs every read counts plan = record {
   number = plan.number;
   low = plan.low;
   above = plan.above;
@@ -48,12 +48,9 @@ in_range told files x xs read plan = record {
   pending = λ k d e lt has. (let r = plan.jobs.each k d e lt has in let f = plan.parts.from_logs e r.0 in (r.1, r.2, f.4));
   kept = λ e has. (let f = plan.parts.from_edits e has in f.4);
   flushed = plan.are_flushed;
-  stores = λ y has. (let r = read.each y has in (r.0, subst (λ (n : Name). Contains x.names n) (sym r.1.2) r.1.1, ap (λ (n : Name). n.kind) r.1.2 ∙ r.1.3));
+  stores = λ y has. (let r = read.each y (counts.each y has).0 in (r.0, subst (λ (n : Name). Contains x.names n) (sym r.1.2) r.1.1, ap (λ (n : Name). n.kind) r.1.2 ∙ r.1.3));
   good = read.good;
 }
-
-same_bytes : (a b : List ℕ) → Some a ≡ Some b → a ≡ b
-same_bytes a b e = cc e
 
 first_of : {A : Type 0} (xs : List A) → xs ≢ [] → (x : A) × Contains xs x
 first_of [] some = absurd (some refl)
@@ -69,8 +66,8 @@ number_rise r es of rise i j d less lt =
       | inr same ↦ same.1
     ]
 
-module _ (told : Type 0) (is_told : told) (v : DiskView) (true_disk : IsTrueDisk v) (settled : IsSettled v) (x : SplitFiles) (xs : List FoundEntry)
-    (read : AreRead told v.files (keys v.files) (keys v.files) xs x.stores.items) (plan : IsPlan (keys v.files) xs x.stores.items x.plan) (named : x.names ≡ keys v.files)
+module _ (told : Type 0) (is_told : told) (v : DiskView) (true_disk : IsTrueDisk v) (settled : IsSettled v) (x : SplitFiles) (xs : List FoundEntry) (every : List FoundStore)
+    (read : AreRead told v.files (keys v.files) (keys v.files) xs every) (counts : AreCounting every x.stores.items) (plan : IsPlan (keys v.files) xs x.stores.items x.plan) (named : x.names ≡ keys v.files)
     (w : DiskView) (others : (m : Name) → IsNoJob x.plan.jobs.items m → IsOther x.plan.logs.items m → content w.files m ≡ content v.files m)
     (gone : (n : ℕ) → Contains x.plan.logs.items n → content w.files (log_name n) ≡ None)
     (written : (j : EditsJob) (e : Entry) → Contains x.plan.jobs.items j → Contains j.entries.items e → HasText j.name j.entries.items None (content w.files j.name)) where
@@ -78,7 +75,7 @@ module _ (told : Type 0) (is_told : told) (v : DiskView) (true_disk : IsTrueDisk
   jobs = x.plan.jobs.items
 
   abbrev job : EditsJob
-  job = some_job told is_told v true_disk settled xs x.stores.items x.plan read plan
+  job = some_job told is_told v true_disk settled xs every x.stores.items x.plan read counts plan
 
   among : (m : Name) → IsPresent v.files m → Contains x.names m
   among m here = subst (λ (l : List Name). Contains l m) (sym named) (among_names v.files m here)
@@ -87,10 +84,10 @@ module _ (told : Type 0) (is_told : told) (v : DiskView) (true_disk : IsTrueDisk
   was_there m has = subst (λ (l : List Name). Contains l m) named has
 
   stores_same : (m : Name) → m.kind ≡ kinds.Store → content w.files m ≡ content v.files m
-  stores_same = stores_left told is_told v true_disk settled xs x.stores.items x.plan read plan w others gone
+  stores_same = stores_left told is_told v true_disk settled xs every x.stores.items x.plan read counts plan w others gone
 
   none_logged : (m : Name) → m.kind ≡ kinds.Log → content w.files m ≡ None
-  none_logged = no_log_left told is_told v true_disk settled xs x.stores.items x.plan read plan w others gone
+  none_logged = no_log_left told is_told v true_disk settled xs every x.stores.items x.plan read counts plan w others gone
 
   -- an edits file of before is as it was
   edits_same : (m : Name) → Contains (keys v.files) m → m.kind ≡ kinds.Edits → content w.files m ≡ content v.files m
@@ -108,14 +105,11 @@ module _ (told : Type 0) (is_told : told) (v : DiskView) (true_disk : IsTrueDisk
   log_before : (m : Name) (l : List Entry) → Contains (keys v.files) m → m.kind ≡ kinds.Edits → IsLogFile w.files m l → IsLogFile v.files m l
   log_before m l has edits f = record { kind = f.kind; bytes = f.bytes; there = sym (edits_same m has edits) ∙ f.there; ended = f.ended; text = f.text }
 
-  store_before : (m : Name) (s : Store) → IsStoreFile w.files m.region m s → IsStoreFile v.files m.region m s
-  store_before m s f = store_kept w.files v.files (λ n store. sym (stores_same n store)) m.region m s f
+  counting_now : (r : ℕ) → AreCountingOf v.files r x.stores.items
+  counting_now = counting_in told is_told v true_disk settled xs every x.stores.items x.plan read counts plan
 
-  all_found : (m : Name) (s : Store) → IsStoreFile w.files m.region m s → (y : FoundStore) × Contains x.stores.items y × (y.name ≡ m) × (s ≡ store_of y)
-  all_found m s file =
-      let f = store_before m s file in
-      let r = read.stores is_told m f.bytes (among_names v.files m (is_some_there told is_told v true_disk settled xs x.stores.items x.plan read plan m f.bytes f.there)) f.kind f.there f.gate in
-      (r.0, r.1, r.2, one_store m.region f.bytes s (store_of r.0) f.text (subst (λ (b : List ℕ). IsStoreText m.region b (store_of r.0)) (same_bytes r.3.bytes f.bytes (sym r.3.there ∙ f.there)) r.3.text))
+  all_found : (m : Name) (s : Store) → IsCounting w.files m.region m s → (y : FoundStore) × Contains x.stores.items y × (y.name ≡ m) × (s ≡ store_of y)
+  all_found m s c = (counting_now m.region).all m s (counts_kept w.files v.files (λ n store. sym (stores_same n store)) m.region m s c)
 
   kept_now : (e : Entry) → Contains x.plan.kept.items e → (m : Name) × (l : List Entry) × (m.kind ≡ kinds.Edits) × IsLogFile w.files m l × Contains l e
   kept_now e has =
@@ -127,7 +121,7 @@ module _ (told : Type 0) (is_told : told) (v : DiskView) (true_disk : IsTrueDisk
           r.0.name,
           f.0,
           edits,
-          log_now r.0.name f.0 (among_names v.files r.0.name (is_some_there told is_told v true_disk settled xs x.stores.items x.plan read plan r.0.name f.1.bytes f.1.there)) edits f.1,
+          log_now r.0.name f.0 (among_names v.files r.0.name (is_some_there told is_told v true_disk settled xs every x.stores.items x.plan read counts plan r.0.name f.1.bytes f.1.there)) edits f.1,
           subst (λ (d : Entry). Contains f.0 d) r.2 f.2,
         )
       ]
@@ -177,11 +171,11 @@ module _ (told : Type 0) (is_told : told) (v : DiskView) (true_disk : IsTrueDisk
       go (inl number) (inr given) (inl high) = absurd (no_job (λ j has some is. (let a = named_at j has is in omega (arith, a.0, a.2, high))))
       go (inl number) (inr given) (inr low) = at_place number given low
 
-  all_left : (e : Entry) → IsLogged w.files e → ((n : ℕ) → FlushesTo w.files e.region n → n < e.number) → ((k : ℕ) × (k < 64) × ((d : EditsJob) → Contains (get_or jobs k d).entries.items e)) ⊎ Contains x.plan.kept.items e
-  all_left e logged above = elim logged.file.kind as (λ _. Left) [
+  all_left : (e : Entry) → IsLogged w.files e → IsUnflushedEntry w.files e → ((k : ℕ) × (k < 64) × ((d : EditsJob) → Contains (get_or jobs k d).entries.items e)) ⊎ Contains x.plan.kept.items e
+  all_left e logged unflushed = elim logged.file.kind as (λ _. Left) [
     | inl log ↦ absurd (cc (sym (none_logged logged.name log) ∙ logged.file.there))
     | inr edits ↦ elim (present_cases v.files logged.name) as (λ _. Left) [
-      | inr some ↦ old edits (among_names v.files logged.name (is_some_there told is_told v true_disk settled xs x.stores.items x.plan read plan logged.name some.0 some.1))
+      | inr some ↦ old edits (among_names v.files logged.name (is_some_there told is_told v true_disk settled xs every x.stores.items x.plan read counts plan logged.name some.0 some.1))
       | inl none ↦ new edits (job_of logged.name edits (λ gone_now. absurd (cc (sym gone_now ∙ logged.file.there))) none)
     ]
   ]
@@ -195,7 +189,7 @@ module _ (told : Type 0) (is_told : told) (v : DiskView) (true_disk : IsTrueDisk
           let r = read.logs is_told logged.name has (inr edits) in
           let member : Contains r.0 e = subst (λ (l : List Entry). Contains l e) (one_list v.files logged.name logged.entries r.0 f r.1) logged.member in
           let valid = valid_entry v.files logged.name logged.entries e f logged.member in
-          let abv : IsAbove x.plan.flushed.items e = is_above told is_told v true_disk settled xs x.stores.items x.plan read plan e valid (λ n g. above n (flushes_kept v.files w.files stores_same e.region n g)) in
+          let abv : IsAbove x.plan.flushed.items e = is_above told is_told v true_disk settled xs every x.stores.items x.plan read counts plan e valid (unflushed.0, unflushed.1, λ n g. unflushed.2 n (flushes_kept v.files w.files stores_same e.region unflushed.0 n g)) in
           elim (plan.parts.all (place_in logged.name e) (r.2 e member) abv) as (λ _. Left) [
             | inl in_log ↦ inl (plan.jobs.all e in_log)
             | inr in_edits ↦ inr in_edits
@@ -214,9 +208,9 @@ module _ (told : Type 0) (is_told : told) (v : DiskView) (true_disk : IsTrueDisk
 
   pub are_left : AreLeft w.files x
   are_left = record {
-    stores = λ y has. store_kept v.files w.files stores_same y.name.region y.name (store_of y) (read.from_stores is_told y has);
+    stores = λ y has. counts_kept v.files w.files stores_same y.name.region y.name (store_of y) ((counting_now y.name.region).each y has refl);
     all_stores = all_found;
-    rising = read.rising is_told;
+    rising = counts.rising (read.rising is_told);
     store_names = λ m store here. among m (λ none. here (stores_same m store ∙ none));
     stores_stay = λ m store has none. there_of v.files m (was_there m has) (sym (stores_same m store) ∙ none);
     names_rise = subst (λ (l : List Name). AllPairs (λ a b. name_cmp a b ≡ Less) l) (sym named) (names_rise v.files);
@@ -229,11 +223,11 @@ module _ (told : Type 0) (is_told : told) (v : DiskView) (true_disk : IsTrueDisk
     no_logs = none_logged;
     edits = λ m has edits. (let k = was_there m has in let r = read.logs is_told m k (inr edits) in (r.0, log_now m r.0 k edits r.1));
     all_edits = λ m edits here. elim (present_cases v.files m) as (λ _. Contains x.names m ⊎ ((k : ℕ) × (k < 64) × ((d : EditsJob) → (m ≡ (job_at x k d).name) × ((job_at x k d).entries.items ≢ [])))) [
-      | inr some ↦ inl (among m (is_some_there told is_told v true_disk settled xs x.stores.items x.plan read plan m some.0 some.1))
+      | inr some ↦ inl (among m (is_some_there told is_told v true_disk settled xs every x.stores.items x.plan read counts plan m some.0 some.1))
       | inl none ↦ inr (job_of m edits here none)
     ];
     all = all_left;
-    small = small_left told is_told v true_disk settled xs x.stores.items x.plan read plan w others gone;
+    small = small_left told is_told v true_disk settled xs every x.stores.items x.plan read counts plan w others gone;
   }
 
   pub one_higher : AtMostOneHigher v.files w.files
@@ -243,7 +237,7 @@ module _ (told : Type 0) (is_told : told) (v : DiskView) (true_disk : IsTrueDisk
   ]
     where
       log_small : (k : ℕ) → Contains x.plan.logs.items k → k ≤ n
-      log_small k has = bound (log_name k) (there_of v.files (log_name k) (log_there told is_told v true_disk settled xs x.stores.items x.plan read plan k has))
+      log_small k has = bound (log_name k) (there_of v.files (log_name k) (log_there told is_told v true_disk settled xs every x.stores.items x.plan read counts plan k has))
 
       new_small : plan.number ≤ n + 1
       new_small = elim plan.next as (λ _. plan.number ≤ n + 1) [
@@ -257,5 +251,5 @@ module _ (told : Type 0) (is_told : told) (v : DiskView) (true_disk : IsTrueDisk
           (λ i has. ((λ is. (let k : m.number ≡ i = ap (λ (y : Name). y.number) is in let l = log_small i has in omega (arith, high, k, l))), λ is. (let k : m.number ≡ i = ap (λ (y : Name). y.number) is in let l = log_small i has in omega (arith, high, k, l)))) in
           elim (present_cases v.files m) as (λ _. ⊥) [
             | inl none ↦ here (same ∙ none)
-            | inr some ↦ (let l = bound m (is_some_there told is_told v true_disk settled xs x.stores.items x.plan read plan m some.0 some.1) in omega (arith, high, l))
+            | inr some ↦ (let l = bound m (is_some_there told is_told v true_disk settled xs every x.stores.items x.plan read counts plan m some.0 some.1) in omega (arith, high, l))
           ]

@@ -1,13 +1,13 @@
 -- Between the edits files and the renames.
-use Rattle.std.proofs.Common.{◌≡◌, ◌≢◌, ◌⊎◌, inl, inr, ℕ, ◌+◌, ◌≤◌, List, Contains, Option, None, sym, ap, ◌∙◌, subst}
+use Rattle.std.proofs.Common.{◌≡◌, ◌≢◌, ◌⊎◌, inl, inr, ℕ, ◌+◌, List, Contains, Option, None, sym, ap, ◌∙◌, subst}
 use Rattle.log_model.specs.declared.name.Name.{Name}
 use Rattle.log_model.specs.declared.name.NameKind.TheVariants as kinds
 use Rattle.log_model.specs.Entry.{Entry}
 use Rattle.log_model.specs.Files.{Files, content, IsLogFile}
-use Rattle.log_model.specs.Recovered.{FlushesTo}
 use Rattle.disk_images.specs.Crash.{DiskView, Throughout}
 use Rattle.disk_images.proofs.Moments.{joined}
 use Rattle.recovery.specs.Change.{HasText}
+use Rattle.recovery.specs.Laws.{IsFlushedEntry}
 use Rattle.recovery.proofs.Stores.{flushes_kept}
 use Rattle.recovery.specs.Alike.{AllAlike}
 use Rattle.wal_split.specs.declared.job.EditsJob.{EditsJob}
@@ -31,12 +31,12 @@ module _ (v w : DiskView) (jobs : List EditsJob) (are : AreJobs jobs) (others : 
       let c = covered n has in
       (c.0, c.1, subst (λ (o : Option (List ℕ)). HasText (log_name n) c.0 c.1 o) (sym (other_kind (log_name n) (λ is. absurd cc))) c.2, λ e member. one e (c.3 e member))
     where
-      one : (e : Entry) → ((j : EditsJob) × Contains jobs j × Contains j.entries.items e) ⊎ ((m : ℕ) × FlushesTo v.files e.region m × (e.number ≤ m))
-          → ((m : Name) × (ds : List Entry) × (m.kind ≡ kinds.Edits) × IsLogFile w.files m ds × Contains ds e) ⊎ ((m : ℕ) × FlushesTo w.files e.region m × (e.number ≤ m))
+      one : (e : Entry) → ((j : EditsJob) × Contains jobs j × Contains j.entries.items e) ⊎ IsFlushedEntry v.files e
+          → ((m : Name) × (ds : List Entry) × (m.kind ≡ kinds.Edits) × IsLogFile w.files m ds × Contains ds e) ⊎ IsFlushedEntry w.files e
       one e (inl (j, has_job, in_it)) =
           let text = written j e has_job in_it in
           inl (j.name, j.entries.items, are.kind j has_job, record { kind = inr (are.kind j has_job); bytes = text.bytes; there = text.there; ended = None; text = text.text }, in_it)
-      one e (inr (m, f, low)) = inr (m, flushes_kept v.files w.files (λ n store. other_kind n (λ is. absurd (cc (sym store ∙ is)))) e.region m f, low)
+      one e (inr flushed) = inr (λ f has. (let h = flushed f has in (h.0, flushes_kept v.files w.files (λ n store. other_kind n (λ is. absurd (cc (sym store ∙ is)))) e.region f h.0 h.1, h.2)))
 
 pub then_both : (base : Files) (u v w : DiskView) (n : ℕ) → (m : ℕ) × Throughout (AllAlike base) m u v → Throughout (AllAlike base) n v w → (by : ℕ) × Throughout (AllAlike base) by u w
 then_both base u v w n first second = (first.0 + n, joined (AllAlike base) first.0 n u v w first.1 second)

@@ -16,6 +16,7 @@ use Rattle.found_files.specs.declared.found.FoundEntry.{FoundEntry}
 use Rattle.found_files.specs.Sorted.{IsOfSame, IsUpTo, AreOrdered, AllAgree}
 use Rattle.found_files.proofs.Agreement.{region_up, number_up}
 use Rattle.found_files.proofs.Placing.{none_in}
+use Rattle.wal_split.specs.declared.flushed.RegionFlushed.{RegionFlushed}
 use Rattle.wal_split.specs.declared.gathered.Unflushed.{Unflushed}
 use Rattle.wal_split.specs.Unflushed.{AreUnflushedOf, IsNew, IsAbove, IsBefore, Adds}
 
@@ -60,12 +61,12 @@ log_first y x (inl less) same log = absurd (omega (arith, less, same.0))
 log_first y x (inr (region, inl less)) same log = absurd (omega (arith, less, same.1))
 log_first y x (inr (region, inr (number, not))) same log = first_kind x.name.kind y.name.kind (ordering_then (nat_cmp x.name.region y.name.region) (nat_cmp x.name.number y.name.number)) log not
 
-pub record Going (ys : List FoundEntry) (flushed : List ℕ) (region number : ℕ) (ls ks : List Entry) : Type 0 where
+pub record Going (ys : List FoundEntry) (flushed : List RegionFlushed) (region number : ℕ) (ls ks : List Entry) : Type 0 where
   pub parts : AreUnflushedOf ys flushed ls ks
   pub last : (ys ≡ []) × (region ≡ 0) ⊎ ((y : FoundEntry) × Contains ys y × (y.entry.region ≡ region) × (y.entry.number ≡ number))
   pub upto : (z : FoundEntry) → Contains ys z → (z.entry.region ≤ region) × (z.entry.region ≡ region → z.entry.number ≤ number)
 
-module _ (ys : List FoundEntry) (flushed : List ℕ) (region number : ℕ) (x : FoundEntry) (old new : Unflushed) (so_far : Going ys flushed region number old.logged.items old.kept.items)
+module _ (ys : List FoundEntry) (flushed : List RegionFlushed) (region number : ℕ) (x : FoundEntry) (old new : Unflushed) (so_far : Going ys flushed region number old.logged.items old.kept.items)
     (ups : (z : FoundEntry) → Contains ys z → IsUpTo z x) (agree : (z : FoundEntry) → Contains ys z → IsOfSame z x → z.entry ≡ x.entry) (valid : IsEntry x.entry) where
   abbrev ls : List Entry
   ls = old.logged.items

@@ -6,6 +6,8 @@ pub mod Writing
 pub mod Covering
 pub mod Gathering
 pub mod Grouped
+pub mod Keys
+pub mod Above
 pub mod Raising
 pub mod LogNumbers
 pub mod Plans

@@ -1,39 +1,39 @@
 -- What a renamed log and a removed edits file leave held.
-use Rattle.std.proofs.Common.{◌≡◌, ◌≢◌, ◌⊎◌, inl, inr, ℕ, ◌≤◌, List, Contains, Option, sym, ap, ◌∙◌, subst}
+use Rattle.std.proofs.Common.{◌≡◌, ◌≢◌, ◌⊎◌, inl, inr, ℕ, List, Contains, Option, sym, ap, ◌∙◌, subst}
 use Rattle.std.specs.Prelude.{Result}
 use Rattle.log_model.specs.declared.name.Name.{Name}
 use Rattle.log_model.specs.declared.name.NameKind.TheVariants as kinds
 use Rattle.log_model.specs.Entry.{Entry}
 use Rattle.log_model.specs.Files.{Files, content, IsAbsent, HoldsEntries, IsLogFile, Same, IsFit}
-use Rattle.log_model.specs.Recovered.{FlushesTo}
 use Rattle.disk_images.specs.Crash.{DiskView, IsImageNow, Throughout}
 use Rattle.disk_images.specs.Calls.{Renames, Removes, MovedIn, RemovedIn, Renamed}
 use Rattle.disk_images.proofs.Moments.{in_one_call}
 use Rattle.recovery.specs.Change.{HasText}
 use Rattle.recovery.proofs.Names.{entries_no_old, store_no_old}
-use Rattle.recovery.proofs.Stores.{flushes_kept}
+use Rattle.recovery.specs.Laws.{IsFlushedEntry}
 use Rattle.recovery.specs.Alike.{AllAlike}
 use Rattle.recovery.specs.OpeningSteps.{AreKept}
 use Rattle.recovery.proofs.Turns.{in_turn, but_old}
 use Rattle.recovery.proofs.OpeningProved.{kept_may_go}
 use Rattle.wal_split.specs.Held.{IsHeld}
+use Rattle.wal_split.proofs.Above.{entry_kept}
 
 same_alike : (I J : Files) → Same I J → IsFit I → AllAlike I J
 same_alike I J same fit = but_old I J (λ m other. same m) fit
 
 -- what is kept in edits files that are there and in stores is kept in each image
 kept_in : (base : Files) (v : DiskView) (held : IsHeld base v) (I : Files) → IsImageNow v I → (es : List Entry) → AreKept v.files es → AreKept I es
-kept_in base v held I now es kept e member = elim (kept e member) as (λ _. ((m : Name) × (ds : List Entry) × (m.kind ≡ kinds.Edits) × IsLogFile I m ds × Contains ds e) ⊎ ((n : ℕ) × FlushesTo I e.region n × (e.number ≤ n))) [
+kept_in base v held I now es kept e member = elim (kept e member) as (λ _. ((m : Name) × (ds : List Entry) × (m.kind ≡ kinds.Edits) × IsLogFile I m ds × Contains ds e) ⊎ IsFlushedEntry I e) [
   | inl (m, ds, kind, file, among) ↦ inl (m, ds, kind, record { kind = file.kind; bytes = file.bytes; there = held.there I m now file.kind (λ none. absurd (cc (sym none ∙ file.there))) ∙ file.there; ended = file.ended; text = file.text }, among)
-  | inr (n, f, low) ↦ inr (n, flushes_kept v.files I (held.stores I now) e.region n f, low)
+  | inr flushed ↦ inr (entry_kept v.files I (held.stores I now) e flushed)
 ]
 
 -- and stays where a file goes that isn't one of those edits files
 kept_on : (I J : Files) (name : Name) → HoldsEntries name.kind → ((m : Name) → m ≢ name → m.kind ≢ kinds.Old → content J m ≡ content I m) → (es : List Entry)
-    → ((e : Entry) → Contains es e → ((m : Name) × (ds : List Entry) × (m.kind ≡ kinds.Edits) × (m ≢ name) × IsLogFile I m ds × Contains ds e) ⊎ ((n : ℕ) × FlushesTo I e.region n × (e.number ≤ n))) → AreKept J es
-kept_on I J name holds others es kept e member = elim (kept e member) as (λ _. ((m : Name) × (ds : List Entry) × (m.kind ≡ kinds.Edits) × IsLogFile J m ds × Contains ds e) ⊎ ((n : ℕ) × FlushesTo J e.region n × (e.number ≤ n))) [
+    → ((e : Entry) → Contains es e → ((m : Name) × (ds : List Entry) × (m.kind ≡ kinds.Edits) × (m ≢ name) × IsLogFile I m ds × Contains ds e) ⊎ IsFlushedEntry I e) → AreKept J es
+kept_on I J name holds others es kept e member = elim (kept e member) as (λ _. ((m : Name) × (ds : List Entry) × (m.kind ≡ kinds.Edits) × IsLogFile J m ds × Contains ds e) ⊎ IsFlushedEntry J e) [
   | inl (m, ds, kind, other, file, among) ↦ inl (m, ds, kind, record { kind = file.kind; bytes = file.bytes; there = others m other (entries_no_old m.kind file.kind) ∙ file.there; ended = file.ended; text = file.text }, among)
-  | inr (n, f, low) ↦ inr (n, flushes_kept I J (λ m store. others m (λ at. no_store m store at) (store_no_old m.kind store)) e.region n f, low)
+  | inr flushed ↦ inr (entry_kept I J (λ m store. others m (λ at. no_store m store at) (store_no_old m.kind store)) e flushed)
 ]
   where
     no_store : (m : Name) → m.kind ≡ kinds.Store → m ≡ name → ⊥
@@ -68,7 +68,7 @@ module _ (base : Files) (v w : DiskView) (held : IsHeld base v) where
     moved_image : (I J : Files) → IsImageNow v I → MovedIn from to (v.formerly from) I J → AllAlike I J
     moved_image I J now moved =
         gone_image I J from es ended now (inl log) has (others_in I J moved) (subst (λ (x : Name). IsAbsent J x) (moved_from I J moved) moved.left)
-        (kept_on I J from (inl log) (others_in I J moved) es (λ e member. elim (kept_in base v held I now es kept e member) as (λ _. ((m : Name) × (ds : List Entry) × (m.kind ≡ kinds.Edits) × (m ≢ from) × IsLogFile I m ds × Contains ds e) ⊎ ((n : ℕ) × FlushesTo I e.region n × (e.number ≤ n))) [
+        (kept_on I J from (inl log) (others_in I J moved) es (λ e member. elim (kept_in base v held I now es kept e member) as (λ _. ((m : Name) × (ds : List Entry) × (m.kind ≡ kinds.Edits) × (m ≢ from) × IsLogFile I m ds × Contains ds e) ⊎ IsFlushedEntry I e) [
           | inl (m, ds, kind, file, among) ↦ inl (m, ds, kind, (λ is. no_log (sym kind ∙ ap (λ (x : Name). x.kind) is ∙ log)), file, among)
           | inr flushed ↦ inr flushed
         ]))
@@ -103,14 +103,14 @@ module _ (base : Files) (v w : DiskView) (held : IsHeld base v) where
 
   -- an edits file is removed whose entries are each flushed
   module _ {T E : Type 0} {result : Result T E} (name : Name) (edits : name.kind ≡ kinds.Edits) (es : List Entry) (ended : Option ℕ) (has : HasText name es ended (content v.files name))
-      (flushed : (e : Entry) → Contains es e → (n : ℕ) × FlushesTo v.files e.region n × (e.number ≤ n)) (removes : Removes name result v w) where
+      (flushed : (e : Entry) → Contains es e → IsFlushedEntry v.files e) (removes : Removes name result v w) where
     others_left : (I J : Files) → RemovedIn name (v.formerly name) I J → (m : Name) → m ≢ name → content J m ≡ content I m
     others_left I J removed m other = removed.elsewhere m other (λ former. held.unmoved name m (entries_no_old name.kind (inr edits)) former)
 
     left_image : (I J : Files) → IsImageNow v I → RemovedIn name (v.formerly name) I J → AllAlike I J
     left_image I J now removed =
         gone_image I J name es ended now (inr edits) has (λ m other kind. others_left I J removed m other) removed.here
-        (kept_on I J name (inr edits) (λ m other kind. others_left I J removed m other) es (λ e member. let f = flushed e member in inr (f.0, flushes_kept v.files I (held.stores I now) e.region f.0 f.1, f.2)))
+        (kept_on I J name (inr edits) (λ m other kind. others_left I J removed m other) es (λ e member. inr (entry_kept v.files I (held.stores I now) e (flushed e member))))
 
     removed_image : (J : Files) → IsImageNow w J → AllAlike base J
     removed_image J now =

@@ -1,5 +1,5 @@
 -- What a plan gives the steps that change files.
-use Rattle.std.proofs.Common.{◌≡◌, ◌⊎◌, inl, inr, ℕ, ◌+◌, ◌<◌, ◌≤◌, ◌^◌, List, [], ◌∷◌, length, take, get_or, Contains, Some, None, is_some, refl, sym, ap, ◌∙◌, subst, arith}
+use Rattle.std.proofs.Common.{◌≡◌, ◌⊎◌, inl, inr, ℕ, ◌+◌, ◌<◌, ◌≤◌, ◌^◌, List, [], ◌∷◌, length, take, get_or, Contains, None, is_some, refl, sym, ap, ◌∙◌, subst, arith}
 use Rattle.std.specs.FinMap.{keys}
 use Rattle.std.proofs.lemmas.Bool.{cases_eq, cases_lt}
 use Rattle.std.proofs.lemmas.List.{get_or-take, length-take}
@@ -7,25 +7,29 @@ use Rattle.std.proofs.lemmas.List.Elements.{Contains-get_or, recursion_from_All,
 use Rattle.log_model.specs.declared.name.Name.{Name}
 use Rattle.log_model.specs.declared.name.NameKind.TheVariants as kinds
 use Rattle.log_model.specs.Entry.{Entry, IsEntry}
-use Rattle.log_model.specs.StoreText.{Store, IsStoreText}
 use Rattle.log_model.specs.LogText.{IsEntryOf, in_version}
 use Rattle.log_model.proofs.TextLaws.{HasVersion, with_version}
-use Rattle.log_model.specs.Files.{Files, content, Reads, IsAbsent, IsPresent, IsLogFile, IsLogged, IsStoreFile, key_of}
-use Rattle.log_model.specs.Recovered.{FlushesTo}
+use Rattle.log_model.specs.Files.{Files, content, Reads, IsAbsent, IsPresent, IsLogFile, IsLogged, key_of}
+use Rattle.log_model.specs.Recovered.{IsGreatest, FlushesTo, IsFlushed}
 use Rattle.disk_images.specs.Crash.{DiskView}
 use Rattle.disk_images.specs.Calls.{IsTrueDisk}
 use Rattle.disk_images.specs.Settled.{IsSettled}
 use Rattle.disk_images.proofs.Settled.{among_names, there_of, present_cases, read_of}
 use Rattle.recovery.specs.Alike.{AllAlike, StoresStand}
-use Rattle.recovery.proofs.OneStore.{one_store}
+use Rattle.recovery.specs.Laws.{IsFlushedEntry}
 use Rattle.found_files.specs.declared.found.FoundEntry.{FoundEntry}
 use Rattle.found_files.specs.declared.found.FoundStore.{FoundStore}
-use Rattle.found_files.specs.Found.{AreRead, store_of, place_in}
+use Rattle.found_files.specs.Found.{AreRead, place_in}
+use Rattle.found_files.specs.Counting.{AreCounting, AreCountingOf}
 use Rattle.found_files.proofs.Files.{one_list}
+use Rattle.found_files.proofs.Greatest.{greatest_same}
 use Rattle.found_files.proofs.Placing.{none_in}
+use Rattle.found_files.proofs.ReadSteps.{contents_of}
+use Rattle.found_files.proofs.Replaced.{counting_of}
 use Rattle.wal_split.specs.declared.job.EditsJob.{EditsJob}
 use Rattle.wal_split.specs.declared.planning.Plan.{Plan}
-use Rattle.wal_split.specs.Unflushed.{IsAbove, IsBefore}
+use Rattle.wal_split.specs.Flushed.{GoesTo, flushed_at}
+use Rattle.wal_split.specs.Unflushed.{IsAbove, IsBefore, IsUnflushedEntry}
 use Rattle.wal_split.specs.Grouped.{edits_name}
 use Rattle.wal_split.specs.Jobs.{AreJobs, AreFreeNames, AllLogged, IsNoJob}
 use Rattle.wal_split.specs.Logs.{AreFree, AreRising, IsOther, LogsAreOld, log_name, old_name}
@@ -34,6 +38,7 @@ use Rattle.wal_split.specs.Planned.{IsPlan}
 use Rattle.wal_split.specs.Held.{IsHeld}
 use Rattle.wal_split.specs.Told.{Counts}
 use Rattle.wal_split.proofs.LogNumbers.{log_of, has_log, logs_rise}
+use Rattle.wal_split.proofs.Above.{above_cases, low_flushed, above_unflushed, unflushed_above, goes_at, goes_flushes, flushes_goes}
 
 module _ (names : List Name) (xs : List FoundEntry) (ss : List FoundStore) (p : Plan) (plan : IsPlan names xs ss p) where
   abbrev jobs : List EditsJob
@@ -81,8 +86,8 @@ valid_entry files name l e file member = go (with_version (key_of name) file.byt
     go (v, known, inl short) = absurd (none_in e (subst (λ (k : List Entry). Contains k e) short.1 member))
     go (v, known, inr (rest, begins, ends)) = (All-contains (IsEntryOf (in_version v (key_of name))) l e (All-from_recursion (IsEntryOf (in_version v (key_of name))) l begins.each) member).entry
 
-module _ (told : Type 0) (is_told : told) (v : DiskView) (true_disk : IsTrueDisk v) (settled : IsSettled v) (xs : List FoundEntry) (ss : List FoundStore) (p : Plan)
-    (read : AreRead told v.files (keys v.files) (keys v.files) xs ss) (plan : IsPlan (keys v.files) xs ss p) where
+module _ (told : Type 0) (is_told : told) (v : DiskView) (true_disk : IsTrueDisk v) (settled : IsSettled v) (xs : List FoundEntry) (every ss : List FoundStore) (p : Plan)
+    (read : AreRead told v.files (keys v.files) (keys v.files) xs every) (counts : AreCounting every ss) (plan : IsPlan (keys v.files) xs ss p) where
   pub small : (m : Name) → IsPresent v.files m → m.number ≤ 2 ^ 62
   small m here = elim (cases_lt (2 ^ 62) m.number) as (λ _. m.number ≤ 2 ^ 62) [ inl high ↦ absurd (read.good m (among_names v.files m here) (inl high)) | inr low ↦ low ]
 
@@ -133,24 +138,21 @@ module _ (told : Type 0) (is_told : told) (v : DiskView) (true_disk : IsTrueDisk
       let r = plan.parts.from_logs e (entry_at (keys v.files) xs ss p plan j q.0 e q.1 q.2 member).0 in
       subst (λ (d : Entry). IsLogged v.files d) r.2 (logged_from r.0 r.1)
 
-  -- what is not above the flushed numbers is flushed
-  flushed_low : (e : Entry) → IsEntry e → ¬ IsAbove p.flushed.items e → (m : ℕ) × FlushesTo v.files e.region m × (e.number ≤ m)
-  flushed_low e valid not =
-      let g = plan.are_flushed.each e.region (omega (arith, valid.region)) in
-      let low : e.number ≤ get_or p.flushed.items e.region 0 = elim (cases_lt (get_or p.flushed.items e.region 0) e.number) as (λ _. e.number ≤ get_or p.flushed.items e.region 0) [ inl above ↦ absurd (not above) | inr le ↦ le ] in
-      elim g.reached as (λ _. (m : ℕ) × FlushesTo v.files e.region m × (e.number ≤ m)) [
-        | inl (x, has, region, to) ↦ (get_or p.flushed.items e.region 0, (x.name, store_of x, subst (λ (r : ℕ). IsStoreFile v.files r x.name (store_of x)) region (read.from_stores is_told x has), to), low)
-        | inr none ↦ absurd (omega (arith, none, low, valid.number_given))
-      ]
+  -- the stores that count in the files are those of the plan
+  pub counting_in : (r : ℕ) → AreCountingOf v.files r ss
+  counting_in r = counting_of told is_told v.files (keys v.files) xs every ss (contents_of told v.files (keys v.files) (keys v.files) xs every read) counts r (λ m store region here. among_names v.files m here)
 
-  pub flushed_bound : (r m : ℕ) → r ≤ 64 → FlushesTo v.files r m → m ≤ get_or p.flushed.items r 0
-  flushed_bound r m low (name, s, file, to) =
-      let x = read.stores is_told name file.bytes (among_names v.files name (is_some_there name file.bytes file.there)) file.kind file.there file.gate in
-      let one : s ≡ store_of x.0 = one_store name.region file.bytes s (store_of x.0) (subst (λ (k : ℕ). IsStoreText k file.bytes s) (sym file.of) file.text) (subst (λ (b : List ℕ). IsStoreText name.region b (store_of x.0)) (same_bytes x.3.bytes file.bytes (sym x.3.there ∙ file.there)) x.3.text) in
-      (plan.are_flushed.each r (omega (arith, low))).bound m (x.0, x.1, ap (λ (n : Name). n.region) x.2 ∙ file.of, sym (ap (λ (t : Store). t.to) one) ∙ to)
-    where
-      same_bytes : (a b : List ℕ) → Some a ≡ Some b → a ≡ b
-      same_bytes a b e = cc e
+  -- and what is flushed of a family is what the plan says
+  pub flushed_now : (r : ℕ) → r ≤ 64 → (f : List ℕ) → IsFlushed v.files r f (flushed_at p.flushed.items r f)
+  flushed_now r low f =
+      let own : IsGreatest (GoesTo ss r f) (flushed_at p.flushed.items r f) = goes_at ss p.flushed.items plan.are_flushed r f low in
+      greatest_same (GoesTo ss r f) (FlushesTo v.files r f) (flushed_at p.flushed.items r f) own (λ n goes. goes_flushes v.files r ss (counting_in r) f n goes) (λ n flushes. flushes_goes v.files r ss (counting_in r) f n flushes)
+
+  flushed_cases : (e : Entry) → IsEntry e → IsAbove p.flushed.items e ⊎ IsFlushedEntry v.files e
+  flushed_cases e valid = elim (above_cases (flushed_at p.flushed.items e.region) e) as (λ _. IsAbove p.flushed.items e ⊎ IsFlushedEntry v.files e) [
+    | inl above ↦ inl above
+    | inr low ↦ inr (low_flushed v.files e (flushed_at p.flushed.items e.region) (flushed_now e.region valid.region) valid.number_given low)
+  ]
 
   pub first_job : (js : List EditsJob) → 0 < length js → EditsJob
   first_job [] lt = absurd (omega (arith, lt))
@@ -165,22 +167,17 @@ module _ (told : Type 0) (is_told : told) (v : DiskView) (true_disk : IsTrueDisk
       (r.0, r.1.ended, record { bytes = r.1.bytes; there = r.1.there; text = r.1.text }, λ e member. one r.0 r.1 r.2 e member)
     where
       one : (l : List Entry) → IsLogFile v.files (log_name n) l → ((e : Entry) → Contains l e → Contains xs (place_in (log_name n) e)) → (e : Entry) → Contains l e
-          → ((j : EditsJob) × Contains p.jobs.items j × Contains j.entries.items e) ⊎ ((m : ℕ) × FlushesTo v.files e.region m × (e.number ≤ m))
-      one l file all e member = elim (cases_lt (get_or p.flushed.items e.region 0) e.number) as (λ _. ((j : EditsJob) × Contains p.jobs.items j × Contains j.entries.items e) ⊎ ((m : ℕ) × FlushesTo v.files e.region m × (e.number ≤ m))) [
+          → ((j : EditsJob) × Contains p.jobs.items j × Contains j.entries.items e) ⊎ IsFlushedEntry v.files e
+      one l file all e member = elim (flushed_cases e (valid_entry v.files (log_name n) l e file member)) as (λ _. ((j : EditsJob) × Contains p.jobs.items j × Contains j.entries.items e) ⊎ IsFlushedEntry v.files e) [
         | inl above ↦
             let q = plan.jobs.all e (plan.parts.all_logged (place_in (log_name n) e) (all e member) refl above) in
             inl (get_or p.jobs.items q.0 some_job, Contains-get_or p.jobs.items q.0 some_job (omega (arith, q.1, plan.jobs.long)), q.2 some_job)
-        | inr low ↦ inr (flushed_low e (valid_entry v.files (log_name n) l e file member) (λ above. omega (arith, above, low)))
+        | inr low ↦ inr low
       ]
 
-  -- what no store's number reaches is above the flushed numbers
-  pub is_above : (e : Entry) → IsEntry e → ((m : ℕ) → FlushesTo v.files e.region m → m < e.number) → IsAbove p.flushed.items e
-  is_above e valid above =
-      let g = plan.are_flushed.each e.region (omega (arith, valid.region)) in
-      elim g.reached as (λ _. IsAbove p.flushed.items e) [
-        | inl (x, has, region, to) ↦ above (get_or p.flushed.items e.region 0) (x.name, store_of x, subst (λ (r : ℕ). IsStoreFile v.files r x.name (store_of x)) region (read.from_stores is_told x has), to)
-        | inr none ↦ omega (arith, none, valid.number_given)
-      ]
+  -- what isn't flushed in the files is above the numbers of the plan
+  pub is_above : (e : Entry) → IsEntry e → IsUnflushedEntry v.files e → IsAbove p.flushed.items e
+  is_above e valid = unflushed_above v.files e (flushed_at p.flushed.items e.region) (flushed_now e.region valid.region) valid.number_given
 
   pub counted : Counts v.files p.entries
   counted = record {
@@ -192,7 +189,7 @@ module _ (told : Type 0) (is_told : told) (v : DiskView) (true_disk : IsTrueDisk
         let f = read.from_logs is_told r.0 r.1 in
         let member : Contains f.0 e = subst (λ (d : Entry). Contains f.0 d) r.2 f.2 in
         let valid = valid_entry v.files r.0.name f.0 e f.1 member in
-        ((r.0.name, f.0, r.3, f.1, member), λ m flushes. (let b = flushed_bound e.region m valid.region flushes in omega (arith, b, r.4)));
+        ((r.0.name, f.0, r.3, f.1, member), above_unflushed v.files e (flushed_at p.flushed.items e.region) (flushed_now e.region valid.region) valid.number_given r.4);
     all = λ e name l log file member above.
         let valid = valid_entry v.files name l e file member in
         let r = read.logs is_told name (among_names v.files name (is_some_there name file.bytes file.there)) file.kind in

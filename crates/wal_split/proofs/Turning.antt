@@ -8,15 +8,15 @@ use Rattle.log_model.specs.declared.name.Name.{Name}
 use Rattle.log_model.specs.declared.name.NameKind.TheVariants as kinds
 use Rattle.log_model.specs.Entry.{Entry}
 use Rattle.log_model.specs.Files.{Files, content, Reads, IsAbsent, IsLogFile}
-use Rattle.log_model.specs.Recovered.{FlushesTo}
 use Rattle.disk_images.specs.Crash.{DiskView, Throughout}
 use Rattle.disk_images.specs.Calls.{Renames, Renamed}
 use Rattle.disk_images.proofs.Moments.{at_once, joined}
 use Rattle.recovery.specs.Change.{HasText}
-use Rattle.recovery.proofs.Stores.{flushes_kept}
+use Rattle.recovery.specs.Laws.{IsFlushedEntry}
 use Rattle.recovery.specs.Alike.{AllAlike}
 use Rattle.recovery.specs.OpeningSteps.{AreKept}
 use Rattle.wal_split.specs.Held.{IsHeld}
+use Rattle.wal_split.proofs.Above.{entry_kept}
 use Rattle.wal_split.proofs.Moving.{rename_moments, renamed_held}
 use Rattle.wal_split.specs.Logs.{AreFree, AreRising, LogsKept, IsOther, log_name, old_name}
 
@@ -51,9 +51,9 @@ store_other logs m kind n has = (λ is. absurd (cc (sym kind ∙ ap (λ (x : Nam
 
 -- what is kept in edits files and stores stays kept
 still_kept : (told : Type 0) (first now : DiskView) (logs : List ℕ) (count : ℕ) → Going told first now logs count → told → (es : List Entry) → AreKept first.files es → AreKept now.files es
-still_kept told first now logs count so_far is_told es kept e member = elim (kept e member) as (λ _. ((m : Name) × (ds : List Entry) × (m.kind ≡ kinds.Edits) × IsLogFile now.files m ds × Contains ds e) ⊎ ((n : ℕ) × FlushesTo now.files e.region n × (e.number ≤ n))) [
+still_kept told first now logs count so_far is_told es kept e member = elim (kept e member) as (λ _. ((m : Name) × (ds : List Entry) × (m.kind ≡ kinds.Edits) × IsLogFile now.files m ds × Contains ds e) ⊎ IsFlushedEntry now.files e) [
   | inl (m, ds, kind, file, among) ↦ inl (m, ds, kind, record { kind = file.kind; bytes = file.bytes; there = so_far.others is_told m (edits_other (take count logs) m kind) ∙ file.there; ended = file.ended; text = file.text }, among)
-  | inr (n, f, low) ↦ inr (n, flushes_kept first.files now.files (λ m store. so_far.others is_told m (store_other (take count logs) m store)) e.region n f, low)
+  | inr flushed ↦ inr (entry_kept first.files now.files (λ m store. so_far.others is_told m (store_other (take count logs) m store)) e flushed)
 ]
 
 module _ (told : Type 0) (first v w : DiskView) (logs : List ℕ) (count : ℕ) (there : count < length logs) (rising : told → AreRising logs) (so_far : Going told first v logs count) where

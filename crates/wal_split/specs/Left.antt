@@ -5,8 +5,8 @@ use Rattle.log_model.specs.declared.name.Name.{Name}
 use Rattle.log_model.specs.declared.name.NameKind.TheVariants as kinds
 use Rattle.log_model.specs.Entry.{Entry, IsEntry}
 use Rattle.log_model.specs.StoreText.{Store, IsStore}
-use Rattle.log_model.specs.Files.{Files, content, name_cmp, IsAbsent, IsPresent, IsLogFile, IsLogged, IsStoreFile}
-use Rattle.log_model.specs.Recovered.{FlushesTo}
+use Rattle.log_model.specs.Files.{Files, content, name_cmp, IsAbsent, IsPresent, IsLogFile, IsLogged}
+use Rattle.log_model.specs.Recovered.{IsCounting}
 use Rattle.recovery.specs.Change.{HasText}
 use Rattle.found_files.specs.declared.found.FoundStore.{FoundStore}
 use Rattle.found_files.specs.Found.{store_of, AreInNameOrder}
@@ -15,14 +15,14 @@ use Rattle.wal_split.specs.declared.job.EditsJob.{EditsJob}
 use Rattle.wal_split.specs.declared.split_files.SplitFiles.{SplitFiles}
 use Rattle.wal_split.specs.Flushed.{AreFlushed}
 use Rattle.wal_split.specs.Grouped.{edits_name}
-use Rattle.wal_split.specs.Unflushed.{IsAbove, IsBefore}
+use Rattle.wal_split.specs.Unflushed.{IsAbove, IsBefore, IsUnflushedEntry}
 
 -- the edits file of the region k + 1
 abbrev pub job_at : SplitFiles → ℕ → EditsJob → EditsJob
 job_at x k d = slice_index_or x.plan.jobs.items k d
 
 -- What holds of it on any disk: 64 edits files, each with unflushed entries of its region, under one number above those of
--- all logs and edits files; names in their ranges; stores, and up to where each region is flushed.
+-- all logs and edits files; names in their ranges; the stores that count, and up to where each region is flushed by them.
 pub record IsInRange (x : SplitFiles) : Type 0 where
   pub number : ℕ
   pub low : number ≤ 2 ^ 62 + 1
@@ -36,11 +36,11 @@ pub record IsInRange (x : SplitFiles) : Type 0 where
   pub stores : (y : FoundStore) → Contains x.stores.items y → IsStore (store_of y) × Contains x.names y.name × (y.name.kind ≡ kinds.Store)
   pub good : (m : Name) → Contains x.names m → ¬ IsBadAmong x.names m
 
--- What stands in the files: these stores, and in edits files exactly these entries beside such as are flushed. There is no
--- log, and each edits file is one of before, or one of those with entries.
+-- What stands in the files: of stores that count these, and in edits files exactly these entries beside such as are flushed.
+-- There is no log, and each edits file is one of before, or one of those with entries.
 pub record AreLeft (files : Files) (x : SplitFiles) : Type 0 where
-  pub stores : (y : FoundStore) → Contains x.stores.items y → IsStoreFile files y.name.region y.name (store_of y)
-  pub all_stores : (m : Name) (s : Store) → IsStoreFile files m.region m s → (y : FoundStore) × Contains x.stores.items y × (y.name ≡ m) × (s ≡ store_of y)
+  pub stores : (y : FoundStore) → Contains x.stores.items y → IsCounting files y.name.region y.name (store_of y)
+  pub all_stores : (m : Name) (s : Store) → IsCounting files m.region m s → (y : FoundStore) × Contains x.stores.items y × (y.name ≡ m) × (s ≡ store_of y)
   pub rising : AreInNameOrder x.stores.items
   pub store_names : (m : Name) → m.kind ≡ kinds.Store → IsPresent files m → Contains x.names m
   pub stores_stay : (m : Name) → m.kind ≡ kinds.Store → Contains x.names m → IsPresent files m
@@ -56,7 +56,7 @@ pub record AreLeft (files : Files) (x : SplitFiles) : Type 0 where
   pub edits : (m : Name) → Contains x.names m → m.kind ≡ kinds.Edits → (l : List Entry) × IsLogFile files m l
   pub all_edits : (m : Name) → m.kind ≡ kinds.Edits → IsPresent files m
       → Contains x.names m ⊎ ((k : ℕ) × (k < 64) × ((d : EditsJob) → (m ≡ (job_at x k d).name) × ((job_at x k d).entries.items ≢ [])))
-  pub all : (e : Entry) → IsLogged files e → ((n : ℕ) → FlushesTo files e.region n → n < e.number)
+  pub all : (e : Entry) → IsLogged files e → IsUnflushedEntry files e
       → ((k : ℕ) × (k < 64) × ((d : EditsJob) → Contains (job_at x k d).entries.items e)) ⊎ Contains x.plan.kept.items e
   pub small : (m : Name) → IsPresent files m → m.number ≤ 2 ^ 63
 

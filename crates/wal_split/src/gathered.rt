@@ -1,13 +1,16 @@
 //! The entries that are not flushed.
 
-ghost use Rattle.std.specs.Prelude.{◌≡◌, ◌<◌, length, IfOk, OnOk, IsTrue, ◌↔◌};
+ghost use Rattle.std.specs.Prelude.{◌≡◌, ◌<◌, Contains, length, IfOk, OnOk, IsTrue, ◌↔◌};
+ghost use Rattle.cell_model.specs.Cell.{Cell as TheCell};
 ghost use Rattle.log_model.specs.Entry.{IsEntry};
 ghost use Rattle.found_files.specs.Sorted.{AreOrdered, AllAgree};
-ghost use Rattle.wal_split.specs.Unflushed.{AreUnflushedOf, IsNew, Adds};
+ghost use Rattle.wal_split.specs.Flushed.{flushed_of};
+ghost use Rattle.wal_split.specs.Unflushed.{AreUnflushedOf, IsAboveBy, IsNew, Adds};
 
+use crate::flushed::RegionFlushed;
 use entry_frame::Entry;
 use found_files::FoundEntry;
-use kv_cell::NoMemory;
+use kv_cell::{Cell, NoMemory};
 use log_model::NameKind;
 use std::alloc::Global;
 
@@ -20,12 +23,12 @@ pub struct Unflushed {
     pub kept: Vec<Entry>,
 }
 
-/// The entries that are not flushed, where these are the last flushed numbers of the regions, the first of them of region 0.
-/// The entries are in order, and two of one region and number are the same. No cell is copied.
+/// The entries with a cell that is not flushed, where these are the last flushed numbers of the regions, the first of them of
+/// region 0. The entries are in order, and two of one region and number are the same. No cell is copied.
 pub fn gather(
     alloc: Global,
     entries: Vec<FoundEntry>,
-    flushed: &[u64],
+    flushed: &[RegionFlushed],
 ) -> Result<Unflushed, NoMemory>
     requires ordered { AreOrdered entries.items }
     requires agree { AllAgree entries.items }
@@ -56,13 +59,35 @@ fn place_of(x: &FoundEntry) -> (u32, u64)
 }
 
 /// Whether an entry is of another region or number than these, and not flushed.
-fn is_new(x: &FoundEntry, region: u32, number: u64, flushed: &[u64]) -> bool
+fn is_new(x: &FoundEntry, region: u32, number: u64, flushed: &[RegionFlushed]) -> bool
     requires { length flushed.now ≡ 65 }
     ensures valid { IsEntry x.now.entry }
     ensures new { IsTrue result ↔ IsNew x.now region number flushed.now }
 {
     let other = x.entry.region != region || x.entry.number != number;
-    other && x.entry.number > flushed[x.entry.region as usize]
+    other && is_unflushed(&x.entry, &flushed[x.entry.region as usize])
+}
+
+/// Whether a cell of an entry is above what is flushed of the cell's family in this region.
+fn is_unflushed(entry: &Entry, flushed: &RegionFlushed) -> bool
+    ensures { IsTrue result ↔ IsAboveBy (flushed_of flushed.now) entry.now }
+{
+    if entry.number <= flushed.whole {
+        return false;
+    }
+    flushed.alone.is_empty() || has_unflushed(entry.batch.as_slice(), entry.number, flushed)
+}
+
+/// Whether the family of one of these cells is flushed up to a lower number than this one.
+fn has_unflushed(cells: &[Cell], number: u64, flushed: &RegionFlushed) -> bool
+    ensures { IsTrue result ↔ ((c : TheCell) × Contains cells.now c × (flushed_of flushed.now c.family < number)) }
+{
+    for cell in cells {
+        if flushed.of(cell.family.as_slice()) < number {
+            return true;
+        }
+    }
+    false
 }
 
 /// Adds an entry that is new.

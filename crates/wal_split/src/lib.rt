@@ -17,7 +17,7 @@ mod whole;
 
 pub use copying::write_edits;
 pub use every::write_all;
-pub use flushed::flushed_numbers;
+pub use flushed::{RegionFlushed, flushed_numbers};
 pub use gathered::{Unflushed, gather};
 pub use job::EditsJob;
 pub use planning::Plan;

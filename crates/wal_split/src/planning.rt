@@ -6,7 +6,7 @@ ghost use Rattle.found_files.specs.declared.found.FoundStore.{FoundStore as TheS
 ghost use Rattle.found_files.specs.Sorted.{AreOrdered, AllAgree};
 ghost use Rattle.wal_split.specs.Planned.{IsPlan};
 
-use crate::flushed::flushed_numbers;
+use crate::flushed::{RegionFlushed, flushed_numbers};
 use crate::gathered::gather;
 use crate::grouping::jobs_of;
 use crate::job::EditsJob;
@@ -26,13 +26,13 @@ pub struct Plan {
     pub logs: Vec<u64>,
     /// How many entries go into edits files.
     pub entries: u64,
-    /// The entries that are not flushed, and stand in edits files alone.
+    /// The entries with a cell that is not flushed, which stand in edits files alone.
     pub kept: Vec<Entry>,
-    /// The last flushed sequence id of each region, 0 where it has no store; the first is of region 0.
-    pub flushed: Vec<u64>,
+    /// Up to which sequence ids each region is flushed; the first is of region 0.
+    pub flushed: Vec<RegionFlushed>,
 }
 
-/// Plans the split of these entries, which are in order and agree, beside these stores. No cell is copied.
+/// Plans the split of these entries, which are in order and agree, beside these stores, which count. No cell is copied.
 pub(crate) fn plan_split(
     alloc: Global,
     names: &[Name],

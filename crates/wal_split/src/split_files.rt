@@ -9,7 +9,7 @@ use found_files::FoundStore;
 pub struct SplitFiles {
     /// The names of all files before the split.
     pub names: NameList,
-    /// The stores that are there, in the order of names.
+    /// The stores that count, in the order of names.
     pub stores: Vec<FoundStore>,
     /// What was written and renamed, and the entries that aren't flushed.
     pub plan: Plan,

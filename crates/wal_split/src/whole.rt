@@ -20,7 +20,7 @@ use crate::planning::plan_split;
 use crate::split_files::SplitFiles;
 use crate::splitting::split_found;
 use disk_images::Disk;
-use found_files::{Finding, FoundFiles, SplitRefusal, find_files};
+use found_files::{Finding, FoundFiles, SplitRefusal, counting_stores, find_files};
 use log_file::FileRefusal;
 use std::alloc::Global;
 
@@ -29,13 +29,13 @@ use std::alloc::Global;
 pub struct SplitReport {
     /// How many logs were renamed.
     pub logs: u64,
-    /// How many entries of logs were above what is flushed, each counted once.
+    /// How many entries of logs had a cell that is not flushed, each counted once.
     pub entries: u64,
 }
 
-/// Makes the files durable and checks them, writes what the logs have above the flushed numbers into one edits file for
-/// each region that has any, and renames the logs to old ones. Nothing is written before each file was read and checked.
-/// Memory is taken for all that is read.
+/// Makes the files durable and checks them, writes each entry of a log that has a cell above its family's flushed number,
+/// whole, into one edits file for each region that has any, and renames the logs to old ones. Nothing is written before
+/// each file was read and checked. Memory is taken for all that is read.
 pub fn split<D: Disk>(alloc: Global, disk: &mut D) -> Result<SplitReport, SplitRefusal>
     // At each moment each image is one of the first moment, or is fit and recovers alike for every region.
     ensures any_moment { IsTrue D.told → During (WasOrAlike (D.view disk.old)) (D.view disk.old) (D.view disk.new) }
@@ -113,6 +113,7 @@ fn split_files<D: Disk>(
 {
     let Finding { names, files } = found;
     let FoundFiles { entries, stores } = files;
+    let stores = counting_stores(alloc, stores)?;
     let plan = plan_split(alloc, names.as_slice(), entries, &stores)?;
     match split_found(alloc, disk, &plan.jobs, &plan.logs) {
         Ok(()) => Ok(SplitFiles {

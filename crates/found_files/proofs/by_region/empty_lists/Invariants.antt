@@ -1,5 +1,5 @@
 use Rattle.found_files.specs.Dealt.{AreEmptyLists}
 use Rattle.found_files.proofs.by_region.empty_lists.Given as goal
 
-abbrev pub invariant-loop : goal.invariant-loop
-invariant-loop l = AreEmptyLists l.counter l.lists.items
+abbrev pub invariant-loop-count : goal.invariant-loop-count
+invariant-loop-count l = AreEmptyLists l.count-index l.lists.items

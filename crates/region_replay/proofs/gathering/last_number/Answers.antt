@@ -1,6 +1,5 @@
-use Rattle.std.proofs.Common.{◌∙◌, ℕ, ◌+◌, max, List, [], ◌∷◌, ◌++◌, Contains, take, sym, ap, subst}
+use Rattle.std.proofs.Common.{◌∙◌, ℕ, ◌+◌, max, List, [], ◌∷◌, ◌++◌, take, sym, ap, subst}
 use Rattle.std.proofs.lemmas.List.{take_more}
-use Rattle.std.proofs.lemmas.List.Elements.{Contains-get_or}
 use Rattle.log_model.specs.Entry.{Entry}
 use Rattle.region_replay.specs.Regions.{IsTop}
 use Rattle.region_replay.proofs.Finding.{last_more}
@@ -12,8 +11,7 @@ loop-entry-preserved c =
     let i = c.loop-entry.entry-index in
     let n = c.loop-entry.last in
     let e = c.entry-item.result in
-    let none = c.args.none in
-    let has : Contains es e = subst (λ (y : Entry). Contains es y) (sym c.entry-item.is) (Contains-get_or es i e c.loop-entry-test.true) in
-    let more = last_more (take i es) none n e c.loop-entry.invariant (c.requires e has) in
-    subst (λ (m : ℕ). IsTop (take (i + 1) es) none m) (sym (c.max-last.ensures ∙ ap (λ (y : Entry). max n y.number) c.entry.view_is))
-    (subst (λ (l : List Entry). IsTop l none (max n e.number)) (sym (take_more es i e c.loop-entry-test.true ∙ ap (λ (y : Entry). take i es ++ y ∷ []) (sym c.entry-item.is))) more)
+    let low = c.args.low in
+    let more = last_more (take i es) low n e c.loop-entry.invariant in
+    subst (λ (m : ℕ). IsTop (take (i + 1) es) low m) (sym (c.max-last.ensures ∙ ap (λ (y : Entry). max n y.number) c.entry.view_is))
+    (subst (λ (l : List Entry). IsTop l low (max n e.number)) (sym (take_more es i e c.loop-entry-test.true ∙ ap (λ (y : Entry). take i es ++ y ∷ []) (sym c.entry-item.is))) more)

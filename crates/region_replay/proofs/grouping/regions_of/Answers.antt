@@ -1,17 +1,11 @@
-use Rattle.std.proofs.Common.{◌≡◌, ◌<◌, ◌+◌, ◌∙◌, inl, ℕ, List, [], Contains, length, subst, sym, ap, arith}
+use Rattle.std.proofs.Common.{◌≡◌, inl, List, [], Contains, length, subst, ap, arith}
 use Rattle.log_model.specs.declared.name.Name.{Name}
-use Rattle.wal_split.specs.declared.job.EditsJob.{EditsJob}
 use Rattle.region_replay.specs.Dealt.{AreDealt, AreBegun}
 use Rattle.region_replay.proofs.Shares.{all_begun, good_name}
 use Rattle.region_replay.proofs.grouping.regions_of.Goals as goal
 
 pub begin_regions-requires-clause-regions : goal.begin_regions-requires-clause-regions
-begin_regions-requires-clause-regions c j has =
-    let long = c.requires.long in
-    let within = has.1 in
-    let lt : has.0 < 64 = omega (arith, within, long) in
-    let is : j.name.region ≡ has.0 + 1 = ap (λ (m : Name). m.region) (sym (ap (λ (i : EditsJob). i.name) has.2) ∙ c.requires.named has.0 j lt) in
-    omega (arith, is, lt)
+begin_regions-requires-clause-regions c k j lt = ap (λ (m : Name). m.region) (c.requires.named k j lt)
 
 pub deal_names-requires-clause-good : goal.deal_names-requires-clause-good
 deal_names-requires-clause-good c m has =
@@ -29,7 +23,7 @@ deal_stores-requires-clause-regions c =
     let x = c.args.split in
     let jobs = x.plan.jobs.items in
     let flushed = x.plan.flushed.items in
-    let begun : AreBegun jobs flushed c.in_ok-regions.regions.items = subst (λ (l : List ℕ). AreBegun jobs l c.in_ok-regions.regions.items) c.deref.ensures.value c.in_ok-regions.ensures in
+    let begun : AreBegun jobs flushed c.in_ok-regions.regions.items = c.in_ok-regions.ensures in
     let start = all_begun jobs flushed c.in_ok-regions.regions.items c.requires.number c.requires.long c.requires.named begun in
     let named = subst (λ (l : List Name). AreDealt jobs flushed l [] [] c.deal_names.new.regions.items) c.as_slice.ensures (c.in_ok-deal_names.ensures jobs flushed start) in
     let long : length c.deal_names.new.regions.items ≡ 64 = named.long in
@@ -46,7 +40,7 @@ deal_kept-requires c =
     let x = c.args.split in
     let jobs = x.plan.jobs.items in
     let flushed = x.plan.flushed.items in
-    let begun : AreBegun jobs flushed c.in_ok-regions.regions.items = subst (λ (l : List ℕ). AreBegun jobs l c.in_ok-regions.regions.items) c.deref.ensures.value c.in_ok-regions.ensures in
+    let begun : AreBegun jobs flushed c.in_ok-regions.regions.items = c.in_ok-regions.ensures in
     let start = all_begun jobs flushed c.in_ok-regions.regions.items c.requires.number c.requires.long c.requires.named begun in
     let named = subst (λ (l : List Name). AreDealt jobs flushed l [] [] c.deal_names.new.regions.items) c.as_slice.ensures (c.in_ok-deal_names.ensures jobs flushed start) in
     let long : length c.deal_stores.new.regions.items ≡ 64 = (c.in_ok-deal_stores.ensures jobs flushed x.names named).long in
@@ -57,7 +51,7 @@ returns c =
     let x = c.args.split in
     let jobs = x.plan.jobs.items in
     let flushed = x.plan.flushed.items in
-    let begun : AreBegun jobs flushed c.in_ok-regions.regions.items = subst (λ (l : List ℕ). AreBegun jobs l c.in_ok-regions.regions.items) c.deref.ensures.value c.in_ok-regions.ensures in
+    let begun : AreBegun jobs flushed c.in_ok-regions.regions.items = c.in_ok-regions.ensures in
     let start = all_begun jobs flushed c.in_ok-regions.regions.items c.requires.number c.requires.long c.requires.named begun in
     let named = subst (λ (l : List Name). AreDealt jobs flushed l [] [] c.deal_names.new.regions.items) c.as_slice.ensures (c.in_ok-deal_names.ensures jobs flushed start) in
     c.in_ok-deal_kept.ensures jobs flushed x.names x.stores.items (c.in_ok-deal_stores.ensures jobs flushed x.names named)

@@ -2,7 +2,7 @@ use Rattle.std.proofs.Common.{List, length, Contains, sym, subst, arith}
 use Rattle.log_model.specs.declared.name.Name.{Name}
 use Rattle.region_replay.specs.Cuts.{EditsFlushed}
 use Rattle.region_replay.proofs.Cutting.{none_written}
-use Rattle.region_replay.proofs.Finding.{edits_flushed, dropped_of, no_cells, none_top, within_of}
+use Rattle.region_replay.proofs.Finding.{edits_flushed, dropped_of, no_cells, none_over, within_of}
 use Rattle.region_replay.proofs.region.drop_edits.Goals as goal
 
 pub returns-in_err-base-clause-any_moment : goal.returns-in_err-base-clause-any_moment
@@ -11,33 +11,33 @@ returns-in_err-base-clause-any_moment g c told base held found = none_written ba
 pub invariant_of-replayed : goal.invariant_of-replayed
 invariant_of-replayed g c =
     let x = c.args.found in
-    within_of x c.requires.order x.flushed (none_top x.unflushed.items x.flushed c.requires.none) x.next_store c.in_ok-base.base c.requires.order.next_given (omega (arith, c.requires.order.next))
-    (no_cells x c.in_ok-base.base.content c.requires.none c.in_ok-base.ensures.0) c.in_ok-base.ensures.1
+    within_of x c.requires.order x.flushed.whole c.requires.over x.next_store c.in_ok-base.base c.requires.order.next_given (omega (arith, c.requires.order.next))
+    (no_cells x c.in_ok-base.base.content (none_over x c.requires.order c.requires.over) c.in_ok-base.ensures.0) c.in_ok-base.ensures.1
 
 pub returns-in-Ok-clause-any_moment : goal.returns-in-Ok-clause-any_moment
 returns-in-Ok-clause-any_moment g c told base held found =
     let u = g.D.Disk.view c.args.disk.now in
-    (length c.deref.result.now, c.remove_all.ensures.any_moment told base held (subst (λ (ns : List Name). EditsFlushed u.files ns) (sym c.deref.ensures.value) (edits_flushed u.files c.args.found c.requires.order found c.requires.none)))
+    (length c.deref.result.now, c.remove_all.ensures.any_moment told base held (subst (λ (ns : List Name). EditsFlushed u.files ns) (sym c.deref.ensures.value) (edits_flushed u.files c.args.found c.requires.order found (none_over c.args.found c.requires.order c.requires.over))))
 
 pub returns-clause-any_moment : goal.returns-clause-any_moment
 returns-clause-any_moment g c told base held found =
     let u = g.D.Disk.view c.args.disk.now in
-    (length c.deref.result.now, c.remove_all.ensures.any_moment told base held (subst (λ (ns : List Name). EditsFlushed u.files ns) (sym c.deref.ensures.value) (edits_flushed u.files c.args.found c.requires.order found c.requires.none)))
+    (length c.deref.result.now, c.remove_all.ensures.any_moment told base held (subst (λ (ns : List Name). EditsFlushed u.files ns) (sym c.deref.ensures.value) (edits_flushed u.files c.args.found c.requires.order found (none_over c.args.found c.requires.order c.requires.over))))
 
 pub returns-in-Ok-clause-held : goal.returns-in-Ok-clause-held
 returns-in-Ok-clause-held g c told base held found =
     let u = g.D.Disk.view c.args.disk.now in
-    c.in-Ok.ensures.held told base held (subst (λ (ns : List Name). EditsFlushed u.files ns) (sym c.deref.ensures.value) (edits_flushed u.files c.args.found c.requires.order found c.requires.none))
+    c.in-Ok.ensures.held told base held (subst (λ (ns : List Name). EditsFlushed u.files ns) (sym c.deref.ensures.value) (edits_flushed u.files c.args.found c.requires.order found (none_over c.args.found c.requires.order c.requires.over)))
 
 pub returns-in-Ok-clause-replayed : goal.returns-in-Ok-clause-replayed
 returns-in-Ok-clause-replayed g c told base held found =
     let u = g.D.Disk.view c.args.disk.now in
     let w = g.D.Disk.view c.remove_all.new.disk in
     let x = c.args.found in
-    let held_w = c.in-Ok.ensures.held told base held (subst (λ (ns : List Name). EditsFlushed u.files ns) (sym c.deref.ensures.value) (edits_flushed u.files x c.requires.order found c.requires.none)) in
-    dropped_of base u w (g.met.D.Disk.is_true c.args.disk.now told) (g.met.D.Disk.is_true c.remove_all.new.disk told) held held_w x c.requires.order found c.requires.none
+    let held_w = c.in-Ok.ensures.held told base held (subst (λ (ns : List Name). EditsFlushed u.files ns) (sym c.deref.ensures.value) (edits_flushed u.files x c.requires.order found (none_over x c.requires.order c.requires.over))) in
+    dropped_of base u w (g.met.D.Disk.is_true c.args.disk.now told) (g.met.D.Disk.is_true c.remove_all.new.disk told) held held_w x c.requires.order found c.requires.over
     (λ m other. c.in-Ok.ensures.others told m (λ n has. other n (subst (λ (ns : List Name). Contains ns n) c.deref.ensures.value has)))
-    c.in_ok-base.base (no_cells x c.in_ok-base.base.content c.requires.none c.in_ok-base.ensures.0) c.in_ok-base.ensures.1
+    c.in_ok-base.base (no_cells x c.in_ok-base.base.content (none_over x c.requires.order c.requires.over) c.in_ok-base.ensures.0) c.in_ok-base.ensures.1
 
 pub returns-in-Ok-clause-others : goal.returns-in-Ok-clause-others
 returns-in-Ok-clause-others g c told m not other = c.in-Ok.ensures.others told m (λ n has. other n (subst (λ (ns : List Name). Contains ns n) c.deref.ensures.value has))

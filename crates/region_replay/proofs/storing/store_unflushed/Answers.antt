@@ -21,7 +21,7 @@ returns-in-Ok-clause-held g c told base held is =
 
 pub returns-in-Ok-clause-flushed : goal.returns-in-Ok-clause-flushed
 returns-in-Ok-clause-flushed g c told =
-    cut_flushes (g.D.Disk.view c.store_cut.new.disk) c.args.name c.args.from c.args.to c.args.cut c.requires.kind (c.store_cut.ensures.store (λ memory. absurd (cc (sym c.in-Ok.is ∙ memory)))) (c.in-Ok.ensures.stored told)
+    cut_flushes (g.D.Disk.view c.args.disk.now) (g.D.Disk.view c.store_cut.new.disk) c.args.name c.args.from c.args.to c.args.cut c.requires.kind (c.store_cut.ensures.store (λ memory. absurd (cc (sym c.in-Ok.is ∙ memory)))) (c.store_cut.ensures.touches told) (c.in-Ok.ensures.stored told)
 
 pub returns-in-Err-Memory-clause-any_moment : goal.returns-in-Err-Memory-clause-any_moment
 returns-in-Err-Memory-clause-any_moment g c told base held is =
