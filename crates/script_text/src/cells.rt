@@ -1,6 +1,6 @@
 //! The line of a cell.
 
-ghost use Rattle.std.specs.Prelude.{◌≡◌, ◌<◌, ◌≤◌, IfOk, Some, map};
+ghost use Rattle.std.specs.Prelude.{◌≡◌, ◌<◌, ◌≤◌, IfOk, Some, length, map};
 ghost use Rattle.cell_model.specs.Batch.{body_length};
 ghost use Rattle.script_model.specs.Fields.{cell_of, one_more, tagged_with};
 ghost use Rattle.script_model.specs.Tables.{cell_fault, cell_in, cell_of_fields, due_fault, fields_fault, six_fields_fault, tagged_fault};
@@ -70,6 +70,31 @@ fn plain_line(
     Ok(cell)
 }
 
+/// The cell with these tags in place of its own.
+fn with_tags(plain: Cell, tags: RareOctets) -> Cell
+    requires { length tags ≤ 4096 }
+    ensures { result ≡ record plain { tags = tags } }
+{
+    let Cell {
+        row,
+        family,
+        qualifier,
+        ts,
+        kind,
+        value,
+        tags: _none,
+    } = plain;
+    Cell {
+        row,
+        family,
+        qualifier,
+        ts,
+        kind,
+        value,
+        tags,
+    }
+}
+
 /// A cell with a seventh field, its tags, that has room behind those so far.
 fn tagged_line(
     alloc: Global,
@@ -94,7 +119,7 @@ fn tagged_line(
     let plain = six_fields(alloc, time, row, family, qualifier, ts, name, value)?;
     let tags = sized(alloc, tags, 0, 4096, CellField::Tags)?;
     let tags = RareOctets::copy_of(alloc, tags.as_slice())?;
-    let cell = Cell { tags, ..plain };
+    let cell = with_tags(plain, tags);
     filling.room(&cell)?;
     here(command)?;
     Ok(cell)

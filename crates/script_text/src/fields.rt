@@ -8,6 +8,7 @@ ghost use Rattle.script_model.specs.Fields.{ts_of};
 ghost use Rattle.script_model.specs.Text.{number_of};
 ghost use Rattle.script_calls.specs.Calls.{is_sync};
 ghost use Rattle.script_model.specs.Why.{limit_of, why_of};
+ghost use Rattle.script_text.specs.Stamps.{stamp_fault, stamp_of};
 ghost use Rattle.script_text.specs.Why.{Tells};
 
 use crate::faults::{CellField, LineError, ScriptWhy};
@@ -77,9 +78,20 @@ pub fn stamp(time: u64, word: &[u8]) -> Result<u64, LineError>
     if word == b"now".as_slice() {
         return Ok(time);
     }
-    let Some(n) = number(word) else {
-        return Err(LineError::Wrong(ScriptWhy::Number));
-    };
+    match number(word) {
+        Some(n) => stamp_of(time, n),
+        None => Err(LineError::Wrong(ScriptWhy::Number)),
+    }
+}
+
+/// The timestamp that a number gives.
+#[tactic(auto, using(std::proofs::lemmas::Bool::Decides::nat_tests))]
+fn stamp_of(time: u64, n: u64) -> Result<u64, LineError>
+    requires { time < 9223372036854775808 }
+    ensures value { IfOk result (λ ts. ts ≡ stamp_of time n) }
+    ensures within { IfOk result (λ ts. ts < 9223372036854775808) }
+    ensures exact { Tells result (stamp_fault time n) }
+{
     if n == 0x7FFF_FFFF_FFFF_FFFF {
         return Ok(time);
     }

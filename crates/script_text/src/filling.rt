@@ -144,7 +144,11 @@ fn make_batch(alloc: Global, table: &[u8], cells: Vec<Cell>) -> Result<Batch, No
     requires body { body_length (record { table = table.now; cells = cells.items }) ≤ 1048576 }
     ensures { IfOk result (λ batch. batch ≡ record { table = table.now; cells = cells.items }) }
 {
-    match Batch::new(cells).unwrap().of_table(alloc, table) {
+    let batch = Batch::new(cells).unwrap();
+    if table.is_empty() {
+        return Ok(batch);
+    }
+    match batch.of_table(alloc, table) {
         Ok(batch) => Ok(batch),
         Err(BatchError::Memory) => Err(NoMemory),
         Err(_) => unreachable!(),
