@@ -43,13 +43,13 @@ placed_so : (file place : ℕ) (entry : Entry) (x : Placed) → file ≡ x.file 
 placed_so file place entry x f p e i = record { file = f i; place = p i; entry = e i }
 
 -- each member stands at a place behind those before it
-record StandsAt (number before : ℕ) (es : List Entry) (x : Placed) : Type 0 where
+pub record StandsAt (number before : ℕ) (es : List Entry) (x : Placed) : Type 0 where
   pub file : x.file ≡ number
   pub at : ℕ
   pub place : x.place ≡ before + at + 1
   pub is : slice_get es at ≡ Some x.entry
 
-placed_at : (file before : ℕ) (es : List Entry) (x : Placed) → Contains (placed_behind file before es) x → StandsAt file before es x
+pub placed_at : (file before : ℕ) (es : List Entry) (x : Placed) → Contains (placed_behind file before es) x → StandsAt file before es x
 placed_at file before [] x is = absurd (no_member x is)
 placed_at file before (e ∷ es) x is = elim (here_or_there (record { file = file; place = before + 1; entry = e }) (placed_behind file (before + 1) es) x is) as (λ _. StandsAt file before (e ∷ es) x) [
   | inl same ↦ record {
@@ -61,7 +61,7 @@ placed_at file before (e ∷ es) x is = elim (here_or_there (record { file = fil
   | inr later ↦ (let s = placed_at file (before + 1) es x later in record { file = s.file; at = suc s.at; place = omega (arith, s.place); is = s.is })
 ]
 
-at_place : (file before : ℕ) (es : List Entry) (x : Placed) (at : ℕ) → x.file ≡ file → x.place ≡ before + at + 1 → slice_get es at ≡ Some x.entry → Contains (placed_behind file before es) x
+pub at_place : (file before : ℕ) (es : List Entry) (x : Placed) (at : ℕ) → x.file ≡ file → x.place ≡ before + at + 1 → slice_get es at ≡ Some x.entry → Contains (placed_behind file before es) x
 at_place file before [] x at f place is = absurd (omega (arith, slice_get_within [] at x.entry is))
 at_place file before (e ∷ es) x zero f place is =
     let same : e ≡ x.entry = cc is in
@@ -70,7 +70,7 @@ at_place file before (e ∷ es) x zero f place is =
 at_place file before (e ∷ es) x (suc at) f place is =
     there (record { file = file; place = before + 1; entry = e }) (placed_behind file (before + 1) es) x (at_place file (before + 1) es x at f (omega (arith, place)) is)
 
-in_order : (file before : ℕ) (es : List Entry) → IsOrdered (placed_behind file before es)
+pub in_order : (file before : ℕ) (es : List Entry) → IsOrdered (placed_behind file before es)
 in_order file before [] = tt
 in_order file before (e ∷ es) = (
   (λ y is. (let s = placed_at file (before + 1) es y is in inr (sym s.file, omega (arith, s.place)))),
@@ -113,7 +113,7 @@ is_further p x same lt = grind (arith, nat_tests)
 
 -- ---- two lists in order
 
-ordered_both : (xs ys : List Placed) → IsOrdered xs → IsOrdered ys → ((x y : Placed) → Contains xs x → Contains ys y → ComesBefore x y) → IsOrdered (xs ++ ys)
+pub ordered_both : (xs ys : List Placed) → IsOrdered xs → IsOrdered ys → ((x y : Placed) → Contains xs x → Contains ys y → ComesBefore x y) → IsOrdered (xs ++ ys)
 ordered_both [] ys ox oy before = oy
 ordered_both (x ∷ xs) ys ox oy before = (
   (λ y is. elim (Contains-append_cases xs ys y is) as (λ _. ComesBefore x y) [ inl front ↦ ox.0 y front | inr back ↦ before x y (here x xs) back ]),

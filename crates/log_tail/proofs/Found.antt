@@ -22,7 +22,7 @@ none_or None b is = refl
 none_or (Some x) b is = absurd (cc is)
 
 -- either has what the first or the second has
-one_of_both : (a b : Option (List ℕ)) (c : List ℕ) → or_else a b ≡ Some c → (a ≡ Some c) ⊎ (b ≡ Some c)
+pub one_of_both : (a b : Option (List ℕ)) (c : List ℕ) → or_else a b ≡ Some c → (a ≡ Some c) ⊎ (b ≡ Some c)
 one_of_both None b c is = inr is
 one_of_both (Some x) b c is = inl is
 
@@ -31,7 +31,7 @@ in_either : (a b : Option (List ℕ)) (c : List ℕ) → b ≡ Some c → (d : L
 in_either None b c is = (c, is)
 in_either (Some x) b c is = (x, refl)
 
-some_there : (files : Files) (m : Name) (c : List ℕ) → Reads files m c → IsPresent files m
+pub some_there : (files : Files) (m : Name) (c : List ℕ) → Reads files m c → IsPresent files m
 some_there files m c reads none = absurd (cc (sym none ∙ reads))
 
 named_so : (m : Name) (kind : NameKind) (number : ℕ) → m.kind ≡ kind → m.region ≡ 0 → m.number ≡ number → m ≡ record { kind = kind; region = 0; number = number }

@@ -1,5 +1,6 @@
 mod Found
 mod Seen
-mod Counted
+pub mod Counted
 mod Refused
 mod Behind
+mod Texts

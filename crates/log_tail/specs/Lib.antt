@@ -3,3 +3,4 @@ pub mod Reads
 pub mod Failures
 pub mod Found
 pub mod Given
+pub mod Texts

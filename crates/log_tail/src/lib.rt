@@ -12,7 +12,7 @@ mod reading;
 mod refusal;
 mod tail;
 
-pub use laws::reading_goes_on;
+pub use laws::{fit_files_have_a_chronicle, reading_goes_on, texts_have_a_chronicle};
 pub use position::Position;
 pub use refusal::TailRefusal;
 pub use tail::Tail;
