@@ -1,0 +1,12 @@
+use Rattle.std.proofs.Common.{sym, ◌∙◌}
+use Rattle.region_calls.specs.Passes.{knows}
+use Rattle.embedded.proofs.Later.{set_after}
+use Rattle.embedded.proofs.talking.ServerSessionSession.begin_scan.Goals as goal
+
+pub returns-clause-of : goal.returns-clause-of
+returns-clause-of g c =
+    let s = c.args.self.now in (
+      c.begin_scan.ensures.of,
+      set_after g.N.Naming-1.name s.time s.regions s.calls s.calls (knows s.first.value) (knows s.pass) (knows c.begin_scan.new.pass) c.requires.of.1
+          c.begin_scan.ensures.scans.later (c.requires.of.1.calls_are ∙ sym c.begin_scan.ensures.scans.used),
+    )
