@@ -1,4 +1,5 @@
 pub mod Told
+mod Each
 pub mod Sends
 pub mod Behind
 pub mod Records
@@ -8,3 +9,4 @@ pub mod Places
 mod ReadingLaws
 pub mod Going
 mod Ends
+mod Leads

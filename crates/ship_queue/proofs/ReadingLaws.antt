@@ -1,13 +1,15 @@
 -- What one reading of a tail comes to.
-use Rattle.std.proofs.Common.{◌≡◌, ℕ, ◌≤◌, ◌<◌, ◌+◌, List, [], ◌++◌, length, None, sym, ap, subst, inl, inr, arith}
+use Rattle.std.proofs.Common.{◌≡◌, ℕ, ◌≤◌, ◌<◌, ◌+◌, List, [], ◌++◌, length, None, Result, Ok, Err, sym, ap, ◌∙◌, subst, inl, inr, arith}
 use Rattle.std.proofs.lemmas.Bool.{cases_lt}
 use Rattle.std.proofs.lemmas.Option.{slice_get_within}
 use Rattle.log_model.specs.Entry.{Entry}
 use Rattle.log_model.specs.Files.{Files}
 use Rattle.chronicle_model.specs.Chronicle.{bytes_of, HasLog, Placed, StandsIn, Position, IsChronicle, is_behind, behind}
 use Rattle.chronicle_model.proofs.Grown.{one_log, not_there}
-use Rattle.log_tail.specs.Reads.{HasHigher, ReadsLog, IsRead, placed_behind}
-use Rattle.ship_queue.specs.Course.{IsText, HasReadOn, IsAtEnd}
+use Rattle.log_tail.specs.declared.refusal.TailRefusal.{TailRefusal}
+use Rattle.log_tail.specs.declared.refusal.TailRefusal.TheVariants as tails
+use Rattle.log_tail.specs.Reads.{HasHigher, ReadsLog, IsRead, IsOrEarlier, placed_behind}
+use Rattle.ship_queue.specs.Course.{IsText, HasReadOn, IsAtEnd, IsRefusedAt}
 use Rattle.ship_queue.proofs.Behind.{none_pass, is_not, StandsBehind}
 
 module _ (files : Files) (p : Position) (given : List Entry) (q : Position) where
@@ -67,3 +69,45 @@ module _ (files : Files) (p : Position) where
       | inr le ↦ let same : p.file ≡ n = omega (arith, low, le) in subst (IsText files) same (its_text r)
     ];
   }
+
+-- ---- the answer of a tail, told of a reading
+
+module _ {T U : Type 0} (files : Files) (p : Position) (a : Result T TailRefusal) where
+  -- a refusal is handed on
+  module _ (b : Result U TailRefusal) (e : TailRefusal) (was : a ≡ Err e) (is : b ≡ Err e) where
+    same_refusal : (t : TailRefusal) → a ≡ Err t → b ≡ Err t
+    same_refusal t other = let same : e ≡ t = cc (was, other) in is ∙ ap Err same
+
+    same_cause : (t : TailRefusal) → b ≡ Err t → a ≡ Err t
+    same_cause t other = let same : e ≡ t = cc (is, other) in was ∙ ap Err same
+
+    told_again : (t : TailRefusal) → IsOrEarlier a t → IsOrEarlier b t
+    told_again t (inl this) = inl (same_refusal t this)
+    told_again t (inr (inl memory)) = inr (inl (same_refusal tails.Memory memory))
+    told_again t (inr (inr disk)) = inr (inr (same_refusal tails.DiskFault disk))
+
+    pub refused_again : IsRefusedAt files p a → IsRefusedAt files p b
+    refused_again r = record {
+      damaged = λ name at this. r.damaged name at (same_cause (tails.Damaged name at) this);
+      damage = λ name at d. told_again (tails.Damaged name at) (r.damage name at d);
+      no_position = λ file has this. r.no_position file has (same_cause (tails.NoPosition file has) this);
+      out = λ file has o. told_again (tails.NoPosition file has) (r.out file has o);
+    }
+
+  -- where something is given, there is none
+  module _ (t : T) (u : U) (was : a ≡ Ok t) where
+    not_refused : (e : TailRefusal) → a ≡ Err e → ⊥
+    not_refused e is = cc (was, is)
+
+    none_told : (e : TailRefusal) → IsOrEarlier a e → ⊥
+    none_told e (inl this) = not_refused e this
+    none_told e (inr (inl memory)) = not_refused tails.Memory memory
+    none_told e (inr (inr disk)) = not_refused tails.DiskFault disk
+
+    pub refused_none : IsRefusedAt files p a → IsRefusedAt files p (Ok u)
+    refused_none r = record {
+      damaged = λ name at this. absurd (cc this);
+      damage = λ name at d. absurd (none_told (tails.Damaged name at) (r.damage name at d));
+      no_position = λ file has this. absurd (cc this);
+      out = λ file has o. absurd (none_told (tails.NoPosition file has) (r.out file has o));
+    }

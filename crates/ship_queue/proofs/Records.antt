@@ -1,11 +1,12 @@
 -- What was recorded is true of a chronicle.
-use Rattle.std.proofs.Common.{◌≡◌, ◌⊎◌, List, [], ◌∷◌, ◌++◌, Option, Some, None, refl, sym, ap, ◌∙◌, subst, inl, inr, append_assoc, append-nil}
+use Rattle.std.proofs.Common.{◌≡◌, ◌⊎◌, ℕ, ◌<◌, List, [], ◌∷◌, ◌++◌, Option, Some, None, refl, sym, ap, ◌∙◌, subst, inl, inr, append_assoc, append-nil}
 use Rattle.cell_model.specs.Lists.{IsPrefix}
 use Rattle.chronicle_model.specs.Chronicle.{Placed, IsOrdered, Position, behind}
 use Rattle.ship_queue.specs.Messages.{Message, Entry_of, Record_of, shipped_in, recorded_from, recorded_in, position_behind, MayBeRecorded}
-use Rattle.ship_queue.specs.Sent.{AreMarks, AreSent, IsCut}
+use Rattle.ship_queue.specs.Sent.{AreMarks, AreSent, IsCut, RecordsEach}
 use Rattle.ship_queue.specs.Shipping.{AreRecords, IsShip, IsWholeShip, IsPartShip}
 use Rattle.ship_queue.proofs.Told.{shipped_append, recorded_append}
+use Rattle.ship_queue.proofs.Each.{each_so_far, each_at_end}
 use Rattle.ship_queue.proofs.Sends.{IsLastOf, IsMark, last_mark}
 use Rattle.ship_queue.proofs.Behind.{behind_mark}
 
@@ -29,10 +30,10 @@ module _ (c : List Placed) (p : Position) (o : IsOrdered c) where
       (at_last done (shipped_in ms ++ rest) l q is last m.0, marks_are_records done l ms rest is last m.1)
 
   -- what was sent, of a beginning
-  pub sent_is_ship : (ms : List Message) (xs rest : List Placed) → behind c p ≡ xs ++ rest → AreSent ms xs → IsShip c p ms
-  sent_is_ship ms xs rest is s =
+  pub sent_is_ship : (ms : List Message) (xs rest : List Placed) → behind c p ≡ xs ++ rest → AreSent ms xs → (m : ℕ) → RecordsEach 0 ms m → m < 64 → IsShip c p ms
+  sent_is_ship ms xs rest is s m each lt =
       let split : behind c p ≡ shipped_in ms ++ rest = is ∙ ap (λ (l : List Placed). l ++ rest) (sym s.shipped) in
-      record { begins = (rest, split); records = marks_are_records [] None ms rest split (inl refl) s.marks }
+      record { begins = (rest, split); records = marks_are_records [] None ms rest split (inl refl) s.marks; each = each_so_far 0 m ms each lt }
 
   -- one record more, at the end
   record_more : (done : List Placed) (ms : List Message) (q : Position) → AreRecords c p done ms → behind c p ≡ (done ++ shipped_in ms) ++ behind c q → AreRecords c p done (ms ++ Record_of q ∷ [])
@@ -44,13 +45,14 @@ module _ (c : List Placed) (p : Position) (o : IsOrdered c) where
   shipped_last : (ms : List Message) (q : Position) → shipped_in (ms ++ Record_of q ∷ []) ≡ shipped_in ms
   shipped_last ms q = shipped_append ms (Record_of q ∷ []) ∙ append-nil (shipped_in ms)
 
-  pub end_is_ship : (ms : List Message) (xs : List Placed) (q : Position) → behind c p ≡ xs ++ behind c q → AreSent ms xs → IsShip c p (ms ++ Record_of q ∷ [])
-  end_is_ship ms xs q is s =
-      let first : IsShip c p ms = sent_is_ship ms xs (behind c q) is s in
+  pub end_is_ship : (ms : List Message) (xs : List Placed) (q : Position) → behind c p ≡ xs ++ behind c q → AreSent ms xs → (m : ℕ) → RecordsEach 0 ms m → m < 64 → IsShip c p (ms ++ Record_of q ∷ [])
+  end_is_ship ms xs q is s m each lt =
+      let first : IsShip c p ms = sent_is_ship ms xs (behind c q) is s m each lt in
       let split : behind c p ≡ shipped_in ms ++ behind c q = is ∙ ap (λ (l : List Placed). l ++ behind c q) (sym s.shipped) in
       record {
         begins = (behind c q, split ∙ ap (λ (l : List Placed). l ++ behind c q) (sym (shipped_last ms q)));
         records = record_more [] ms q first.records split;
+        each = each_at_end 0 m ms q each lt;
       }
 
   pub end_is_whole : (ms : List Message) (xs : List Placed) (q : Position) → behind c p ≡ xs ++ behind c q → behind c q ≡ [] → AreSent ms xs → IsWholeShip c p (ms ++ Record_of q ∷ []) q

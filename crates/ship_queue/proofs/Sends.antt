@@ -1,10 +1,11 @@
 -- Entries that are shipped one after the other.
-use Rattle.std.proofs.Common.{◌≡◌, ◌⊎◌, List, [], ◌∷◌, ◌++◌, Option, Some, None, refl, sym, ap, ◌∙◌, subst, inl, inr, append_assoc, append-nil}
+use Rattle.std.proofs.Common.{◌≡◌, ◌⊎◌, ℕ, List, [], ◌∷◌, ◌++◌, Option, Some, None, refl, sym, ap, ◌∙◌, subst, inl, inr, append_assoc, append-nil}
 use Rattle.cell_model.specs.Lists.{IsPrefix}
 use Rattle.chronicle_model.specs.Chronicle.{Placed, Position}
 use Rattle.ship_queue.specs.Messages.{Message, Entry_of, Record_of, shipped_in, recorded_from, recorded_in, position_behind, MayHaveCome, MayBeRecorded}
 use Rattle.ship_queue.specs.Sent.{AreMarks, AreSent, IsCut, HasSent, HasStopped}
 use Rattle.ship_queue.proofs.Told.{shipped_append, recorded_append}
+use Rattle.ship_queue.proofs.Each.{each_append}
 
 -- ---- marks
 
@@ -92,14 +93,14 @@ record_cut ms ns x (came, either) = record {
 -- ---- one after the other
 
 module _ {P : Type 0} (has : P → List Message → Type 0) where
-  pub none_sent : (p : P) → HasSent has p p []
-  none_sent p ms h = ([], subst (has p) (sym (append-nil ms)) h, record { shipped = refl; marks = tt })
+  pub none_sent : (p : P) (n : ℕ) → HasSent has p p n n []
+  none_sent p n ms h = ([], subst (has p) (sym (append-nil ms)) h, record { shipped = refl; marks = tt }, refl)
 
-  pub sent_joined : (p q r : P) (xs ys : List Placed) → HasSent has p q xs → HasSent has q r ys → HasSent has p r (xs ++ ys)
-  sent_joined p q r xs ys first second ms h =
+  pub sent_joined : (p q r : P) (n m k : ℕ) (xs ys : List Placed) → HasSent has p q n m xs → HasSent has q r m k ys → HasSent has p r n k (xs ++ ys)
+  sent_joined p q r n m k xs ys first second ms h =
       let a = first ms h in
       let b = second (ms ++ a.0) a.1 in
-      (a.0 ++ b.0, subst (has r) (append_assoc ms a.0 b.0) b.1, sent_append a.0 b.0 xs ys a.2 b.2)
+      (a.0 ++ b.0, subst (has r) (append_assoc ms a.0 b.0) b.1, sent_append a.0 b.0 xs ys a.2 b.2, each_append n m k a.0 b.0 a.3 b.3)
 
   pub stopped_longer : (p q : P) (xs ys : List Placed) → HasStopped has p q xs → HasStopped has p q (xs ++ ys)
   stopped_longer p q xs ys stopped ms ns h k =
@@ -129,7 +130,7 @@ module _ {P : Type 0} (has : P → List Message → Type 0) where
     ];
   }
 
-  pub stopped_behind : (p q r : P) (xs ys : List Placed) → HasSent has p q xs → HasStopped has q r ys → HasStopped has p r (xs ++ ys)
-  stopped_behind p q r xs ys sent stopped ms ns h k =
+  pub stopped_behind : (p q r : P) (n m : ℕ) (xs ys : List Placed) → HasSent has p q n m xs → HasStopped has q r ys → HasStopped has p r (xs ++ ys)
+  stopped_behind p q r n m xs ys sent stopped ms ns h k =
       let a = sent ms h in
       cut_behind ms ns a.0 xs ys a.2 (stopped (ms ++ a.0) ns a.1 k)

@@ -1,5 +1,5 @@
 -- What a peer was told of entries that are shipped to it one after the other.
-use Rattle.std.specs.Prelude.{◌≡◌, ◌⊎◌, List, [], ◌∷◌, ◌++◌, Option, Some, None}
+use Rattle.std.specs.Prelude.{◌≡◌, ◌⊎◌, ◌+◌, ℕ, List, [], ◌∷◌, ◌++◌, Option, Some, None}
 use Rattle.cell_model.specs.Lists.{IsPrefix}
 use Rattle.chronicle_model.specs.Chronicle.{Placed, Position}
 use Rattle.ship_queue.specs.Messages.{Message, Entry_of, Record_of, shipped_in, recorded_in, position_behind}
@@ -9,6 +9,13 @@ abbrev pub AreMarks : Option Position → List Message → Type 0
 AreMarks last [] = Unit {0}
 AreMarks last (Entry_of x ∷ ms) = AreMarks (Some (position_behind x)) ms
 AreMarks last (Record_of q ∷ ms) = (last ≡ Some q) × AreMarks last ms
+
+-- A position is recorded after each 64 entries: so many were shipped since the last record, before these messages and behind
+-- them.
+abbrev pub RecordsEach : ℕ → List Message → ℕ → Type 0
+RecordsEach n [] m = n ≡ m
+RecordsEach n (Entry_of x ∷ ms) m = RecordsEach (n + 1) ms m
+RecordsEach n (Record_of q ∷ ms) m = (n ≡ 64) × RecordsEach 0 ms m
 
 -- these entries were shipped, and positions behind some of them were recorded
 pub record AreSent (ms : List Message) (xs : List Placed) : Type 0 where
@@ -24,9 +31,9 @@ pub record IsCut (before after : List Message) (xs : List Placed) : Type 0 where
       ⊎ ((done : List Placed) × (x : Placed) × IsPrefix (done ++ x ∷ []) more × (recorded_in after ≡ Some (position_behind x)))
 
 module _ {P : Type 0} (has : P → List Message → Type 0) where
-  -- the peer was shipped these
-  abbrev pub HasSent : P → P → List Placed → Type 0
-  HasSent old new xs = (ms : List Message) → has old ms → (more : List Message) × has new (ms ++ more) × AreSent more xs
+  -- the peer was shipped these, behind so many since the last record, and so many are behind the last one now
+  abbrev pub HasSent : P → P → ℕ → ℕ → List Placed → Type 0
+  HasSent old new n m xs = (ms : List Message) → has old ms → (more : List Message) × has new (ms ++ more) × AreSent more xs × RecordsEach n more m
 
   -- it failed somewhere in them
   abbrev pub HasStopped : P → P → List Placed → Type 0

@@ -1,5 +1,5 @@
 -- What a call ships of a chronicle, from a position on.
-use Rattle.std.specs.Prelude.{◌≡◌, ◌⊎◌, ◌≤◌, ℕ, List, [], ◌∷◌, ◌++◌, Option, Some, None}
+use Rattle.std.specs.Prelude.{◌≡◌, ◌⊎◌, ◌≤◌, ◌<◌, ◌+◌, ℕ, List, [], ◌∷◌, ◌++◌, Option, Some, None}
 use Rattle.cell_model.specs.Lists.{IsPrefix}
 use Rattle.log_model.specs.Files.{Files}
 use Rattle.chronicle_model.specs.Chronicle.{Placed, Position, IsChronicle, behind}
@@ -13,10 +13,18 @@ AreRecords c p done [] = Unit {0}
 AreRecords c p done (Entry_of x ∷ ms) = AreRecords c p (done ++ x ∷ []) ms
 AreRecords c p done (Record_of q ∷ ms) = (behind c p ≡ done ++ behind c q) × AreRecords c p done ms
 
--- They ship a beginning of what stands behind a position, and record nothing that they don't ship.
+-- A position is recorded after each 64 entries, and nowhere else but at the end: before these messages so many were shipped
+-- since the last record.
+abbrev pub AreRecordedEach : ℕ → List Message → Type 0
+AreRecordedEach n [] = n < 64
+AreRecordedEach n (Entry_of x ∷ ms) = AreRecordedEach (n + 1) ms
+AreRecordedEach n (Record_of q ∷ ms) = ((n ≡ 64) × AreRecordedEach 0 ms) ⊎ ((n < 64) × (ms ≡ []))
+
+-- They ship a beginning of what stands behind a position, and record nothing that they don't ship, after each 64 entries.
 pub record IsShip (c : List Placed) (p : Position) (ms : List Message) : Type 0 where
   pub begins : IsPrefix (shipped_in ms) (behind c p)
   pub records : AreRecords c p [] ms
+  pub each : AreRecordedEach 0 ms
 
 -- They ship all of it, and record a last position at the end, behind which there is nothing.
 pub record IsWholeShip (c : List Placed) (p : Position) (ms : List Message) (q : Position) : Type 0 where

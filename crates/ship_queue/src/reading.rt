@@ -1,11 +1,10 @@
 //! One reading of a tail.
 
-ghost use Rattle.std.specs.Prelude.{◌≡◌, ◌+◌, ◌<◌, ◌^◌, [], true, length, ℕ, IsTrue, IsErr, IsErrOf, IfOk};
-ghost use Rattle.log_model.specs.declared.name.Name.{Name as TheName};
+ghost use Rattle.std.specs.Prelude.{◌≡◌, ◌+◌, ◌<◌, ◌^◌, [], true, length, IsTrue, IsErr, IsErrOf, IfOk};
 ghost use Rattle.disk_images.specs.Calls.{HasCause};
 ghost use Rattle.log_tail.specs.Position.{position_of};
-ghost use Rattle.log_tail.specs.Reads.{IsDamagedAt, IsNoPosition, OnlyReads, placed_behind};
-ghost use Rattle.ship_queue.specs.Course.{HasReadOn, IsAtEnd};
+ghost use Rattle.log_tail.specs.Reads.{IsRead, OnlyReads, placed_behind};
+ghost use Rattle.ship_queue.specs.Course.{HasReadOn, IsAtEnd, IsRefusedAt};
 
 use disk_images::Disk;
 use log_file::EntryList;
@@ -29,14 +28,13 @@ pub(crate) fn read_next<D: Disk>(
 ) -> Result<Reading, TailRefusal>
     ensures read { IsTrue D.told
         → IfOk result (λ r. HasReadOn (D.view disk.old).files tail.old tail.new (placed_behind r.at.file r.at.entries r.entries)) }
+    ensures reads { IsTrue D.told → IfOk result (λ r. IsRead (D.view disk.old).files tail.old r.entries tail.new) }
     ensures last { IsTrue D.told → IfOk result (λ r. r.is_last ≡ true → IsAtEnd (D.view disk.old).files tail.new) }
+    ensures none { IfOk result (λ r. r.is_last ≡ true → r.entries ≡ []) }
     ensures stays { IfOk result (λ r. r.is_last ≡ true → tail.new ≡ tail.old) }
     ensures places { IfOk result (λ r. r.at.entries + length r.entries < 2 ^ 64) }
     ensures same { IsErr result → tail.new ≡ tail.old }
-    ensures damaged { IsTrue D.told → (name : TheName) (at : ℕ) → result ≡ Err (TailRefusal.Damaged name at)
-        → IsDamagedAt (D.view disk.old).files tail.old.file name at }
-    ensures no_position { IsTrue D.told → (file has : ℕ) → result ≡ Err (TailRefusal.NoPosition file has)
-        → IsNoPosition (D.view disk.old).files tail.old file has }
+    ensures refused { IsTrue D.told → IsRefusedAt (D.view disk.old).files tail.old result }
     ensures looks { IsTrue D.told → OnlyReads (D.view disk.old) (D.view disk.new) }
     ensures cause { HasCause (D.faults disk.old) (D.faults disk.new) (IsErrOf result TailRefusal.DiskFault) }
 {

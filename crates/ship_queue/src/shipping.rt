@@ -3,17 +3,18 @@
 ghost use Rattle.std.specs.Prelude.{◌≡◌, ◌≢◌, ℕ, List, ◌++◌, length, IsTrue, IsErrOf, IfOk, OnOk};
 ghost use Rattle.log_model.specs.declared.name.Name.{Name as TheName};
 ghost use Rattle.disk_images.specs.Calls.{HasCause};
-ghost use Rattle.chronicle_model.specs.Chronicle.{Placed, IsChronicle, behind};
+ghost use Rattle.chronicle_model.specs.Chronicle.{Placed, Position as ThePosition, IsChronicle, behind};
 ghost use Rattle.log_tail.specs.Position.{position_of};
 ghost use Rattle.log_tail.specs.Reads.{IsDamagedAt, IsNoPosition, OnlyReads};
 ghost use Rattle.ship_queue.specs.Messages.{Message};
-ghost use Rattle.ship_queue.specs.Course.{counted};
+ghost use Rattle.ship_queue.specs.Course.{counted, LeadsTo};
+ghost use Rattle.ship_queue.specs.Refusals.{IsOrFailure};
 ghost use Rattle.ship_queue.specs.Shipping.{ShipsBeginning, ShipsAll, IsPartShip, AreTexts, HasReadUpTo};
 
 use crate::error::{ShipRefusal, Shipped};
 use crate::peer::Peer;
 use crate::reading::read_next;
-use crate::sending::ship_list;
+use crate::sending::{Count, ship_list};
 use disk_images::Disk;
 use log_tail::Tail;
 use std::alloc::Global;
@@ -30,7 +31,8 @@ pub fn ship_all<R: Threads + Wait + Sync, D: Disk + Send, P: Peer>(
     disk: &mut D,
     peer: &mut P,
 ) -> Result<Shipped, ShipRefusal>
-    // Unless the peer fails, it was told a beginning of what stands behind the position, and records that are true of it.
+    // Unless the peer fails, it was told a beginning of what stands behind the position, and after each 64 entries, and with Ok
+    // at the end, a record that is true of it.
     ensures ships { IsTrue D.told → (ms : List Message) → P.has peer.old ms → result ≢ Err ShipRefusal.PeerFault
         → (more : List Message) × P.has peer.new (ms ++ more) × ShipsBeginning (D.view disk.old).files tail.old more
         × IfOk result (λ x. ShipsAll (D.view disk.old).files tail.old more (position_of x.position)) }
@@ -39,29 +41,38 @@ pub fn ship_all<R: Threads + Wait + Sync, D: Disk + Send, P: Peer>(
     ensures count { IsTrue D.told → (c : List Placed) → IsChronicle (D.view disk.old).files c
         → IfOk result (λ x. x.entries ≡ counted (length (behind c tail.old))) }
     ensures position { IfOk result (λ x. position_of x.position ≡ tail.new) }
-    // The tail stands behind what was read.
+    // The tail stands behind what was read, where readings lead it.
+    ensures leads { IsTrue D.told → LeadsTo (D.view disk.old).files tail.old tail.new }
     ensures tail { IsTrue D.told → (c : List Placed) → IsChronicle (D.view disk.old).files c → HasReadUpTo c tail.old tail.new }
 
     // A peer that fails has a beginning, and has recorded nothing beyond that.
     ensures failed { IsTrue D.told → (c : List Placed) (ms ns : List Message) → IsChronicle (D.view disk.old).files c
         → P.has peer.old ms → P.has peer.new ns → result ≡ Err ShipRefusal.PeerFault → IsPartShip c tail.old ms ns }
+    // Damage, and a position that is none, are told exactly where readings lead to them, unless something fails before.
     ensures damaged { IsTrue D.told → (name : TheName) (at : ℕ) → result ≡ Err (ShipRefusal.Damaged name at)
         → IsDamagedAt (D.view disk.old).files tail.new.file name at }
+    ensures damage { IsTrue D.told → (q : ThePosition) (name : TheName) (at : ℕ) → LeadsTo (D.view disk.old).files tail.old q
+        → IsDamagedAt (D.view disk.old).files q.file name at → IsOrFailure result (ShipRefusal.Damaged name at) }
     ensures no_position { IsTrue D.told → (file has : ℕ) → result ≡ Err (ShipRefusal.NoPosition file has)
         → IsNoPosition (D.view disk.old).files tail.new file has }
+    ensures out { IsTrue D.told → (q : ThePosition) (file has : ℕ) → LeadsTo (D.view disk.old).files tail.old q
+        → IsNoPosition (D.view disk.old).files q file has → IsOrFailure result (ShipRefusal.NoPosition file has) }
     ensures looks { IsTrue D.told → OnlyReads (D.view disk.old) (D.view disk.new) }
     ensures stays { P.stays peer.old peer.new }
     ensures disk_cause { HasCause (D.faults disk.old) (D.faults disk.new) (IsErrOf result ShipRefusal.DiskFault) }
     ensures peer_cause { HasCause (P.faults peer.old) (P.faults peer.new) (IsErrOf result ShipRefusal.PeerFault) }
 {
-    let mut count = 0;
+    let mut count = Count {
+        entries: 0,
+        unrecorded: 0,
+    };
     for _round in rt.forever() {
         let reading = read_next(alloc, tail, disk)?;
         if reading.is_last {
             let position = tail.position();
             peer.confirm(position)?;
             return Ok(Shipped {
-                entries: count,
+                entries: count.entries,
                 position,
             });
         }

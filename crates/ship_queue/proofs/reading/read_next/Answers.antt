@@ -3,11 +3,8 @@ use Rattle.log_model.specs.Entry.{Entry}
 use Rattle.chronicle_model.specs.Chronicle.{Position}
 use Rattle.log_tail.specs.Reads.{IsRead, placed_behind}
 use Rattle.ship_queue.specs.Course.{HasReadOn}
-use Rattle.ship_queue.proofs.ReadingLaws.{read_is, at_end}
+use Rattle.ship_queue.proofs.ReadingLaws.{read_is, at_end, refused_again, refused_none}
 use Rattle.ship_queue.proofs.reading.read_next.Goals as goal
-
-pub returns-in_err-entries-clause-damaged : goal.returns-in_err-entries-clause-damaged
-returns-in_err-entries-clause-damaged g c told name at is = c.in_err-entries.ensures.damaged told name at (search rules)
 
 pub returns-clause-read : goal.returns-clause-read
 returns-clause-read g c told =
@@ -30,3 +27,13 @@ pub returns-clause-stays : goal.returns-clause-stays
 returns-clause-stays g c last =
     let stayed = c.has_stayed-is_last.ensures last in
     sym c.position-now.ensures ∙ stayed.1 ∙ c.position-at.ensures
+
+pub returns-in_err-entries-clause-refused : goal.returns-in_err-entries-clause-refused
+returns-in_err-entries-clause-refused g c told =
+    refused_again (g.D.Disk.view c.args.disk.now).files c.args.tail.now c.read.result c.from_residual.result c.in_err-entries.field-0.0 c.in_err-entries.was (search rules)
+    (record { damaged = c.read.ensures.damaged told; damage = c.read.ensures.damage told; no_position = c.read.ensures.no_position told; out = c.read.ensures.out told })
+
+pub returns-clause-refused : goal.returns-clause-refused
+returns-clause-refused g c told =
+    refused_none (g.D.Disk.view c.args.disk.now).files c.args.tail.now c.read.result c.in_ok-entries.entries _ c.in_ok-entries.was
+    (record { damaged = c.read.ensures.damaged told; damage = c.read.ensures.damage told; no_position = c.read.ensures.no_position told; out = c.read.ensures.out told })

@@ -10,7 +10,7 @@ use Rattle.ship_queue.proofs.sending.ship_list.Goals as goal
 pub loop-entry-init : goal.loop-entry-init
 loop-entry-init g c = record {
   place = omega arith;
-  sent = none_sent g.P.Peer.has c.args.peer.now;
+  sent = none_sent g.P.Peer.has c.args.peer.now c.args.count.now.unrecorded;
   count = λ n is. is ∙ omega arith;
   stays = g.met.P.Peer.stays_itself c.args.peer.now;
   later = omega arith;
@@ -27,8 +27,8 @@ loop-entry-preserved g c =
     placed_next f n c.args.entries.now j (c.loop-entry.place + 1) c.entry-item.result c.loop-entry-test.true c.entry-item.is (omega (arith, was.place)) in
     record {
       place = omega (arith, was.place);
-      sent = subst (HasSent g.P.Peer.has c.args.peer.now c.ship_next.new.peer) (sym next)
-          (sent_joined g.P.Peer.has c.args.peer.now c.loop-entry.peer c.ship_next.new.peer (placed_behind f n (take j c.args.entries.now)) (x ∷ []) was.sent c.in_ok-ship_next.ensures.sent);
+      sent = subst (HasSent g.P.Peer.has c.args.peer.now c.ship_next.new.peer c.args.count.now.unrecorded c.ship_next.new.count.unrecorded) (sym next)
+          (sent_joined g.P.Peer.has c.args.peer.now c.loop-entry.peer c.ship_next.new.peer c.args.count.now.unrecorded c.loop-entry.count.unrecorded c.ship_next.new.count.unrecorded (placed_behind f n (take j c.args.entries.now)) (x ∷ []) was.sent c.in_ok-ship_next.ensures.sent);
       count = λ m is. omega (arith, was.count m is, c.in_ok-ship_next.ensures.count);
       stays = g.met.P.Peer.stays_on c.args.peer.now c.loop-entry.peer c.ship_next.new.peer was.stays c.ship_next.ensures.stays;
       later = omega (arith, was.later, c.ship_next.ensures.cause.later);
@@ -48,4 +48,4 @@ returns-in_err-ship_next-clause-stopped g c err =
     let all : placed_behind f n es ≡ (placed_behind f n (take j es) ++ x ∷ []) ++ rest = placed_split f n es (j + 1) ∙ ap (λ (l : List Placed). l ++ rest) next in
     subst (HasStopped g.P.Peer.has c.args.peer.now c.ship_next.new.peer) (sym all)
     (stopped_longer g.P.Peer.has c.args.peer.now c.ship_next.new.peer (placed_behind f n (take j es) ++ x ∷ []) rest
-    (stopped_behind g.P.Peer.has c.args.peer.now c.loop-entry.peer c.ship_next.new.peer (placed_behind f n (take j es)) (x ∷ []) was.sent (c.in_err-ship_next.ensures.stopped (refl {a = true}))))
+    (stopped_behind g.P.Peer.has c.args.peer.now c.loop-entry.peer c.ship_next.new.peer c.args.count.now.unrecorded c.loop-entry.count.unrecorded (placed_behind f n (take j es)) (x ∷ []) was.sent (c.in_err-ship_next.ensures.stopped (refl {a = true}))))

@@ -1,15 +1,18 @@
-use Rattle.std.proofs.Common.{rules, ◌≡◌, true, ◌+◌, ◌∙◌, ◌++◌, [], ℕ, List, length, Err, refl, sym, ap, subst, arith}
+use Rattle.std.proofs.Common.{rules, ◌≡◌, inr, true, ◌+◌, ◌∙◌, ◌++◌, [], ℕ, List, length, Err, refl, sym, ap, subst, arith}
 use Rattle.std.proofs.lemmas.List.{length-append}
 use Rattle.log_model.specs.Entry.{Entry}
 use Rattle.log_model.specs.Files.{Files}
+use Rattle.log_tail.specs.declared.refusal.TailRefusal.{TailRefusal}
 use Rattle.log_tail.specs.Position.{position_of}
-use Rattle.log_tail.specs.Reads.{placed_behind}
+use Rattle.log_tail.specs.Reads.{IsRead, placed_behind}
 use Rattle.chronicle_model.specs.Chronicle.{Placed, Position, behind}
-use Rattle.ship_queue.specs.Course.{HasReadOn, IsAtEnd, counted}
+use Rattle.ship_queue.specs.declared.reading.Reading.{Reading}
+use Rattle.ship_queue.specs.Course.{HasReadOn, IsAtEnd, counted, LeadsTo, IsRefusedAt}
 use Rattle.ship_queue.specs.Shipping.{ShipsAll}
 use Rattle.ship_queue.specs.declared.error.ShipRefusal.TheVariants as ships
 use Rattle.ship_queue.proofs.Ends.{none_of, err_of, same_err, never_peer, was_disk, was_damaged, was_no_position}
-use Rattle.ship_queue.proofs.Going.{read_none, looks_none, looks_both, ships_so_far, part_so_far, ships_all, part_at_end, joined_read, damaged_on, no_position_on, end_on}
+use Rattle.ship_queue.proofs.Going.{read_none, looks_none, looks_both, all_texts, ships_so_far, part_so_far, ships_all, part_at_end, joined_read, damaged_on, no_position_on, end_on}
+use Rattle.ship_queue.proofs.Leads.{damaged_stuck, out_stuck, leads_here, none_ahead, leads_from, refused_on, last_read, damage_shown, out_shown}
 use Rattle.ship_queue.proofs.Places.{placed_length}
 use Rattle.ship_queue.proofs.Sends.{none_sent, sent_joined, stopped_behind}
 use Rattle.ship_queue.proofs.shipping.ship_all.Goals as goal
@@ -17,8 +20,9 @@ use Rattle.ship_queue.proofs.shipping.ship_all.Goals as goal
 pub loop-round-init : goal.loop-round-init
 loop-round-init g c = record {
   xs = [];
+  leads = λ told. leads_here (g.D.Disk.view c.args.disk.now).files c.args.tail.now;
   read = λ told. read_none (g.D.Disk.view c.args.disk.now).files c.args.tail.now;
-  sent = none_sent g.P.Peer.has c.args.peer.now;
+  sent = none_sent g.P.Peer.has c.args.peer.now 0;
   count = omega arith;
   looks = λ told. looks_none (g.D.Disk.view c.args.disk.now);
   stays = g.met.P.Peer.stays_itself c.args.peer.now;
@@ -34,10 +38,13 @@ loop-round-preserved g c =
     let ys : List Placed = placed_behind file before c.as_slice.result.now in
     record {
       xs = was.xs ++ ys;
+      leads = λ told.
+          leads_from (g.D.Disk.view c.args.disk.now) (g.D.Disk.view c.loop-round.disk) c.args.tail.now c.loop-round.tail c.read_next.new.tail c.in_ok-reading.reading.entries (was.looks told) (was.leads told)
+          (c.in_ok-reading.ensures.reads told);
       read = λ told.
           let here = subst (λ (es : List Entry). HasReadOn (g.D.Disk.view c.loop-round.disk).files c.loop-round.tail c.read_next.new.tail (placed_behind file before es)) (sym c.as_slice.ensures) (c.in_ok-reading.ensures.read told) in
           joined_read (g.D.Disk.view c.args.disk.now) (g.D.Disk.view c.loop-round.disk) c.args.tail.now c.loop-round.tail c.read_next.new.tail was.xs ys (was.looks told) (was.read told) here;
-      sent = sent_joined g.P.Peer.has c.args.peer.now c.loop-round.peer c.ship_list.new.peer was.xs ys was.sent c.in_ok-ship_list.ensures.sent;
+      sent = sent_joined g.P.Peer.has c.args.peer.now c.loop-round.peer c.ship_list.new.peer 0 c.loop-round.count.unrecorded c.ship_list.new.count.unrecorded was.xs ys was.sent c.in_ok-ship_list.ensures.sent;
       count = c.in_ok-ship_list.ensures.count (length was.xs) was.count ∙ ap counted (ap (λ (n : ℕ). length was.xs + n) (sym (placed_length file before c.as_slice.result.now)) ∙ sym (length-append was.xs ys));
       looks = λ told. looks_both (g.D.Disk.view c.args.disk.now) (g.D.Disk.view c.loop-round.disk) (g.D.Disk.view c.read_next.new.disk) (was.looks told) (c.in_ok-reading.ensures.looks told);
       stays = g.met.P.Peer.stays_on c.args.peer.now c.loop-round.peer c.ship_list.new.peer was.stays c.ship_list.ensures.stays;
@@ -50,7 +57,7 @@ loop-round-preserved g c =
 pub returns-in_err-reading-clause-ships : goal.returns-in_err-reading-clause-ships
 returns-in_err-reading-clause-ships g c told ms h not_peer =
     let was = c.loop-round.invariant in
-    let s = ships_so_far g.P.Peer.has (g.D.Disk.view c.args.disk.now).files c.args.tail.now c.loop-round.tail c.args.peer.now c.loop-round.peer was.xs (was.read told) ms h was.sent in
+    let s = ships_so_far g.P.Peer.has (g.D.Disk.view c.args.disk.now).files c.args.tail.now c.loop-round.tail c.args.peer.now c.loop-round.peer was.xs (was.read told) ms h c.loop-round.count.unrecorded c.loop-round.count.within was.sent in
     (s.0, s.1, s.2, none_of c.from_residual.result (λ x. ShipsAll (g.D.Disk.view c.args.disk.now).files c.args.tail.now s.0 (position_of x.position)) c.from_residual.ensures.0)
 
 pub returns-in_err-reading-clause-tail : goal.returns-in_err-reading-clause-tail
@@ -66,13 +73,13 @@ pub returns-in_err-reading-clause-damaged : goal.returns-in_err-reading-clause-d
 returns-in_err-reading-clause-damaged g c told name at is =
     let was = c.loop-round.invariant in
     let e = was_damaged c.in_err-reading.field-0.0 name at (same_err c.from_residual.result _ _ (err_of c.from_residual.result _ c.from_residual.ensures.1) is) in
-    damaged_on (g.D.Disk.view c.args.disk.now) (g.D.Disk.view c.loop-round.disk) c.loop-round.tail c.read_next.new.tail name at (was.looks told) (c.in_err-reading.ensures.same (refl {a = true})) (c.in_err-reading.ensures.damaged told name at (ap Err e))
+    damaged_on (g.D.Disk.view c.args.disk.now) (g.D.Disk.view c.loop-round.disk) c.loop-round.tail c.read_next.new.tail name at (was.looks told) (c.in_err-reading.ensures.same (refl {a = true})) ((c.in_err-reading.ensures.refused told).damaged name at (ap Err e))
 
 pub returns-in_err-reading-clause-no_position : goal.returns-in_err-reading-clause-no_position
 returns-in_err-reading-clause-no_position g c told file has is =
     let was = c.loop-round.invariant in
     let e = was_no_position c.in_err-reading.field-0.0 file has (same_err c.from_residual.result _ _ (err_of c.from_residual.result _ c.from_residual.ensures.1) is) in
-    no_position_on (g.D.Disk.view c.args.disk.now) (g.D.Disk.view c.loop-round.disk) c.loop-round.tail c.read_next.new.tail file has (was.looks told) (c.in_err-reading.ensures.same (refl {a = true})) (c.in_err-reading.ensures.no_position told file has (ap Err e))
+    no_position_on (g.D.Disk.view c.args.disk.now) (g.D.Disk.view c.loop-round.disk) c.loop-round.tail c.read_next.new.tail file has (was.looks told) (c.in_err-reading.ensures.same (refl {a = true})) ((c.in_err-reading.ensures.refused told).no_position file has (ap Err e))
 
 pub returns-in_err-reading-clause-looks : goal.returns-in_err-reading-clause-looks
 returns-in_err-reading-clause-looks g c told =
@@ -98,6 +105,28 @@ returns-in_err-reading-clause-peer_cause g c =
       risen = λ is. absurd (never_peer c.in_err-reading.field-0.0 (same_err c.from_residual.result _ _ (err_of c.from_residual.result _ c.from_residual.ensures.1) is));
     }
 
+pub returns-in_err-reading-clause-leads : goal.returns-in_err-reading-clause-leads
+returns-in_err-reading-clause-leads g c told =
+    subst (LeadsTo (g.D.Disk.view c.args.disk.now).files c.args.tail.now) (sym (c.in_err-reading.ensures.same (refl {a = true}))) (c.loop-round.invariant.leads told)
+
+pub returns-in_err-reading-clause-damage : goal.returns-in_err-reading-clause-damage
+returns-in_err-reading-clause-damage g c told q name at ahead d =
+    let was = c.loop-round.invariant in
+    let files : Files = (g.D.Disk.view c.args.disk.now).files in
+    let e : TailRefusal = c.in_err-reading.field-0.0 in
+    let refused : IsRefusedAt {T = Reading} files c.loop-round.tail (Err e) =
+    refused_on (g.D.Disk.view c.args.disk.now) (g.D.Disk.view c.loop-round.disk) c.loop-round.tail (Err e) (was.looks told) (c.in_err-reading.ensures.refused told) in
+    damage_shown (Err e) c.from_residual.result e refl (err_of c.from_residual.result _ c.from_residual.ensures.1) files c.args.tail.now c.loop-round.tail (was.leads told) (refl {a = true}) refused q ahead name at d
+
+pub returns-in_err-reading-clause-out : goal.returns-in_err-reading-clause-out
+returns-in_err-reading-clause-out g c told q file has ahead out =
+    let was = c.loop-round.invariant in
+    let files : Files = (g.D.Disk.view c.args.disk.now).files in
+    let e : TailRefusal = c.in_err-reading.field-0.0 in
+    let refused : IsRefusedAt {T = Reading} files c.loop-round.tail (Err e) =
+    refused_on (g.D.Disk.view c.args.disk.now) (g.D.Disk.view c.loop-round.disk) c.loop-round.tail (Err e) (was.looks told) (c.in_err-reading.ensures.refused told) in
+    out_shown (Err e) c.from_residual.result e refl (err_of c.from_residual.result _ c.from_residual.ensures.1) files c.args.tail.now c.loop-round.tail (was.leads told) (refl {a = true}) refused q ahead file has out
+
 -- ---- the last record
 
 pub returns-then-reading-clause-ships : goal.returns-then-reading-clause-ships
@@ -109,14 +138,51 @@ returns-then-reading-clause-ships g c told ms h not_peer =
     let stays : c.read_next.new.tail ≡ c.loop-round.tail = c.in_ok-reading.ensures.stays (search rules) in
     let read : HasReadOn files c.args.tail.now q was.xs = subst (λ (r : Position). HasReadOn files c.args.tail.now r was.xs) (sym (same ∙ stays)) (was.read told) in
     let end : IsAtEnd files q = end_on (g.D.Disk.view c.args.disk.now) (g.D.Disk.view c.loop-round.disk) c.read_next.new.tail q (was.looks told) same (c.in_ok-reading.ensures.last told (search rules)) in
-    ships_all g.P.Peer.has files c.args.tail.now q c.args.peer.now c.loop-round.peer was.xs read ms h c.confirm.new.self was.sent c.in_ok-confirm.ensures.recorded end
+    ships_all g.P.Peer.has files c.args.tail.now q c.args.peer.now c.loop-round.peer was.xs read ms h c.loop-round.count.unrecorded c.loop-round.count.within c.confirm.new.self was.sent c.in_ok-confirm.ensures.recorded end
+
+pub returns-then-reading-clause-all : goal.returns-then-reading-clause-all
+returns-then-reading-clause-all g c told =
+    let was = c.loop-round.invariant in
+    let stays : c.read_next.new.tail ≡ c.loop-round.tail = c.in_ok-reading.ensures.stays (search rules) in
+    all_texts (g.D.Disk.view c.args.disk.now).files c.args.tail.now c.loop-round.tail was.xs (was.read told)
+    (end_on (g.D.Disk.view c.args.disk.now) (g.D.Disk.view c.loop-round.disk) c.read_next.new.tail c.loop-round.tail (was.looks told) (sym stays) (c.in_ok-reading.ensures.last told (search rules)))
 
 pub returns-then-reading-clause-looks : goal.returns-then-reading-clause-looks
 returns-then-reading-clause-looks g c told =
     let was = c.loop-round.invariant in
     looks_both (g.D.Disk.view c.args.disk.now) (g.D.Disk.view c.loop-round.disk) (g.D.Disk.view c.read_next.new.disk) (was.looks told) (c.in_ok-reading.ensures.looks told)
 
+pub returns-then-reading-clause-leads : goal.returns-then-reading-clause-leads
+returns-then-reading-clause-leads g c told =
+    subst (LeadsTo (g.D.Disk.view c.args.disk.now).files c.args.tail.now) (sym (c.in_ok-reading.ensures.stays (search rules))) (c.loop-round.invariant.leads told)
+
+pub returns-then-reading-clause-damage : goal.returns-then-reading-clause-damage
+returns-then-reading-clause-damage g c told q name at ahead d =
+    let was = c.loop-round.invariant in
+    let files : Files = (g.D.Disk.view c.args.disk.now).files in
+    let read : IsRead files c.loop-round.tail [] c.loop-round.tail = last_read (g.D.Disk.view c.args.disk.now) (g.D.Disk.view c.loop-round.disk) c.loop-round.tail c.read_next.new.tail c.in_ok-reading.reading.entries (was.looks told)
+    (c.in_ok-reading.ensures.stays (search rules)) (c.in_ok-reading.ensures.none (search rules)) (c.in_ok-reading.ensures.reads told) in
+    absurd (none_ahead files c.args.tail.now c.loop-round.tail q (was.leads told) read (damaged_stuck files q name at d) ahead)
+
+pub returns-then-reading-clause-out : goal.returns-then-reading-clause-out
+returns-then-reading-clause-out g c told q file has ahead out =
+    let was = c.loop-round.invariant in
+    let files : Files = (g.D.Disk.view c.args.disk.now).files in
+    let read : IsRead files c.loop-round.tail [] c.loop-round.tail = last_read (g.D.Disk.view c.args.disk.now) (g.D.Disk.view c.loop-round.disk) c.loop-round.tail c.read_next.new.tail c.in_ok-reading.reading.entries (was.looks told)
+    (c.in_ok-reading.ensures.stays (search rules)) (c.in_ok-reading.ensures.none (search rules)) (c.in_ok-reading.ensures.reads told) in
+    absurd (none_ahead files c.args.tail.now c.loop-round.tail q (was.leads told) read (out_stuck files q file has out) ahead)
+
 -- ---- the last record fails
+
+pub returns-in_err-confirm-clause-leads : goal.returns-in_err-confirm-clause-leads
+returns-in_err-confirm-clause-leads g c told =
+    subst (LeadsTo (g.D.Disk.view c.args.disk.now).files c.args.tail.now) (sym (c.in_ok-reading.ensures.stays (search rules))) (c.loop-round.invariant.leads told)
+
+pub returns-in_err-confirm-clause-damage : goal.returns-in_err-confirm-clause-damage
+returns-in_err-confirm-clause-damage g c told q name at ahead d = inr (inr (inr (err_of c.from_residual-in_err-confirm.result ships.PeerFault c.from_residual-in_err-confirm.ensures.1)))
+
+pub returns-in_err-confirm-clause-out : goal.returns-in_err-confirm-clause-out
+returns-in_err-confirm-clause-out g c told q file has ahead out = inr (inr (inr (err_of c.from_residual-in_err-confirm.result ships.PeerFault c.from_residual-in_err-confirm.ensures.1)))
 
 pub returns-in_err-confirm-clause-ships : goal.returns-in_err-confirm-clause-ships
 returns-in_err-confirm-clause-ships g c told ms h not_peer =
@@ -134,7 +200,7 @@ returns-in_err-confirm-clause-failed g c told chronicle ms ns is h k failed =
     let q : Position = position_of c.position-position.result in
     let stays : c.read_next.new.tail ≡ c.loop-round.tail = c.in_ok-reading.ensures.stays (search rules) in
     let read : HasReadOn files c.args.tail.now q was.xs = subst (λ (r : Position). HasReadOn files c.args.tail.now r was.xs) (sym (c.position-position.ensures ∙ stays)) (was.read told) in
-    part_at_end g.P.Peer.has files c.args.tail.now q c.args.peer.now c.loop-round.peer was.xs read ms h c.confirm.new.self was.sent chronicle is ns
+    part_at_end g.P.Peer.has files c.args.tail.now q c.args.peer.now c.loop-round.peer was.xs read ms h c.loop-round.count.unrecorded c.loop-round.count.within c.confirm.new.self was.sent chronicle is ns
     (λ ls hl. c.in_err-confirm.ensures.failed ls ns hl k (refl {a = true}))
 
 pub returns-in_err-confirm-clause-looks : goal.returns-in_err-confirm-clause-looks
@@ -159,6 +225,18 @@ returns-in_err-confirm-clause-peer_cause g c =
 
 -- ---- the peer fails at an entry
 
+pub returns-in_err-ship_list-clause-leads : goal.returns-in_err-ship_list-clause-leads
+returns-in_err-ship_list-clause-leads g c told =
+    let was = c.loop-round.invariant in
+    leads_from (g.D.Disk.view c.args.disk.now) (g.D.Disk.view c.loop-round.disk) c.args.tail.now c.loop-round.tail c.read_next.new.tail c.in_ok-reading.reading.entries (was.looks told) (was.leads told)
+    (c.in_ok-reading.ensures.reads told)
+
+pub returns-in_err-ship_list-clause-damage : goal.returns-in_err-ship_list-clause-damage
+returns-in_err-ship_list-clause-damage g c told q name at ahead d = inr (inr (inr (err_of c.from_residual-in_err-ship_list.result ships.PeerFault c.from_residual-in_err-ship_list.ensures.1)))
+
+pub returns-in_err-ship_list-clause-out : goal.returns-in_err-ship_list-clause-out
+returns-in_err-ship_list-clause-out g c told q file has ahead out = inr (inr (inr (err_of c.from_residual-in_err-ship_list.result ships.PeerFault c.from_residual-in_err-ship_list.ensures.1)))
+
 pub returns-in_err-ship_list-clause-ships : goal.returns-in_err-ship_list-clause-ships
 returns-in_err-ship_list-clause-ships g c told ms h not_peer =
     absurd (not_peer (err_of c.from_residual-in_err-ship_list.result ships.PeerFault c.from_residual-in_err-ship_list.ensures.1))
@@ -178,8 +256,8 @@ returns-in_err-ship_list-clause-failed g c told chronicle ms ns is h k failed =
     let ys : List Placed = placed_behind file before c.as_slice.result.now in
     let here = subst (λ (es : List Entry). HasReadOn (g.D.Disk.view c.loop-round.disk).files c.loop-round.tail c.read_next.new.tail (placed_behind file before es)) (sym c.as_slice.ensures) (c.in_ok-reading.ensures.read told) in
     let read = joined_read (g.D.Disk.view c.args.disk.now) (g.D.Disk.view c.loop-round.disk) c.args.tail.now c.loop-round.tail c.read_next.new.tail was.xs ys (was.looks told) (was.read told) here in
-    part_so_far g.P.Peer.has (g.D.Disk.view c.args.disk.now).files c.args.tail.now c.read_next.new.tail c.args.peer.now c.ship_list.new.peer (was.xs ++ ys) read ms h chronicle is ns
-    (stopped_behind g.P.Peer.has c.args.peer.now c.loop-round.peer c.ship_list.new.peer was.xs ys was.sent (c.in_err-ship_list.ensures.stopped (refl {a = true}))) k
+    part_so_far g.P.Peer.has (g.D.Disk.view c.args.disk.now).files c.args.tail.now c.read_next.new.tail c.args.peer.now c.ship_list.new.peer (was.xs ++ ys) read ms h c.loop-round.count.unrecorded c.loop-round.count.within chronicle is ns
+    (stopped_behind g.P.Peer.has c.args.peer.now c.loop-round.peer c.ship_list.new.peer 0 c.loop-round.count.unrecorded was.xs ys was.sent (c.in_err-ship_list.ensures.stopped (refl {a = true}))) k
 
 pub returns-in_err-ship_list-clause-looks : goal.returns-in_err-ship_list-clause-looks
 returns-in_err-ship_list-clause-looks g c told =
