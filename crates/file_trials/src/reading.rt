@@ -145,8 +145,9 @@ const DAMAGED: &[(&[u8], &[(usize, u8)], usize, u64)] = &[
     // Each word over what the other one begins.
     (&FORMER, &[(4, b'2')], 97, 35),
     (&TWO_CELLS, &[(4, b'1')], 106, 9),
-    // Another scope; a family of 128 bytes; one that runs behind the file; one that the cells don't have.
-    (&TWO_CELLS, &[(9, 1)], 106, 9),
+    // Another scope; scope 1 with a family; a family of 128 bytes; one that runs behind the file; one that the cells don't have.
+    (&TWO_CELLS, &[(9, 2)], 106, 9),
+    (&TWO_CELLS, &[(9, 1)], 106, 10),
     (&TWO_CELLS, &[(9, 255)], 106, 9),
     (&TWO_CELLS, &[(10, 128)], 106, 10),
     (&TWO_CELLS, &[(10, 255)], 106, 10),
@@ -189,7 +190,7 @@ const DAMAGED: &[(&[u8], &[(usize, u8)], usize, u64)] = &[
     (&FORMER, &[(40, 3), (83, b'a'), (72, 2)], 97, 33),
     (&FORMER, &[(95, 5), (32, 1)], 97, 65),
     (&TWO_CELLS, &[(8, 2), (9, 1)], 106, 5),
-    (&TWO_CELLS, &[(9, 1), (10, 128)], 106, 9),
+    (&TWO_CELLS, &[(9, 2), (10, 128)], 106, 9),
     (&TWO_CELLS, &[(19, 0), (56, b'g')], 106, 12),
     (&TWO_CELLS, &[(13, 2), (21, 1)], 106, 12),
     // Cut in the word or in a field, which isn't whole then.
