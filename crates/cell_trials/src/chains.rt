@@ -6,6 +6,7 @@ use crate::puts::one_batch;
 use entry_frame::encode_entry;
 use kv_cell::Batch;
 use log_trucks::{Chains, Truck};
+use seq_accounting::{Accounting, FamilyMarks};
 use std::alloc::Global;
 use std::test::*;
 
@@ -22,6 +23,7 @@ fn truck(alloc: Global, region: u32, number: u64, batch: &Batch) -> Result<Box<T
         region,
         number,
         bytes,
+        marks: FamilyMarks::of_batch(alloc, batch)?,
         next: None,
     };
     Ok(Box::new(alloc, truck)?)
@@ -46,7 +48,10 @@ fn chain_of_100000_trucks_is_let_go(rt: HostRuntime) -> Result<(), Fail> {
     let mut chains = Chains::new(alloc)?;
     fill(alloc, &mut chains, 1, 100_000)?;
     fill(alloc, &mut chains, 2, 100_000)?;
-    assert_eq!(rt; chains.cells(alloc, 1)?.len(), 100_000);
+    let accounting = Accounting::new(alloc, &[])?;
+    assert_eq!(rt; chains.cells(alloc, &accounting, 1, &[])?.len(), 100_000);
+    chains.keep_unflushed(&accounting, 1);
+    assert!(rt; !chains.is_empty(1));
     chains.clear(1);
     assert!(rt; chains.is_empty(1));
     assert!(rt; !chains.is_empty(2));

@@ -1,8 +1,9 @@
 //! A device that is known by its type alone, as one behind a lock is: it is whole on its disk until it breaks, after each
 //! call.
 
-ghost use Rattle.std.specs.Prelude.{◌≡◌, ◌<◌, ℕ, List, [], IsTrue, get_or};
-ghost use Rattle.log_model.specs.Entry.{Entry, IsEntry, entry_frame};
+ghost use Rattle.std.specs.Prelude.{◌≡◌, ◌<◌, ◌≤◌, ℕ, List, [], length, IsTrue, IfSome, get_or};
+ghost use Rattle.log_model.specs.Entry.{Entry};
+ghost use Rattle.log_trucks.specs.Held.{Carries};
 ghost use Rattle.log_ledger.specs.Bases.{AreRegions};
 ghost use Rattle.log_ledger.specs.Books.{IsServed};
 ghost use Rattle.log_ledger.specs.History.{History};
@@ -41,8 +42,7 @@ impl<D: Disk> Bench<D> {
     pub(crate) fn stage(&mut self, truck: Box<Truck>) -> Result<(), StageFull>
         requires served { IsServed (books_of self.old.device) truck.value.region }
         requires alone { truck.value.behind ≡ [] }
-        requires entry { ∥ ((e : Entry) × IsEntry e × (truck.value.bytes ≡ entry_frame e) × (e.region ≡ truck.value.region)
-            × (e.number ≡ truck.value.number)) ∥₁ }
+        requires entry { ∥ ((e : Entry) × Carries truck.value e) ∥₁ }
         requires above { get_or (books_of self.old.device).drawn truck.value.region 0 < truck.value.number }
     {
         self.device.stage(truck)
@@ -56,10 +56,16 @@ impl<D: Disk> Bench<D> {
         self.device.roll(alloc)
     }
 
-    pub(crate) fn flush(&mut self, alloc: Global, region: u32) -> Result<u64, DeviceFlush>
-        requires { IsServed (books_of self.old.device) region }
+    pub(crate) fn flush(
+        &mut self,
+        alloc: Global,
+        region: u32,
+        family: Option<&[u8]>,
+    ) -> Result<u64, DeviceFlush>
+        requires served { IsServed (books_of self.old.device) region }
+        requires family { IfSome family (λ f. (1 ≤ length f.now) × (length f.now ≤ 127)) }
     {
-        self.device.flush(alloc, region)
+        self.device.flush(alloc, region, family)
     }
 
     pub(crate) fn archive(&mut self) -> Result<u64, WriteFault> {

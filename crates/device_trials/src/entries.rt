@@ -1,7 +1,8 @@
 //! Devices on an empty disk, and the entries that they are given.
 
 ghost use Rattle.std.specs.Prelude.{◌≡◌, ◌≤◌, ◌<◌, ◌^◌, [], IfOk, get_or};
-ghost use Rattle.log_model.specs.Entry.{Entry, IsEntry, entry_frame};
+ghost use Rattle.log_model.specs.Entry.{Entry};
+ghost use Rattle.log_trucks.specs.Held.{Carries};
 ghost use Rattle.log_ledger.specs.Books.{IsServed};
 ghost use Rattle.log_device.specs.Whole.{books_of};
 
@@ -11,6 +12,7 @@ use disk_images::{Name, NameKind};
 use entry_frame::encode_entry;
 use kv_cell::{Batch, Cell};
 use log_device::{DeviceFlush, DeviceRefusal, RegionBase, Truck};
+use seq_accounting::FamilyMarks;
 use std::alloc::Global;
 use std::test::Fail as TestFail;
 
@@ -71,12 +73,24 @@ pub(crate) fn value_of(region: u32) -> &'static [u8] {
 
 /// One put of row `r`, column `f:q`, with the edit's number as timestamp, so that edits 1 of region 1 are one and the same.
 pub(crate) fn one_put(alloc: Global, region: u32, number: u64) -> Result<Batch, TestFail> {
+    puts(alloc, region, number, b"f")
+}
+
+/// The same with a put into each of these families, whose names are one byte each.
+pub(crate) fn puts(
+    alloc: Global,
+    region: u32,
+    number: u64,
+    families: &[u8],
+) -> Result<Batch, TestFail> {
     let value = value_of(region);
-    let cell = Cell::new(alloc, b"r", b"f", b"q", number, 4, value)
-        .ok()
-        .ok_or("within the limits")?;
     let mut cells = Vec::new(alloc);
-    cells.push(cell)?;
+    for family in families {
+        let cell = Cell::new(alloc, b"r", &[*family], b"q", number, 4, value)
+            .ok()
+            .ok_or("within the limits")?;
+        cells.push(cell)?;
+    }
     Ok(Batch::new(cells).ok().ok_or("a batch")?)
 }
 
@@ -94,15 +108,15 @@ pub(crate) fn truck(
     ensures region { IfOk result (λ t. t.value.region ≡ region) }
     ensures number { IfOk result (λ t. t.value.number ≡ number) }
     ensures alone { IfOk result (λ t. t.value.behind ≡ []) }
-    ensures entry { IfOk result
-        (λ t. ∥ ((e : Entry) × IsEntry e × (t.value.bytes ≡ entry_frame e) × (e.region ≡ t.value.region)
-        × (e.number ≡ t.value.number)) ∥₁) }
+    ensures entry { IfOk result (λ t. ∥ ((e : Entry) × Carries t.value e) ∥₁) }
 {
+    let marks = FamilyMarks::of_batch(alloc, batch)?;
     let bytes = encode_entry(alloc, region, number, 1000, batch)?;
     let truck = Truck {
         region,
         number,
         bytes,
+        marks,
         next: None,
     };
     Ok(Box::new(alloc, truck)?)
@@ -125,14 +139,16 @@ pub(crate) fn next_number(bench: &Bench<MemDisk>, region: u32) -> Result<u64, Te
     Ok(number)
 }
 
-/// Stages the next edit of a region, and gives its number, or None where the stage is full.
+/// Stages the next edit of a region, with a put into each of these families, and gives its number, or None where the stage is
+/// full.
 pub(crate) fn stage_put(
     alloc: Global,
     bench: &mut Bench<MemDisk>,
     region: u32,
+    families: &[u8],
 ) -> Result<Option<u64>, TestFail> {
     let number = next_number(bench, region)?;
-    let batch = one_put(alloc, region, number)?;
+    let batch = puts(alloc, region, number, families)?;
     match bench.stage(truck(alloc, region, number, &batch)?) {
         Ok(()) => Ok(Some(number)),
         Err(_) => Ok(None),
@@ -146,5 +162,17 @@ pub(crate) fn flush(
     region: u32,
 ) -> Result<Result<u64, DeviceFlush>, TestFail> {
     next_number(bench, region)?;
-    Ok(bench.flush(alloc, region))
+    Ok(bench.flush(alloc, region, None))
+}
+
+/// Flushes one family, whose name is one byte, of a region that the device has.
+pub(crate) fn flush_of(
+    alloc: Global,
+    bench: &mut Bench<MemDisk>,
+    region: u32,
+    family: u8,
+) -> Result<Result<u64, DeviceFlush>, TestFail> {
+    next_number(bench, region)?;
+    let family = [family];
+    Ok(bench.flush(alloc, region, Some(&family)))
 }

@@ -65,10 +65,11 @@ const KINDS: [CallKind; 9] = [
 ];
 
 /// Each call of a device that makes disk calls, and one that stages.
-const AFTER: [Step; 5] = [
+const AFTER: [Step; 6] = [
     Step::Sync,
     Step::Roll,
     Step::Flush(1),
+    Step::FlushOf(1, b'f'),
     Step::Archive,
     Step::Put(1),
 ];
@@ -122,7 +123,7 @@ fn assert_broken<R: Abort>(
     let calls = all_calls(bench.device.disk());
     for step in AFTER {
         let want = match step {
-            Step::Put(_) => Answer::Full,
+            Step::Put(_) | Step::PutTo(_, _) | Step::PutBoth(_) => Answer::Full,
             _ => Answer::WriteFault,
         };
         assert_eq!(rt; take(alloc, bench, step)?, want, "{step:?}");

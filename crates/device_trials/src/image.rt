@@ -114,7 +114,12 @@ fn store_text(
 }
 
 /// What a crash at this moment may leave.
-fn crash_at(alloc: Global, disk: &MemDisk, moment: u64, choice: u64) -> Result<MemDisk, TestFail> {
+pub(crate) fn crash_at(
+    alloc: Global,
+    disk: &MemDisk,
+    moment: u64,
+    choice: u64,
+) -> Result<MemDisk, TestFail> {
     if moment > disk.clock() {
         Err("no such moment")?
     }

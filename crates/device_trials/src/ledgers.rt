@@ -4,6 +4,7 @@ ghost use Rattle.std.specs.Prelude.{◌≡◌, ◌≤◌, ◌<◌, ◌^◌, IfOk
 
 use crate::entries::{one_put, truck};
 use log_ledger::{Ledger, RegionBase};
+use seq_accounting::FlushRoom;
 use std::alloc::Global;
 use std::test::*;
 
@@ -62,23 +63,25 @@ fn close(ledger: &mut Ledger, file: u64) -> Result<(), Fail>
     Ok(())
 }
 
-/// Flushes a region that has something to flush, all of it committed.
-fn flush(ledger: &mut Ledger, region: u32) -> Result<(), Fail>
+/// Flushes all of a region that has something to flush, all of it committed.
+fn flush(alloc: Global, ledger: &mut Ledger, region: u32) -> Result<(), Fail>
     requires { region ≤ 64 }
     ensures { ledger.new.accounts.last ≡ ledger.old.accounts.last }
 {
     if ledger.next_store(region) == 0 {
         return Err(Fail::from("a region that is served"));
     }
-    if !ledger.has_unflushed(region) {
+    let room = FlushRoom::new(alloc, &[])?;
+    if !ledger.has_unflushed(region, None) {
         return Err(Fail::from("something to flush"));
     }
     if ledger.synced(region) < ledger.drawn(region) {
         return Err(Fail::from("all of it committed"));
     }
-    ledger.flush(region);
+    ledger.flush(region, room);
     Ok(())
 }
+
 /// The numbers of a region: the last one staged, and the last one committed; what is flushed, what the last flush gave,
 /// and what was committed at the roll; and the number of the next store file.
 fn told(ledger: &Ledger, region: u32) -> [u64; 6]
@@ -87,7 +90,7 @@ fn told(ledger: &Ledger, region: u32) -> [u64; 6]
     [
         ledger.drawn(region),
         ledger.synced(region),
-        ledger.flushed(region),
+        ledger.whole(region),
         ledger.stored(region),
         ledger.closed(region),
         ledger.next_store(region),
@@ -127,11 +130,12 @@ fn two_files(alloc: Global) -> Result<Ledger, Fail> {
 
 #[test]
 fn later_file_goes_before_an_earlier_one(rt: HostRuntime) -> Result<(), Fail> {
-    let mut ledger = two_files(rt.alloc())?;
-    flush(&mut ledger, 2)?;
+    let alloc = rt.alloc();
+    let mut ledger = two_files(alloc)?;
+    flush(alloc, &mut ledger, 2)?;
     assert!(rt; ledger.first_to_go(0) == Some(2));
     assert!(rt; ledger.forget_flushed() == 1);
-    flush(&mut ledger, 1)?;
+    flush(alloc, &mut ledger, 1)?;
     assert!(rt; ledger.first_to_go(0) == Some(1));
     assert!(rt; ledger.forget_flushed() == 1);
     Ok(())

@@ -1,6 +1,6 @@
-//! Trials of a device on a disk in memory that tells what it holds: worked files, faults of each disk call, crashes at
-//! each moment, ample memory; and of its numbers over time, without a disk: accounting and ledger. A library of tests
-//! alone, at the top, so that no crate waits for it.
+//! Trials of a device on a disk in memory that tells what it holds: worked files, flushes of one family, faults of each disk
+//! call, crashes at each moment, shipping of its logs, ample memory; and of its numbers over time, without a disk: accounting
+//! and ledger. A library of tests alone, at the top, so that no crate waits for it.
 #![tactic(auto)]
 
 #[cfg(test)]
@@ -10,6 +10,8 @@ mod bench;
 #[cfg(test)]
 mod entries;
 #[cfg(test)]
+mod families;
+#[cfg(test)]
 mod faults;
 #[cfg(test)]
 mod image;
@@ -17,5 +19,7 @@ mod image;
 mod ledgers;
 #[cfg(test)]
 mod script;
+#[cfg(test)]
+mod shipping;
 #[cfg(test)]
 mod worked;

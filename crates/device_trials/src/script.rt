@@ -11,10 +11,15 @@ use std::test::*;
 /// A call of the device.
 #[derive(Clone, Copy, Debug, PartialEq, Eq)]
 pub(crate) enum Step {
+    /// Into family `f` of a region, or into this family, whose name is one byte, or into `f` and `g`.
     Put(u32),
+    PutTo(u32, u8),
+    PutBoth(u32),
     Sync,
     Roll,
+    /// Of a region, or of one family of it.
     Flush(u32),
+    FlushOf(u32, u8),
     Archive,
 }
 
@@ -53,13 +58,18 @@ pub(crate) const EDITS: [(u32, u64); 5] = [(1, 1), (1, 2), (2, 1), (1, 3), (2, 2
 /// Takes one step.
 pub(crate) fn take(alloc: Global, bench: &mut Bench<MemDisk>, step: Step) -> Result<Answer, Fail> {
     match step {
-        Step::Put(region) => stage(alloc, bench, region),
+        Step::Put(region) => stage(alloc, bench, region, b"f"),
+        Step::PutTo(region, family) => stage(alloc, bench, region, &[family]),
+        Step::PutBoth(region) => stage(alloc, bench, region, b"fg"),
         Step::Sync => Ok(match bench.sync() {
             Ok(count) => Answer::Done(count),
             Err(_) => Answer::WriteFault,
         }),
         Step::Roll => Ok(roll(alloc, bench)),
-        Step::Flush(region) => flush(alloc, bench, region),
+        Step::Flush(region) => Ok(flushed(entries::flush(alloc, bench, region)?)),
+        Step::FlushOf(region, family) => {
+            Ok(flushed(entries::flush_of(alloc, bench, region, family)?))
+        }
         Step::Archive => Ok(match bench.archive() {
             Ok(count) => Answer::Done(count),
             Err(_) => Answer::WriteFault,
@@ -67,8 +77,13 @@ pub(crate) fn take(alloc: Global, bench: &mut Bench<MemDisk>, step: Step) -> Res
     }
 }
 
-fn stage(alloc: Global, bench: &mut Bench<MemDisk>, region: u32) -> Result<Answer, Fail> {
-    match stage_put(alloc, bench, region)? {
+fn stage(
+    alloc: Global,
+    bench: &mut Bench<MemDisk>,
+    region: u32,
+    families: &[u8],
+) -> Result<Answer, Fail> {
+    match stage_put(alloc, bench, region, families)? {
         Some(number) => Ok(Answer::Staged(number)),
         None => Ok(Answer::Full),
     }
@@ -83,13 +98,13 @@ fn roll(alloc: Global, bench: &mut Bench<MemDisk>) -> Answer {
     }
 }
 
-fn flush(alloc: Global, bench: &mut Bench<MemDisk>, region: u32) -> Result<Answer, Fail> {
-    Ok(match entries::flush(alloc, bench, region)? {
+fn flushed(res: Result<u64, DeviceFlush>) -> Answer {
+    match res {
         Ok(number) => Answer::Done(number),
         Err(DeviceFlush::Memory) => Answer::Memory,
         Err(DeviceFlush::WriteFault) => Answer::WriteFault,
         Err(DeviceFlush::Nothing { flushed }) => Answer::Nothing(flushed),
-    })
+    }
 }
 
 /// What the device answers to each step of the script, and its numbers then, as `numbers` gives them.

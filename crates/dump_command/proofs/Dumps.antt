@@ -9,11 +9,11 @@ use Rattle.disk_images.specs.Crash.{DiskView}
 use Rattle.script_model.specs.Outputs.{dump_text}
 use Rattle.script_model.specs.Report.{end_line}
 use Rattle.wal_dump.specs.Kinds.{kind_word}
-use Rattle.command_ends.specs.Invocation.{invocation}
-use Rattle.command_ends.specs.LogFiles.{log_name, IsFound, IsDamagedLog, IsLogDamage, IsLogRefusal}
-use Rattle.command_ends.specs.Status.{IsDamageOf, IsOrEarlier}
-use Rattle.command_ends.specs.declared.status.Status.{Status}
-use Rattle.command_ends.specs.declared.status.Status.TheVariants as ends
+use Rattle.command_base.specs.Invocation.{invocation}
+use Rattle.command_base.specs.LogFiles.{log_name, IsFound, IsDamagedLog, IsLogDamage, IsLogRefusal}
+use Rattle.command_base.specs.Status.{IsDamageOf, IsOrEarlier}
+use Rattle.command_base.specs.declared.status.Status.{Status}
+use Rattle.command_base.specs.declared.status.Status.TheVariants as ends
 use Rattle.dump_command.specs.Dumped.{none_text, IsDumped, DumpDone}
 use Rattle.dump_command.specs.Found.{HasFound, IsOfNumber, found_text}
 use Rattle.dump_command.specs.declared.command.Found.{Found}
@@ -50,6 +50,7 @@ log_reported u n name at ends.SourceFault may damage told (inr other) d = absurd
 log_reported u n name at ends.SinkFault may damage told (inr other) d = absurd may
 log_reported u n name at (ends.NumbersSpent region last) may damage told (inr other) d = absurd may
 log_reported u n name at (ends.NotEmpty m) may damage told (inr other) d = absurd may
+log_reported u n name at (ends.NoPosition number entries) may damage told (inr other) d = absurd may
 
 -- ---- what is printed
 

@@ -9,10 +9,10 @@ use Rattle.log_model.specs.Files.{Files, IsAbsent}
 use Rattle.script_model.specs.Report.{line}
 use Rattle.script_model.specs.Outputs.{dump_text, end_line}
 use Rattle.wal_dump.specs.Kinds.{kind_word}
-use Rattle.command_ends.specs.Invocation.{Invocation}
-use Rattle.command_ends.specs.LogFiles.{log_name, IsFound, IsDamagedLog}
-use Rattle.command_ends.specs.Ends.{Effects, EndsAs, reads}
-use Rattle.command_ends.specs.declared.status.Status.{Status}
+use Rattle.command_base.specs.Invocation.{Invocation}
+use Rattle.command_base.specs.LogFiles.{log_name, IsFound, IsDamagedLog}
+use Rattle.command_base.specs.Ends.{Effects, EndsAs, reads}
+use Rattle.command_base.specs.declared.status.Status.{Status}
 
 abbrev pub old_name : ℕ → Name
 old_name n = record { kind = kinds.Old; region = 0; number = n }

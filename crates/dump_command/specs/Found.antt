@@ -4,7 +4,7 @@ use Rattle.log_model.specs.declared.name.NameKind.TheVariants as kinds
 use Rattle.log_model.specs.Files.{Files, IsAbsent}
 use Rattle.script_model.specs.Outputs.{dump_text}
 use Rattle.wal_dump.specs.Kinds.{kind_word}
-use Rattle.command_ends.specs.LogFiles.{log_name, IsFound}
+use Rattle.command_base.specs.LogFiles.{log_name, IsFound}
 use Rattle.dump_command.specs.Dumped.{IsDumped, old_name, none_text}
 use Rattle.dump_command.specs.declared.command.Found.{Found}
 

@@ -4,14 +4,14 @@ ghost use Rattle.std.specs.Prelude.{◌≡◌, ◌≢◌, ◌≤◌, [], ◌∷�
 ghost use Rattle.log_model.specs.declared.name.Name.{Name as TheName};
 ghost use Rattle.disk_images.specs.Calls.{Rose, HasCause};
 ghost use Rattle.script_model.specs.Outputs.{refused_memory};
-ghost use Rattle.command_ends.specs.Invocation.{invocation, IsUnchanged, KeepsImages};
-ghost use Rattle.command_ends.specs.LogFiles.{IsDamagedLog, IsLogDamage, IsLogRefusal, ReportsDamage};
-ghost use Rattle.command_ends.specs.Prints.{Prints};
-ghost use Rattle.command_ends.specs.Status.{refusal_line, IsDamageOf, IsOrEarlier, IsPrintEnd, IsReadingEnd};
+ghost use Rattle.command_base.specs.Invocation.{invocation, IsUnchanged, KeepsImages};
+ghost use Rattle.command_base.specs.LogFiles.{IsDamagedLog, IsLogDamage, IsLogRefusal, ReportsDamage};
+ghost use Rattle.command_base.specs.Prints.{Prints};
+ghost use Rattle.command_base.specs.Status.{refusal_line, IsDamageOf, IsOrEarlier, IsPrintEnd, IsReadingEnd};
 ghost use Rattle.dump_command.specs.Dumped.{EndsDump, IsDumped, IsDumpDamage, old_name};
 ghost use Rattle.dump_command.specs.Found.{HasFound, HasOldFound, IsOfNumber, found_text};
 
-use command_ends::{Damage, Status, emit, find_log, refuse};
+use command_base::{Damage, Status, emit, find_log, refuse};
 use disk_images::{Disk, Name, NameKind, Sink};
 use kv_cell::NoMemory;
 use log_file::LogText;

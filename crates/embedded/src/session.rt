@@ -1,6 +1,7 @@
 //! What a handler calls.
 
-ghost use Rattle.std.specs.Prelude.{◌≡◌, ◌≤◌, ◌<◌, ◌+◌, ◌-◌, ◌^◌, ◌++◌, ◌∷◌, []};
+ghost use Rattle.std.specs.Prelude.{◌≡◌, ◌≤◌, ◌<◌, ◌+◌, ◌-◌, ◌^◌, ◌++◌, ◌∷◌, [], length, IfSome};
+ghost use Rattle.std.specs.Option.{option_map};
 ghost use Rattle.region_model.specs.Calls.{Raw, Newest};
 ghost use Rattle.server_model.specs.Pass.{IsLater};
 ghost use Rattle.server_model.specs.Steps.{Puts, Scans, Flushes, Rolls, IsQuietPass};
@@ -91,13 +92,15 @@ pub trait Session {
         ensures of { is_open self.new }
         ensures same { setting self.new ≡ setting self.old };
 
-    /// Writes what is logged of a region to a store file, and answers up to which sequence id. Where a flush of the region by another handler
-    /// was under way, it answers that one's call.
-    fn flush(&mut self, region: u32) -> Result<u64, FlushRefusal>
+    /// Writes what is logged of a family of a region (1 to 127 bytes), or of all where none is given, to a store file, and answers up to which
+    /// sequence id. Where a flush of the region by another handler was under way, it answers that one's call.
+    fn flush(&mut self, region: u32, family: Option<&[u8]>) -> Result<u64, FlushRefusal>
+        requires family { IfSome family (λ f. (1 ≤ length f.now) × (length f.now ≤ 127)) }
         requires of { is_open self.old }
         requires region { (1 ≤ region) × (region ≤ name.regions) }
         requires left { (knows self.old).calls + 1 < 2 ^ 32 }
-        ensures flushes { Flushes name region (next_call (knows self.old)) (flush_answer result) (knows self.old) (knows self.new) }
+        ensures flushes { Flushes name region (option_map (λ f. f.now) family.entry) (next_call (knows self.old)) (flush_answer result)
+            (knows self.old) (knows self.new) }
         ensures of { is_open self.new }
         ensures same { setting self.new ≡ setting self.old };
 

@@ -44,14 +44,14 @@ impl<'a, 'b, D: Disk, N: ServerName, R: Wait> Session for ServerSession<'a, 'b, 
     ghost use Rattle.region_calls.specs.Passes.{knows, IsPassOf};
     ghost use Rattle.embedded.specs.Settings.{IsSetFor, setting_of};
 
-    ghost name = { ⟦<N as region_calls::Naming>⟧.name };
+    ghost name = { ⟦<N as region_calls::ServerNaming>⟧.name };
 
     ghost setting = { λ s. setting_of s.server.now s.time (knows s.first.value) };
 
     ghost knows = { λ s. knows s.pass };
 
     ghost is_open = { λ s. IsPassOf s.server.now s.pass
-        × IsSetFor ⟦<N as region_calls::Naming>⟧.name s.time s.regions s.calls (knows s.first.value) (knows s.pass) };
+        × IsSetFor ⟦<N as region_calls::ServerNaming>⟧.name s.time s.regions s.calls (knows s.first.value) (knows s.pass) };
 
     fn regions(&self) -> u32 {
         self.regions
@@ -107,10 +107,16 @@ impl<'a, 'b, D: Disk, N: ServerName, R: Wait> Session for ServerSession<'a, 'b, 
         self.server.read_point(&mut self.pass, region)
     }
 
-    fn flush(&mut self, region: u32) -> Result<u64, FlushRefusal> {
+    fn flush(&mut self, region: u32, family: Option<&[u8]>) -> Result<u64, FlushRefusal> {
         self.calls += 1;
-        self.server
-            .flush(self.rt, self.alloc, &mut self.pass, region, self.calls)
+        self.server.flush(
+            self.rt,
+            self.alloc,
+            &mut self.pass,
+            region,
+            self.calls,
+            family,
+        )
     }
 
     fn roll(&mut self) -> Result<Rolled, RollRefusal> {

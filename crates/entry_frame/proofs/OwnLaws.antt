@@ -25,7 +25,7 @@ cell_there form [] n rest lt all same = absurd (omega arith)
 cell_there form (c ∷ cs) zero rest lt all same = (c, record { cell = all.0; rest = flat_map (spelled form) cs ++ []; is = same ∙ append_assoc (spelled form c) (flat_map (spelled form) cs) [] })
 cell_there form (c ∷ cs) (suc n) rest lt all same = cell_there form cs n rest (omega arith) all.1 same
 
-copy_next : (form : Form) (cs : List Cell) (n : ℕ) (d : Cell) (rest : List ℕ) → n < length cs → AllByRecursion (HasForm form) cs → rest ≡ flat_map (spelled form) (drop n cs) ++ [] → Fronts form rest d
+pub copy_next : (form : Form) (cs : List Cell) (n : ℕ) (d : Cell) (rest : List ℕ) → n < length cs → AllByRecursion (HasForm form) cs → rest ≡ flat_map (spelled form) (drop n cs) ++ [] → Fronts form rest d
     → (take n cs ++ d ∷ [] ≡ take (suc n) cs) × (drop (spelled_length form d) rest ≡ flat_map (spelled form) (drop (suc n) cs) ++ [])
 copy_next form [] n d rest lt all same f = absurd (omega arith)
 copy_next form (c ∷ cs) zero d rest lt all same f =

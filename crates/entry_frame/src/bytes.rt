@@ -2,8 +2,10 @@
 
 ghost use Rattle.std.specs.Prelude.{◌≡◌, ◌≤◌, ◌<◌, ◌^◌, length, IfOk};
 ghost use Rattle.log_model.specs.Entry.{Entry as TheEntry, IsEntry, entry_frame};
+ghost use Rattle.entry_frame.specs.Frame.{IsRefOf};
 ghost use Rattle.entry_frame.specs.Spelling.{IsSpelling, renumbered};
 
+use crate::frame::EntryRef;
 use crate::owning::own_batch;
 use crate::reading::{entry_in, form_of_kind};
 use byteorder::{BigEndian, ByteOrder};
@@ -58,9 +60,17 @@ impl EntryBytes {
     pub fn to_batch(&self, alloc: Global) -> Result<Batch, NoMemory>
         ensures { (e : TheEntry) → IsEntry e → self.now ≡ entry_frame e → IfOk result (λ own. own ≡ e.batch) }
     {
+        own_batch(alloc, &self.entry())
+    }
+
+    /// The entry that these bytes spell, lent. It takes no memory.
+    pub fn entry(&self) -> EntryRef<'_>
+        ensures is { (e : TheEntry) × IsEntry e × IsRefOf result e }
+        ensures only { (e : TheEntry) → IsEntry e → self.now ≡ entry_frame e → IsRefOf result e }
+    {
         let form = form_of_kind(self.bytes[0]);
         match entry_in(form, &self.bytes[5..]) {
-            Some(entry) => own_batch(alloc, &entry),
+            Some(entry) => entry,
             None => unreachable!(),
         }
     }

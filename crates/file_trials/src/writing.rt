@@ -42,7 +42,7 @@ fn write(
     requires { length family.now ≤ 127 }
 {
     let count = cells.len() as u64;
-    let mut store = StoreFile::begin(alloc, disk, STORE_3, family, 5, 9, count)?;
+    let mut store = StoreFile::begin(alloc, disk, STORE_3, 0, family, 5, 9, count)?;
     for (number, row, value, tags) in cells {
         store.fill(disk, *number, &put(alloc, *row, value, tags)?)?;
     }
@@ -108,7 +108,7 @@ fn three_big_cells_are_one_write(rt: HostRuntime) -> Result<(), Fail> {
 #[test]
 fn ample_memory_suffices(rt: HostRuntime) -> Result<(), Fail> {
     let mut disk = OneFile::of(Vec::new(rt.alloc()));
-    let store = StoreFile::begin(rt.alloc(), &mut disk, STORE_3, b"", 1, 1, 0);
+    let store = StoreFile::begin(rt.alloc(), &mut disk, STORE_3, 0, b"", 1, 1, 0);
     assert!(rt; !matches!(store, Err(FileRefusal::Memory)));
     assert_eq!(rt; disk.calls, 3);
     Ok(())

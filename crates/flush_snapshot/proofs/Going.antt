@@ -6,7 +6,7 @@ use Rattle.disk_images.specs.Crash.{DiskView, Throughout, OnlyAt}
 use Rattle.disk_images.specs.OneFile.{Touches}
 use Rattle.disk_images.proofs.Moments.{more_time}
 use Rattle.disk_images.proofs.Torn.{then_only}
-use Rattle.recovery.specs.Kept.{IsNotThere}
+use Rattle.recovery_laws.specs.Kept.{IsNotThere}
 use Rattle.store_file.specs.Open.{OpenStore, IsAlike, IsFilling}
 use Rattle.store_file.proofs.Writing.{still_shut}
 
@@ -33,7 +33,7 @@ touches_on name u v w first second = record {
 
 pub none_filled : (told : Type 0) (o : OpenStore) (v : DiskView) (rows : List NumberedCell) → (told → IsFilling o v []) → Going told o o v v rows 0
 none_filled told o v rows begun = record {
-  alike = record { name = refl; family = refl; from = refl; to = refl; count = refl };
+  alike = record { name = refl; scope = refl; family = refl; from = refl; to = refl; count = refl };
   filling = λ is_told. subst (λ (l : List NumberedCell). IsFilling o v l) (sym (take_none rows)) (begun is_told);
   moments = λ is_told. still_shut o v 0 [] (begun is_told);
   touches = λ is_told. touches_none o.name v;
@@ -51,7 +51,7 @@ module _ (told : Type 0) (begun o next : OpenStore) (first v w : DiskView) (rows
   pub one_row_more : (x : NumberedCell) → take (count + 1) rows ≡ take count rows ++ x ∷ [] → IsAlike o next → (told → IsFilling next w (take count rows ++ x ∷ [])) → (told → Touches o.name v w)
       → Going told begun next first w rows (count + 1)
   one_row_more x is same filling touches = record {
-    alike = record { name = same.name ∙ so_far.alike.name; family = same.family ∙ so_far.alike.family; from = same.from ∙ so_far.alike.from; to = same.to ∙ so_far.alike.to; count = same.count ∙ so_far.alike.count };
+    alike = record { name = same.name ∙ so_far.alike.name; scope = same.scope ∙ so_far.alike.scope; family = same.family ∙ so_far.alike.family; from = same.from ∙ so_far.alike.from; to = same.to ∙ so_far.alike.to; count = same.count ∙ so_far.alike.count };
     filling = λ is_told. subst (λ (l : List NumberedCell). IsFilling next w l) (sym is) (filling is_told);
     moments = one_call_more;
     touches = λ is_told. touches_on begun.name first v w (so_far.touches is_told) (subst (λ (n : Name). Touches n v w) so_far.alike.name (touches is_told));

@@ -7,7 +7,7 @@ use Rattle.log_model.specs.StoreText.{Store, IsStore, store_text}
 use Rattle.disk_images.specs.Crash.{DiskView, IsInNoImage, Throughout, OnlyAt}
 use Rattle.disk_images.proofs.Moments.{more_time}
 use Rattle.disk_images.proofs.Torn.{then_only}
-use Rattle.recovery.specs.Kept.{IsNotThere}
+use Rattle.recovery_laws.specs.Kept.{IsNotThere}
 use Rattle.store_file.specs.Open.{OpenStore, IsAlike, IsFilling, store_of}
 use Rattle.store_file.specs.Whole.{IsWholeOrNot}
 use Rattle.store_file.proofs.Stores.{not_begun, or_whole}
@@ -38,13 +38,14 @@ rows_moments o now u v w rows same whole count filling first second =
 -- the store of a segment, as it was begun with these rows
 pub record IsOfSegment (o : OpenStore) (rows : List NumberedCell) (name : Name) (family : List ℕ) (from to : ℕ) (segment : Content) : Type 0 where
   pub name_is : o.name ≡ name
+  pub scope_is : o.scope ≡ 0
   pub family_is : o.family ≡ family
   pub from_is : o.from ≡ from
   pub to_is : o.to ≡ to
   pub rows_are : rows ≡ cells_of segment
 
 pub same_segment : (o : OpenStore) (rows : List NumberedCell) (name : Name) (family : List ℕ) (from to : ℕ) (segment : Content) → IsOfSegment o rows name family from to segment → store_of o rows ≡ segment_store name family from to segment
-same_segment o rows name family from to segment of = λ i. record { region = ap (λ (n : Name). n.region) of.name_is i; scope = 0; family = of.family_is i; from = of.from_is i; to = of.to_is i; cells = of.rows_are i }
+same_segment o rows name family from to segment of = λ i. record { region = ap (λ (n : Name). n.region) of.name_is i; scope = of.scope_is i; family = of.family_is i; from = of.from_is i; to = of.to_is i; cells = of.rows_are i }
 
 pub segment_moments : (o : OpenStore) (rows : List NumberedCell) (name : Name) (family : List ℕ) (from to : ℕ) (segment : Content) (u v w : DiskView) → IsOfSegment o rows name family from to segment → Throughout (OnlyAt name IsNotThere u) 3 u v
     → Throughout (OnlyAt o.name (IsWholeOrNot (store_text Tagged (store_of o rows))) v) (length rows + 4) v w

@@ -123,7 +123,7 @@ pub fn write_segment<D: Disk>(
 {
     let rows = segment.rows();
     let count = rows.len() as u64;
-    let store = StoreFile::begin(alloc, disk, name, family, from, to, count)?;
+    let store = StoreFile::begin(alloc, disk, name, 0, family, from, to, count)?;
     write_rows(disk, store, rows)?;
     Ok(())
 }

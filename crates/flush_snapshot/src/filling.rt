@@ -7,7 +7,7 @@ ghost use Rattle.log_model.specs.StoreText.{IsStore, store_text};
 ghost use Rattle.disk_images.specs.Crash.{Throughout, OnlyAt};
 ghost use Rattle.disk_images.specs.OneFile.{Touches, IsDurableFile};
 ghost use Rattle.disk_images.specs.Calls.{HasCause};
-ghost use Rattle.recovery.specs.Kept.{IsNotThere};
+ghost use Rattle.recovery_laws.specs.Kept.{IsNotThere};
 ghost use Rattle.store_file.specs.Open.{IsAlike, IsFilling, store_of};
 ghost use Rattle.store_file.specs.Whole.{IsWholeOrNot};
 
@@ -15,12 +15,9 @@ use disk_images::Disk;
 use mem_segments::Row;
 use store_file::{DiskFault, StoreFile};
 
-/// Fills a store file that has no cell yet with these rows, and commits it.
-pub(crate) fn write_rows<D: Disk>(
-    disk: &mut D,
-    store: StoreFile,
-    rows: &[Row],
-) -> Result<(), DiskFault>
+/// Fills a store file that has no cell yet with these rows, which are as many as it is to have, in order and in range, and
+/// commits it. It takes no memory.
+pub fn write_rows<D: Disk>(disk: &mut D, store: StoreFile, rows: &[Row]) -> Result<(), DiskFault>
     requires filling { IsTrue D.told → IsFilling store (D.view disk.old) [] }
     requires empty { store.filled ≡ 0 }
     requires whole { IsStore (store_of store rows.now) }

@@ -10,7 +10,7 @@ use Rattle.log_model.specs.declared.name.NameKind.TheVariants as kinds
 use Rattle.log_model.specs.StoreText.{Store, IsStoreText}
 use Rattle.log_model.specs.Files.{Files, IsPresent, IsStoreFile, name_cmp}
 use Rattle.log_model.specs.Recovered.{IsGreatest}
-use Rattle.recovery.proofs.OneStore.{one_store}
+use Rattle.recovery_laws.proofs.OneStore.{one_store}
 use Rattle.found_files.specs.declared.found.FoundEntry.{FoundEntry}
 use Rattle.found_files.specs.declared.found.FoundStore.{FoundStore}
 use Rattle.found_files.specs.Found.{store_of, AreContents}

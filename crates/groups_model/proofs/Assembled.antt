@@ -17,8 +17,8 @@ use Rattle.server_model.specs.Closing.{Survives, Leaves, Handled}
 use Rattle.server_model.proofs.JournalLaws.{handled_has}
 use Rattle.server_model.proofs.PassLaws.{runs_told}
 use Rattle.server_model.proofs.RepliesLaw.{has_pass, whose_pass, run_of}
-use Rattle.one_thread.specs.History.{IsHistory}
-use Rattle.one_thread.proofs.History.{history_of as in_one_thread}
+use Rattle.serial_history.specs.History.{IsHistory}
+use Rattle.serial_history.proofs.History.{history_of as in_one_thread}
 use Rattle.run_model.specs.Headline.{History, report_of, IsOneJournal, Endures, AreDone, FitsStatus}
 use Rattle.run_model.specs.Closed.{ClosedAt, ClosedOn, FitsFrom, FitsThroughout}
 use Rattle.run_model.proofs.Choices.{each_in, each_up_to}
@@ -154,7 +154,7 @@ module _ {groups : ℕ} {script : Script} {found left : ℕ → DiskView} {names
           let k = group_of groups x.region in
           let there = group_there groups x.region some in
           let t = told groups k script (found k) (left k) (names k) hs (xs k) (broken k) (c.each k there) (so k there.0 there.1) x (right.from x is) refl status (whole k there) in
-          record { last = t.0; content = t.1; journal = t.2; lawful = t.3; one_thread = t.4; endures = t.5 }
+          record { last = t.0; content = t.1; journal = t.2; lawful = t.3; serial_history = t.4; endures = t.5 }
 
   -- the headline, though not which beginning of a journal a crash leaves
   pub groups_headline : (status : ℕ) → FitsStatus status (all_replies hs) → ((k : ℕ) → IsGroup groups k → status ≢ 5 → broken k ≡ false)

@@ -5,13 +5,13 @@ use Rattle.std.proofs.lemmas.List.Elements.{filter-append}
 use Rattle.std.proofs.lemmas.Nat.{mod_below}
 use Rattle.cell_model.specs.Batch.{Batch}
 use Rattle.region_model.specs.Journal.{Base, Edit}
-use Rattle.region_model.specs.Calls.{Call, Put, Scan, Flush, Roll, Reply}
+use Rattle.region_model.specs.Calls.{Call, Put, Scan, Flush, Roll, IsFlushOf, Reply}
 use Rattle.region_model.specs.Crash.{Receipted, IsReceipted, Put_ok, Put_memory, Flushed}
 use Rattle.region_model.specs.Lawful.{IsOn}
 use Rattle.script_model.specs.Calls.{Script, asked, asked_by}
 use Rattle.server_model.specs.Closing.{Pairs, replies_of}
 use Rattle.server_model.proofs.JournalLaws.{filter_has, filter_kept}
-use Rattle.one_thread.specs.History.{IsHistory}
+use Rattle.serial_history.specs.History.{IsHistory}
 use Rattle.run_model.specs.Closed.{AreCallsOn}
 use Rattle.run_model.proofs.AskedLaws.{whole_script}
 use Rattle.groups_model.specs.Groups.{group_of, group_for, IsGroup, is_on, replies_on, is_asked_on, asked_on}
@@ -53,8 +53,12 @@ pub asked_of_group : (groups k : ℕ) (script : Script) → AreCallsOn (λ r. gr
 asked_of_group groups k script = record {
   part = λ a is. filter_kept (is_asked_on groups k) (asked script) a is;
   order = pairs_filter _ (is_asked_on groups k) (asked script) (whole_script script).order;
-  flushes = λ a r here is flush. filter_has (is_asked_on groups k) (asked script) a is (eq-eqb (group_for groups a.handler a.call) k (ap (group_for groups a.handler) flush ∙ here));
+  flushes = λ a r here is flush. filter_has (is_asked_on groups k) (asked script) a is (eq-eqb (group_for groups a.handler a.call) k (at r a.handler a.call here flush));
 }
+  where
+    at : (r h : ℕ) (call : Call) → group_of groups r ≡ k → IsFlushOf r call → group_for groups h call ≡ k
+    at r h (Flush s family) here same = ap (group_of groups) same ∙ here
+    at r h _ here same = absurd same
 
 on_group : (groups k r : ℕ) (y : Reply) → group_of groups r ≡ k → IsOn r y.call → is_on groups k y ≡ true
 on_group groups k r y here on = eq-eqb (group_for groups y.handler y.call) k (at y.call on)
@@ -62,7 +66,7 @@ on_group groups k r y here on = eq-eqb (group_for groups y.handler y.call) k (at
     at : (call : Call) → IsOn r call → group_for groups y.handler call ≡ k
     at (Put s sync batch) same = ap (group_of groups) same ∙ here
     at (Scan view s from to) same = ap (group_of groups) same ∙ here
-    at (Flush s) same = ap (group_of groups) same ∙ here
+    at (Flush s family) same = ap (group_of groups) same ∙ here
     at Roll same = absurd same
 
 -- a reply on a region is one on its group
@@ -73,10 +77,14 @@ reply_on groups k r replies y here on is = filter_has (is_on groups k) replies y
 pub receipted_on : (groups k r n : ℕ) (replies : List Reply) → group_of groups r ≡ k → Receipted r n replies → Receipted r n (replies_on groups k replies)
 receipted_on groups k r n replies here (y, is, receipt) = (y, reply_on groups k r replies y here (on receipt) is, receipt)
   where
+    flush_on : (call : Call) → IsFlushOf r call → IsOn r call
+    flush_on (Flush s family) same = same
+    flush_on _ same = absurd same
+
     on : IsReceipted r n y → IsOn r y.call
     on (Put_ok batch call answer) = subst (IsOn r) (sym call) refl
     on (Put_memory batch call answer) = subst (IsOn r) (sym call) refl
-    on (Flushed call answer) = subst (IsOn r) (sym call) refl
+    on (Flushed call answer) = flush_on y.call call
 
 -- a history of the replies on a region's group is one of all replies
 pub history_on : (groups k r : ℕ) (base : Base) (edits : List Edit) (replies history : List Reply) → group_of groups r ≡ k → IsHistory r base edits (replies_on groups k replies) history → IsHistory r base edits replies history

@@ -6,7 +6,7 @@ use Rattle.std.proofs.lemmas.List.Kept.{AllPairs-cons}
 use Rattle.cell_model.specs.Batch.{batch_of}
 use Rattle.cell_model.specs.Cell.{Cell}
 use Rattle.region_model.specs.Journal.{Base, Edit, Done, visible}
-use Rattle.region_model.specs.Calls.{Put, Scan, viewed, Flush, Roll, PutOk, PutFault, PutSpent, Scanned, FlushBusy, RollOk, Reply, IsAnswerTo}
+use Rattle.region_model.specs.Calls.{Put, Scan, viewed, IsFlushOf, Roll, PutOk, PutFault, PutSpent, Scanned, FlushBusy, RollOk, Reply, IsAnswerTo}
 use Rattle.region_model.specs.Lawful.{IsOn, IsLawful, InOrder, KeepsPlaces, StopsAtFault, IsEditOf, number_of, flushed_of}
 use Rattle.groups_model.specs.Groups.{group_of, replies_on}
 
@@ -70,7 +70,7 @@ lawful_by_group = record {
   faults = alone StopsAtFault;
   flushes = λ reply n is. only (λ r. IsOn 2 r.call → flushed_of r.answer ≡ Some n → (0 ≤ n) × (n ≤ 1)) (λ o e. absurd cc) reply is;
   busy = λ reply h c is. only
-      (λ r. IsOn 2 r.call → r.answer ≡ FlushBusy h c → (h ≡ r.handler → ⊥) × ((other : Reply) × Contains (puts ∷ []) other × (other.handler ≡ h) × (other.number ≡ c) × (other.call ≡ Flush 2)))
+      (λ r. IsOn 2 r.call → r.answer ≡ FlushBusy h c → (h ≡ r.handler → ⊥) × ((other : Reply) × Contains (puts ∷ []) other × (other.handler ≡ h) × (other.number ≡ c) × IsFlushOf 2 other.call))
       (λ o e. absurd cc) reply is;
   spent = λ reply n is. only (λ r. IsOn 2 r.call → r.answer ≡ PutSpent n → (n ≡ 281474976710655) × (1 ≡ n)) (λ o e. absurd cc) reply is;
 }

@@ -13,7 +13,7 @@ group_of groups r = (r - 1) % groups + 1
 abbrev pub group_for : ℕ → ℕ → Call → ℕ
 group_for groups h (Put r sync batch) = group_of groups r
 group_for groups h (Scan view r from to) = group_of groups r
-group_for groups h (Flush r) = group_of groups r
+group_for groups h (Flush r family) = group_of groups r
 group_for groups h Roll = group_of groups h
 
 abbrev pub IsGroup : ℕ → ℕ → Type 0

@@ -11,7 +11,7 @@ use Rattle.region_model.specs.Crash.{Fits}
 use Rattle.script_model.specs.Report.{report_text}
 use Rattle.script_model.specs.Calls.{Script, asked, asked_by}
 use Rattle.disk_images.specs.Crash.{DiskView, IsImageNow}
-use Rattle.one_thread.specs.History.{IsHistory}
+use Rattle.serial_history.specs.History.{IsHistory}
 use Rattle.run_model.specs.Headline.{History, report_of, IsOneJournal, Endures, AreDone, FitsStatus}
 use Rattle.run_model.specs.Closed.{FitsFrom}
 use Rattle.groups_model.specs.Groups.{group_of, IsGroup, replies_on}
@@ -23,7 +23,7 @@ pub record IsTold (groups : ℕ) (script : Script) (found left : ℕ → DiskVie
   pub content : IsContent (IsRecovered (found (group_of groups h.region)).files h.region) h.base.content
   pub journal : IsOneJournal script h
   pub lawful : IsLawful h.region h.base h.edits (replies_on groups (group_of groups h.region) replies)
-  pub one_thread : (history : List Reply) × IsHistory h.region h.base h.edits replies history
+  pub serial_history : (history : List Reply) × IsHistory h.region h.base h.edits replies history
   pub endures : Endures (left (group_of groups h.region)) status replies h
 
 -- Of one group: its files were sound, and what else a crash leaves on its disk.

@@ -14,14 +14,14 @@ use Rattle.log_service.proofs.Crossing.{item_send, service_sync}
 use Rattle.log_service.specs.contracts.item.Item as item
 use Rattle.log_service.specs.contracts.seats.LogSeat as seats
 use Rattle.log_service.specs.contracts.service.LogService as service
-use Rattle.log_service.specs.declared.name.Naming.{Ghosts as LogGhosts}
+use Rattle.log_service.specs.declared.name.ServiceNaming.{Ghosts as LogGhosts}
 use Rattle.region_calls.specs.contracts.pass.Pass as pass
 use Rattle.region_calls.specs.contracts.server.Server as server
-use Rattle.region_calls.specs.declared.naming.Naming.{Ghosts}
+use Rattle.region_calls.specs.declared.naming.ServerNaming.{Ghosts}
 use Rattle.region_lock.specs.contracts.locked.Locked as locked
 use Rattle.region_lock.specs.contracts.part.RegionPart as part
 use Rattle.region_lock.specs.contracts.pass.RegionPass as region_pass
-use Rattle.region_lock.specs.declared.naming.Naming.{Ghosts as LockGhosts}
+use Rattle.region_lock.specs.declared.naming.LockNaming.{Ghosts as LockGhosts}
 use Rattle.region_state.proofs.state.RegionState.TheSendSync as state
 use Rattle.region_state.proofs.line.Line.TheSendSync as lines
 use Rattle.region_state.specs.contracts.line.Line as line
@@ -29,7 +29,7 @@ use Rattle.region_state.specs.contracts.state.RegionState as states
 use Rattle.region_versions.proofs.Crossing.{shower_send, viewer_send}
 use Rattle.region_versions.proofs.history.History.TheSendSync as history
 use Rattle.region_versions.specs.contracts.history.History as histories
-use Rattle.region_versions.specs.declared.naming.Naming.{Ghosts as VersionGhosts}
+use Rattle.region_versions.specs.declared.naming.VersionsNaming.{Ghosts as VersionGhosts}
 use Rattle.std.proofs.Crossing.{crosses, Vec-send, Vec-sync}
 use Rattle.std.specs.contracts.sync.Mutex as mutex
 use denote.Param.Send.{IsSend, IsSync, sendable, shr_sync, view_send, view_sync, whole-keyless}

@@ -26,6 +26,7 @@ fn access_of(words: &[&str]) -> Access {
     match words {
         [word] if *word == "show" => Access::Reading,
         [word, _] if *word == "dump" => Access::Reading,
+        [word, _, _] if *word == "ship" => Access::Reading,
         _ => Access::Writing,
     }
 }

@@ -9,9 +9,9 @@ use Rattle.found_files.specs.declared.refusal.SplitRefusal.TheVariants as refusa
 use Rattle.region_replay.specs.Ready.{Found}
 use Rattle.region_calls.specs.declared.refusal.StartWhy.{StartWhy}
 use Rattle.region_calls.specs.declared.refusal.StartWhy.TheVariants as whys
-use Rattle.command_ends.specs.Status.{IsDamageOf, IsPrintEnd}
-use Rattle.command_ends.specs.declared.status.Status.{Status}
-use Rattle.command_ends.specs.declared.status.Status.TheVariants as ends
+use Rattle.command_base.specs.Status.{IsDamageOf, IsPrintEnd}
+use Rattle.command_base.specs.declared.status.Status.{Status}
+use Rattle.command_base.specs.declared.status.Status.TheVariants as ends
 use Rattle.recover_command.specs.Recovered.{IsStoreDamage}
 use Rattle.recover_command.specs.Refusals.{refused_as}
 use Rattle.run_command.specs.Carried.{IfFoundDamaged}

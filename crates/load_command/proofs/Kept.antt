@@ -4,11 +4,11 @@ use Rattle.std.proofs.Math.Logic.{∥∥₁_map}
 use Rattle.log_model.specs.Files.{Files}
 use Rattle.disk_images.specs.Crash.{DiskView, IsImageNow}
 use Rattle.disk_images.proofs.Moments.{at_end}
-use Rattle.recovery.specs.Alike.{AllAlike}
+use Rattle.recovery_laws.specs.Alike.{AllAlike}
 use Rattle.wal_split.specs.Moments.{During, WasOrAlike}
 use Rattle.run_model.specs.Headline.{AllKeep, KeepsFound, KeepsIn, MayKeep}
-use Rattle.command_ends.specs.Invocation.{AtEachMoment}
-use Rattle.command_ends.proofs.Endings.{each_then, no_moment}
+use Rattle.command_base.specs.Invocation.{AtEachMoment}
+use Rattle.command_base.proofs.Endings.{each_then, no_moment}
 
 alike_keeps : (found old new : Files) → KeepsIn found old → AllAlike old new → KeepsIn found new
 alike_keeps found old new keeps alike = record {

@@ -8,7 +8,7 @@ use Rattle.log_model.specs.declared.name.Name.{Name}
 use Rattle.recover_command.specs.Recovered.{IsStoreDamage}
 use Rattle.log_model.specs.Files.{Files, IsSound, IsPresent}
 use Rattle.log_model.specs.Recovered.{RecoversAlike}
-use Rattle.recovery.specs.Alike.{AllAlike}
+use Rattle.recovery_laws.specs.Alike.{AllAlike}
 use Rattle.disk_images.specs.Crash.{DiskView, IsImageNow, Elapses, Throughout}
 use Rattle.disk_images.specs.Calls.{Looks, Rose}
 use Rattle.script_model.specs.Calls.{Script}
@@ -31,13 +31,13 @@ use Rattle.region_calls.specs.declared.closed.ClosedRegion.{ClosedRegion}
 use Rattle.script_run.specs.Ends.{closed_at, lines_of, HasClosed}
 use Rattle.load_model.specs.Loaded.{HasBroken, HasStopped}
 use Rattle.load_model.proofs.Empty.{empty_is_sound}
-use Rattle.command_ends.specs.Invocation.{invocation, AtEachMoment, GoesOn}
-use Rattle.command_ends.specs.Prints.{Prints}
-use Rattle.command_ends.specs.Ends.{Done, Failed}
-use Rattle.command_ends.specs.Status.{refusal_line, exit_status, IsComplete, IsNotEmpty, IsOrEarlier}
-use Rattle.command_ends.specs.declared.status.Status.{Status}
-use Rattle.command_ends.specs.declared.status.Status.TheVariants as ends
-use Rattle.command_ends.proofs.Endings.{refused_so, looked, each_on, each_then}
+use Rattle.command_base.specs.Invocation.{invocation, AtEachMoment, GoesOn}
+use Rattle.command_base.specs.Prints.{Prints}
+use Rattle.command_base.specs.Ends.{Done, Failed}
+use Rattle.command_base.specs.Status.{refusal_line, exit_status, IsComplete, IsNotEmpty, IsOrEarlier}
+use Rattle.command_base.specs.declared.status.Status.{Status}
+use Rattle.command_base.specs.declared.status.Status.TheVariants as ends
+use Rattle.command_base.proofs.Endings.{refused_so, looked, each_on, each_then}
 use Rattle.run_command.specs.Carried.{IfFoundDamaged}
 use Rattle.run_command.specs.Decided.{decided, spent_or, wants_memory}
 use Rattle.run_command.specs.Ends.{joined, status_for}
@@ -149,7 +149,7 @@ headline_before {script} {status} {text} u v w looks goes h = record {
   report = subst (λ (f : Files). IsOneReport script f h.histories h.replies) looks.files h.report;
   journals = h.journals;
   lawful = h.lawful;
-  one_thread = h.one_thread;
+  serial_history = h.serial_history;
   endures = h.endures;
   others = λ J r image above. subst (λ (f : Files). RecoversAlike f J r) looks.files (h.others J r image above);
   images_sound = λ low J image. h.images_sound (subst (λ (f : Files). (name : Name) → IsPresent f name → name.number ≤ 2 ^ 61) (sym looks.files) low) J image;
@@ -213,10 +213,12 @@ ends_before ends.Usage options script had has u v w rose wider cut may looks goe
 ends_before (ends.Script line why) options script had has u v w rose wider cut may looks goes more e = absurd may
 ends_before ends.SourceFault options script had has u v w rose wider cut may looks goes more e = absurd may
 ends_before (ends.NotEmpty name) options script had has u v w rose wider cut may looks goes more e = absurd may
+ends_before (ends.NoPosition number entries) options script had has u v w rose wider cut may looks goes more e = absurd may
 
 -- what the statuses of a load on an empty store are not
 pub closed_load : (status : Status) → IsClosedEnd status → IsLoadEnd status
 closed_load (ends.NotEmpty name) may = tt
+closed_load (ends.NoPosition number entries) may = absurd may
 closed_load ends.Done may = may
 closed_load ends.Memory may = may
 closed_load ends.DiskFault may = may
@@ -249,6 +251,7 @@ refused_first status result options script had has u v rose cut is may looks pri
     go ends.Memory m p = (refused_so had has refused_memory cut (p refused_memory refl), keeps)
     go ends.DiskFault m p = inr (refused_so had has refused_disk cut (p refused_disk refl), looked (MayOpen u) u v looks (λ J now. inl now))
     go (ends.NotEmpty name) m p = tt
+    go (ends.NoPosition number entries) m p = absurd m
     go ends.Done m p = absurd m
     go ends.SinkFault m p = absurd m
     go (ends.Damaged damage) m p = absurd m
@@ -261,6 +264,7 @@ pub refusal_end : (status : Status) → IsStoreRefusal status → IsLoadEnd stat
 refusal_end ends.Memory m = tt
 refusal_end ends.DiskFault m = tt
 refusal_end (ends.NotEmpty name) m = tt
+refusal_end (ends.NoPosition number entries) m = absurd m
 refusal_end ends.Done m = absurd m
 refusal_end ends.SinkFault m = absurd m
 refusal_end (ends.Damaged damage) m = absurd m
@@ -287,12 +291,14 @@ refusal_first (ends.NumbersSpent region last) files name rest m told is = absurd
 refusal_first ends.Usage files name rest m told is = absurd m
 refusal_first (ends.Script line why) files name rest m told is = absurd m
 refusal_first ends.SourceFault files name rest m told is = absurd m
+refusal_first (ends.NoPosition number entries) files name rest m told is = absurd m
 
 -- a store without names is refused for memory or a fault alone
 pub refusal_complete : (status : Status) (files : Files) → IsStoreRefusal status → IsNotEmpty status files → keys files ≡ [] → (status ≡ ends.DiskFault → ⊥) → IsComplete status
 refusal_complete ends.Memory files m told none unbroken = tt
 refusal_complete ends.DiskFault files m told none unbroken = absurd (unbroken refl)
 refusal_complete (ends.NotEmpty name) files m told none unbroken = let no : [] ≡ name ∷ told.0 = sym none ∙ told.1 in absurd cc
+refusal_complete (ends.NoPosition number entries) files m told none unbroken = absurd m
 refusal_complete ends.Done files m told none unbroken = absurd m
 refusal_complete ends.SinkFault files m told none unbroken = absurd m
 refusal_complete (ends.Damaged damage) files m told none unbroken = absurd m
@@ -330,3 +336,4 @@ fault_cases ends.Usage = inr (λ e. absurd cc)
 fault_cases (ends.Script line why) = inr (λ e. absurd cc)
 fault_cases ends.SourceFault = inr (λ e. absurd cc)
 fault_cases (ends.NotEmpty name) = inr (λ e. absurd cc)
+fault_cases (ends.NoPosition number entries) = inr (λ e. absurd cc)

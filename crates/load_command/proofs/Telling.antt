@@ -4,7 +4,7 @@ use Rattle.std.proofs.Math.Logic.{∥∥₁_map, ∥∥₁_elim}
 use Rattle.log_model.specs.Files.{Files, IsSound}
 use Rattle.log_model.specs.declared.damage.Damage.{Damage}
 use Rattle.disk_images.specs.Crash.{DiskView, IsImageNow}
-use Rattle.recovery.specs.Alike.{AllAlike}
+use Rattle.recovery_laws.specs.Alike.{AllAlike}
 use Rattle.found_files.specs.Refusal.{IfDamage}
 use Rattle.found_files.specs.declared.refusal.SplitRefusal.{SplitRefusal}
 use Rattle.found_files.specs.declared.refusal.SplitRefusal.TheVariants as refusals
@@ -21,13 +21,13 @@ use Rattle.run_model.proofs.KeepsFound.{all_keep}
 use Rattle.load_model.specs.Text.{load_text, ended_text}
 use Rattle.load_model.specs.Loaded.{HasLoaded, HasBroken, HasStopped}
 use Rattle.load_model.proofs.Leaves.{loaded, stopped, none_spent, sound_left}
-use Rattle.command_ends.specs.Invocation.{invocation}
-use Rattle.command_ends.specs.Prints.{Prints}
-use Rattle.command_ends.specs.Ends.{Done, Failed}
-use Rattle.command_ends.specs.Status.{refusal_line, exit_status, IsPrintEnd, IsReadingEnd, IsComplete, IsRefusal}
-use Rattle.command_ends.specs.declared.status.Status.{Status}
-use Rattle.command_ends.specs.declared.status.Status.TheVariants as ends
-use Rattle.command_ends.proofs.Endings.{taken_whole, taken_begins, refused_so}
+use Rattle.command_base.specs.Invocation.{invocation}
+use Rattle.command_base.specs.Prints.{Prints}
+use Rattle.command_base.specs.Ends.{Done, Failed}
+use Rattle.command_base.specs.Status.{refusal_line, exit_status, IsPrintEnd, IsReadingEnd, IsComplete, IsRefusal}
+use Rattle.command_base.specs.declared.status.Status.{Status}
+use Rattle.command_base.specs.declared.status.Status.TheVariants as ends
+use Rattle.command_base.proofs.Endings.{taken_whole, taken_begins, refused_so}
 use Rattle.recover_command.specs.Recovered.{IsStoreDamage}
 use Rattle.recover_command.specs.Refusals.{refused_as}
 use Rattle.recover_command.proofs.Leaving.{recovered}
@@ -62,6 +62,7 @@ printed_ends (ends.Script line why) options text script had has before after ros
 printed_ends ends.SourceFault options text script had has before after rose cut may loads keeps printed refused = absurd may
 printed_ends (ends.NumbersSpent region last) options text script had has before after rose cut may loads keeps printed refused = absurd may
 printed_ends (ends.NotEmpty name) options text script had has before after rose cut may loads keeps printed refused = absurd may
+printed_ends (ends.NoPosition number entries) options text script had has before after rose cut may loads keeps printed refused = absurd may
 
 pub refused_ends : (refusal : SplitRefusal) (options : LoadOptions) (script had has : List ℕ) (before after : DiskView) (rose cut : Type 0) → (refusal ≡ refusals.DiskFault → ⊥) → KeepsFound before after
     → ((text : List ℕ) → refusal_line (refused_as refusal) ≡ Some text → Prints had has text cut) → EndsLoad (refused_as refusal) options (invocation script before after had has) rose cut
@@ -82,6 +83,7 @@ print_complete (ends.Script line why) may no_sink = absurd may
 print_complete ends.SourceFault may no_sink = absurd may
 print_complete (ends.NumbersSpent region last) may no_sink = absurd may
 print_complete (ends.NotEmpty name) may no_sink = absurd may
+print_complete (ends.NoPosition number entries) may no_sink = absurd may
 
 pub refused_complete : (refusal : SplitRefusal) (D : Damage → Type 0) → (refusal ≡ refusals.DiskFault → ⊥) → ((d : Damage) → D d → ⊥) → IfDamage {T = List Found} (Err refusal) D → IsComplete (refused_as refusal)
 refused_complete refusals.Memory D unbroken none h = tt
@@ -137,6 +139,7 @@ unfinished_ends ends.Usage result options counts script had has before left rose
 unfinished_ends (ends.Script line why) result options counts script had has before left rose cut may undone found as_said same ended rise printed refused = absurd may
 unfinished_ends ends.SourceFault result options counts script had has before left rose cut may undone found as_said same ended rise printed refused = absurd may
 unfinished_ends (ends.NotEmpty name) result options counts script had has before left rose cut may undone found as_said same ended rise printed refused = absurd may
+unfinished_ends (ends.NoPosition number entries) result options counts script had has before left rose cut may undone found as_said same ended rise printed refused = absurd may
 
 -- ---- parts of a decided status
 
@@ -159,6 +162,7 @@ unfinished_refusal status result had has cut may found (inl same) refused is tex
     no_refusal (ends.Script line' why) d f r = d
     no_refusal ends.SourceFault d f r = d
     no_refusal (ends.NotEmpty name) d f r = d
+    no_refusal (ends.NoPosition number entries) d f r = d
 unfinished_refusal status result had has cut may found (inr (inl memory)) refused is text line =
     let said : Some refused_memory ≡ Some text = sym (ap refusal_line memory) ∙ line in
     let same : refused_memory ≡ text = cc said in
@@ -179,6 +183,7 @@ unfinished_end status result may (inl same) = subst IsClosedEnd (sym same) (clos
     closed_end (ends.Script line why) d = absurd d
     closed_end ends.SourceFault d = absurd d
     closed_end (ends.NotEmpty name) d = absurd d
+    closed_end (ends.NoPosition number entries) d = absurd d
 unfinished_end status result may (inr (inl memory)) = subst IsClosedEnd (sym memory) tt
 unfinished_end status result may (inr (inr sink)) = subst IsClosedEnd (sym sink) tt
 
@@ -202,6 +207,7 @@ unfinished_complete status result options before left as_said may undone found e
     none (ends.Script line why) d undone' found' whole e = d
     none ends.SourceFault d undone' found' whole e = d
     none (ends.NotEmpty name) d undone' found' whole e = d
+    none (ends.NoPosition number entries) d undone' found' whole e = d
 
 -- ---- a line alone
 
@@ -221,3 +227,4 @@ reading_closed (ends.Script line why) may = absurd may
 reading_closed ends.SourceFault may = absurd may
 reading_closed (ends.NumbersSpent region last) may = absurd may
 reading_closed (ends.NotEmpty name) may = absurd may
+reading_closed (ends.NoPosition number entries) may = absurd may

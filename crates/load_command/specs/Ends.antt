@@ -6,11 +6,11 @@ use Rattle.made_script.specs.Made.{AreOptions, made_script}
 use Rattle.made_script.specs.declared.options.LoadOptions.{LoadOptions}
 use Rattle.run_model.specs.Headline.{IsHeadline, AllKeep, KeepsFound, IsHalfOpened}
 use Rattle.load_model.specs.Loaded.{HasLoaded, HasBroken, HasStopped}
-use Rattle.command_ends.specs.Invocation.{Invocation}
-use Rattle.command_ends.specs.Ends.{Effects, EndsAs}
-use Rattle.command_ends.specs.Status.{exit_status}
-use Rattle.command_ends.specs.declared.status.Status.{Status}
-use Rattle.command_ends.specs.declared.status.Status.TheVariants as ends
+use Rattle.command_base.specs.Invocation.{Invocation}
+use Rattle.command_base.specs.Ends.{Effects, EndsAs}
+use Rattle.command_base.specs.Status.{exit_status}
+use Rattle.command_base.specs.declared.status.Status.{Status}
+use Rattle.command_base.specs.declared.status.Status.TheVariants as ends
 
 -- What stands with a text that is its output. Where want of memory alone is told, each image was one before, or has the cells that were there
 -- before and no other ones of their numbers. Where a fault of the disk alone is told, nothing was run: at each moment each image was one before or

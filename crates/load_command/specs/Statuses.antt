@@ -1,8 +1,8 @@
 -- With which statuses a load and its parts end.
 use Rattle.std.specs.Prelude.{◌≡◌, ◌⊎◌}
-use Rattle.command_ends.specs.Status.{IsReadingEnd}
-use Rattle.command_ends.specs.declared.status.Status.{Status}
-use Rattle.command_ends.specs.declared.status.Status.TheVariants as ends
+use Rattle.command_base.specs.Status.{IsReadingEnd}
+use Rattle.command_base.specs.declared.status.Status.{Status}
+use Rattle.command_base.specs.declared.status.Status.TheVariants as ends
 
 -- looking whether the store is empty
 abbrev pub IsStoreRefusal : Status → Type 0

@@ -3,10 +3,10 @@
 ghost use Rattle.std.specs.Prelude.{◌≡◌, [], IsTrue, OnOk, IfErr, IsErrOf};
 ghost use Rattle.std.specs.FinMap.{keys};
 ghost use Rattle.disk_images.specs.Calls.{Looks, HasCause};
-ghost use Rattle.command_ends.specs.Status.{IsNotEmpty};
+ghost use Rattle.command_base.specs.Status.{IsNotEmpty};
 ghost use Rattle.load_command.specs.Statuses.{IsStoreRefusal};
 
-use command_ends::Status;
+use command_base::Status;
 use disk_images::{Disk, NamesError};
 use std::alloc::Global;
 

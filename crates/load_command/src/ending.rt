@@ -8,9 +8,9 @@ ghost use Rattle.made_script.specs.Made.{made_script};
 ghost use Rattle.made_script.specs.declared.options.LoadOptions.{LoadOptions};
 ghost use Rattle.load_model.specs.Text.{load_text, ended_text};
 ghost use Rattle.run_model.specs.Headline.{MayKeep};
-ghost use Rattle.command_ends.specs.Invocation.{invocation, AtEachMoment};
-ghost use Rattle.command_ends.specs.Prints.{Prints};
-ghost use Rattle.command_ends.specs.Status.{refusal_line, exit_status, IsComplete, IsDamageOf, IsRefusal, IsPrintEnd, IsReadingEnd};
+ghost use Rattle.command_base.specs.Invocation.{invocation, AtEachMoment};
+ghost use Rattle.command_base.specs.Prints.{Prints};
+ghost use Rattle.command_base.specs.Status.{refusal_line, exit_status, IsComplete, IsDamageOf, IsRefusal, IsPrintEnd, IsReadingEnd};
 ghost use Rattle.recover_command.specs.Recovered.{IsStoreDamage};
 ghost use Rattle.recover_command.specs.Refusals.{refused_as};
 ghost use Rattle.load_command.specs.Ends.{EndsLoad, HasEnded};
@@ -18,7 +18,7 @@ ghost use Rattle.load_command.specs.Statuses.{IsDecided, IsClosedEnd, IsPrintedA
 
 use crate::counting::count_cells;
 use crate::text::{ended_text, whole_text};
-use command_ends::{Status, emit, refuse};
+use command_base::{Status, emit, refuse};
 use disk_images::{Disk, Sink};
 use found_files::SplitRefusal;
 use kv_cell::NoMemory;

@@ -10,8 +10,8 @@ use Rattle.region_model.specs.Journal.{Edit, InCallOrder, put_edits}
 use Rattle.region_model.specs.Lawful.{IsOn}
 use Rattle.region_model.specs.Calls.{Call, Put, Scan, Flush, Roll, Answer, PutSpent, Reply, IsAnswerTo}
 use Rattle.disk_images.specs.Crash.{DiskView, IsImageNow}
-use Rattle.recovery.specs.Alike.{AllAlike}
-use Rattle.recovery.specs.Kept.{HasNoLogs}
+use Rattle.recovery_laws.specs.Alike.{AllAlike}
+use Rattle.recovery_laws.specs.Kept.{HasNoLogs}
 use Rattle.script_model.specs.Calls.{Script, Asked, asked_of, asked_from, asked, asked_by, IsAmong}
 use Rattle.run_model.specs.Spent.{IsSpent}
 use Rattle.run_model.specs.Headline.{History, IsHeadline}
@@ -62,7 +62,7 @@ among_regions o right a is = asked_among (made_script o) a (made_right o right).
 spent_put : (call : Call) (answer : Answer) → IsAnswerTo call answer → IsSpent answer → (r : ℕ) × (sync : Bool) × (batch : Batch) × (n : ℕ) × (call ≡ Put r sync batch) × (answer ≡ PutSpent n)
 spent_put (Put r sync batch) (PutSpent n) fits spent = (r, sync, batch, n, refl, refl)
 spent_put (Scan view r from to) (PutSpent n) fits spent = absurd cc
-spent_put (Flush r) (PutSpent n) fits spent = absurd cc
+spent_put (Flush r family) (PutSpent n) fits spent = absurd cc
 spent_put Roll (PutSpent n) fits spent = absurd cc
 spent_put call answer fits spent = absurd spent
 

@@ -25,7 +25,7 @@ use Rattle.load_model.proofs.Cells.{cells_counted}
 abbrev pub HasOneCell : Call → Type 0
 HasOneCell (Put region sync batch) = length batch.cells ≡ 1
 HasOneCell (Scan view region from to) = Unit {0}
-HasOneCell (Flush region) = Unit {0}
+HasOneCell (Flush region family) = Unit {0}
 HasOneCell Roll = Unit {0}
 
 either_call : (P : Call → Type 0) (b : Bool) (c d : Call) → P c → P d → P (if b then c else d)

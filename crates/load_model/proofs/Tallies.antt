@@ -101,13 +101,13 @@ tally_length p (a ∷ xs) = elim (p a.call) as (λ b. cond b 1 0 + tally p xs �
 abbrev pub puts_on : ℕ → Call → Bool
 puts_on r (Put region sync batch) = region == r
 puts_on r (Scan view region from to) = false
-puts_on r (Flush region) = false
+puts_on r (Flush region family) = false
 puts_on r Roll = false
 
 one_call : (n : ℕ) (c : Call) → IsAmong n c → sum_over (λ r. cond (puts_on r c) 1 0) 1 n ≡ cond (is_put c) 1 0
 one_call n (Put region sync batch) among = sum_one region 1 n among.0 (omega (arith, among.1))
 one_call n (Scan view region from to) among = sum_zeros 1 n
-one_call n (Flush region) among = sum_zeros 1 n
+one_call n (Flush region family) among = sum_zeros 1 n
 one_call n Roll among = sum_zeros 1 n
 
 -- Each put is into one of the regions.
@@ -127,7 +127,7 @@ none_above n r (a ∷ xs) above among =
     not_here : (c : Call) → IsAmong n c → ◌≡◌ {A = ℕ} (cond (puts_on r c) 1 0) 0
     not_here (Put region sync batch) within = ap (λ b. cond b 1 0) (ne_eqb region r (λ is. omega (arith, is, within.1, above)))
     not_here (Scan view region from to) within = refl
-    not_here (Flush region) within = refl
+    not_here (Flush region family) within = refl
     not_here Roll within = refl
 
 -- ---- calls that pass
@@ -138,7 +138,7 @@ puts_there r (Put region sync batch) is = elim (cases_eq region r) [
   | inr other ↦ let no : true ≡ false = sym is ∙ ne_eqb region r other in absurd cc
 ]
 puts_there r (Scan view region from to) is = absurd cc
-puts_there r (Flush region) is = absurd cc
+puts_there r (Flush region family) is = absurd cc
 puts_there r Roll is = absurd cc
 
 pub put_passes : (r : ℕ) (sync : Bool) (batch : Batch) (c : Call) → c ≡ Put r sync batch → puts_on r c ≡ true

@@ -7,7 +7,7 @@ use Rattle.log_model.specs.Recovered.{IsRecovered, IsContent}
 use Rattle.region_model.specs.Journal.{Edit, Follows, InCallOrder, put_edits}
 use Rattle.region_model.specs.Calls.{Put}
 use Rattle.disk_images.specs.Crash.{DiskView, IsImageNow}
-use Rattle.recovery.specs.Kept.{HasNoLogs}
+use Rattle.recovery_laws.specs.Kept.{HasNoLogs}
 use Rattle.script_model.specs.Calls.{Script, Asked, asked}
 use Rattle.run_model.specs.Closed.{caller_of}
 use Rattle.run_model.specs.Headline.{IsHeadline}

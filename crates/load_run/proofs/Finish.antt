@@ -6,19 +6,22 @@ use Rattle.log_model.specs.declared.damage.Damage.{Damage}
 use Rattle.log_model.specs.declared.damage.Damage.TheVariants as damages
 use Rattle.log_model.specs.Files.{Files, IsSound}
 use Rattle.log_model.specs.Damage.{IsDamage}
-use Rattle.load_run.specs.Words.{Word, To_log, To_show, To_dump, To_recover, To_run, meaning_of}
+use Rattle.chronicle_model.specs.Chronicle.{Position}
+use Rattle.ship_command.specs.Shipped.{IsShipDamage, IsShipEnd, IsShipComplete, LacksPosition}
+use Rattle.load_run.specs.Words.{Word, To_log, To_show, To_dump, To_ship, To_recover, To_compact, To_run, meaning_of}
 use Rattle.load_run.specs.declared.words.Word.{Word as CodeWord}
 use Rattle.disk_images.specs.Crash.{DiskView}
-use Rattle.command_ends.specs.Invocation.{AtEachMoment}
-use Rattle.command_ends.specs.LogFiles.{log_name, IsDamagedLog, IsLogDamage}
+use Rattle.command_base.specs.Invocation.{AtEachMoment, Invocation}
+use Rattle.command_base.specs.LogFiles.{log_name, IsDamagedLog, IsLogDamage}
 use Rattle.dump_command.specs.Dumped.{IsDumped, IsDumpDamage}
-use Rattle.load_run.specs.Top.{MustTell, HasRightScript, IsReady, MayLeave, IsScriptTold, IsStatusFor, earlier_than_damage, IsCompleteFor}
-use Rattle.command_ends.specs.Status.{IsDamageOf, IsOrEarlier, IsComplete, IsReadingEnd}
-use Rattle.command_ends.specs.declared.status.Status.{Status}
-use Rattle.command_ends.specs.declared.status.Status.TheVariants as ends
+use Rattle.load_run.specs.Top.{Ends, MustTell, HasRightScript, IsNoPositionFor, IsReady, MayLeave, IsScriptTold, IsStatusFor, earlier_than_damage, IsCompleteFor}
+use Rattle.command_base.specs.Status.{IsDamageOf, IsOrEarlier, IsComplete, IsReadingEnd}
+use Rattle.command_base.specs.declared.status.Status.{Status}
+use Rattle.command_base.specs.declared.status.Status.TheVariants as ends
 use Rattle.script_model.specs.Script.{script_fault}
 use Rattle.script_model.specs.declared.command.Command.TheVariants.{Run}
 use Rattle.recover_command.specs.Recovered.{IsStoreDamage}
+use Rattle.store_compact.specs.declared.kind.CompactKind.{CompactKind}
 use Rattle.run_command.specs.Ends.{IsRunComplete}
 
 abbrev some_or : {A : Type 0} → A → Option A → A
@@ -45,6 +48,10 @@ status_of words command status is may = subst (λ (o : Option Word). IsStatusFor
 
 pub none_status : (read : Option CodeWord) (words : Option Word) (status : Status) → read ≡ None → option_map meaning_of read ≡ words → status ≡ ends.Usage → IsStatusFor words status
 none_status read words status is names used = status_of words None status (sym names ∙ ap (option_map meaning_of) is) (subst (λ (s : Status). IsStatusFor None s) (sym used) tt)
+
+-- what stands then, for the command that was read
+pub ends_for : (word x : Word) (status : Status) (o : Invocation) (rose sank : Type 0) → word ≡ x → Ends x status o rose sank → Ends word status o rose sank
+ends_for word x status o rose sank is stands = subst (λ (w : Word). Ends w status o rose sank) (sym is) stands
 
 -- damage that was told, for the command that was read
 reported_for : (word x : Word) (status : Status) (damage : Damage) → word ≡ x → IsOrEarlier status (ends.Damaged damage) (earlier_than_damage x)
@@ -77,6 +84,13 @@ dump_reported word n status files damage is damaged told = reported_for word (To
     each (damages.Bytes name at) d = told name at d.0 d.1
     each (damages.Two first second region number) d = absurd d
 
+pub ship_reported : (word : Word) (p : Position) (status : Status) (files : Files) (damage : Damage) → word ≡ To_ship p → MustTell word files damage
+    → ((x : Damage) → IsShipDamage p files x → IsOrEarlier status (ends.Damaged x) (ends.DiskFault ∷ ends.SinkFault ∷ [])) → IsOrEarlier status (ends.Damaged damage) (earlier_than_damage word)
+ship_reported word p status files damage is damaged told = reported_for word (To_ship p) status damage is (told damage (subst (λ (w : Word). MustTell w files damage) is damaged))
+
+pub ship_lacks : (word : Word) (p : Position) (files : Files) (file has : ℕ) → word ≡ To_ship p → IsNoPositionFor word files file has → LacksPosition p files file has
+ship_lacks word p files file has is lacks = subst (λ (w : Word). IsNoPositionFor w files file has) is lacks
+
 -- of a command without a script: without a fault, and where nothing that it reads is damaged, it is done
 reader_done : (status : Status) (P : Damage → Type 0) (d k : Type 0) → IsReadingEnd status → IsDamageOf status P → (status ≡ ends.DiskFault → d) → (status ≡ ends.SinkFault → k)
     → ((damage : Damage) → P damage → ⊥) → (d → ⊥) → (k → ⊥) → IsComplete status
@@ -90,6 +104,7 @@ reader_done ends.SinkFault P d k ended damage disk sink sound no_disk no_sink = 
 reader_done (ends.Damaged x) P d k ended damage disk sink sound no_disk no_sink = absurd (sound x damage)
 reader_done (ends.NumbersSpent region last) P d k ended damage disk sink sound no_disk no_sink = absurd ended
 reader_done (ends.NotEmpty name) P d k ended damage disk sink sound no_disk no_sink = absurd ended
+reader_done (ends.NoPosition number entries) P d k ended damage disk sink sound no_disk no_sink = absurd ended
 
 sound_log : (files : Files) (name : Name) → ((at : ℕ) → IsDamagedLog files name at → ⊥) → (damage : Damage) → IsLogDamage files name damage → ⊥
 sound_log files name sound (damages.Two first second region number) damage = damage
@@ -111,6 +126,23 @@ dump_complete word n status script files d k is ended damage disk sink ready no_
     complete_for word (To_dump n) status is
     (reader_done status (IsDumpDamage n files) d k ended damage disk sink (sound_dump files n (subst (λ (w : Word). IsReady w script files) is ready)) no_disk no_sink)
 
+ship_done : (status : Status) (d k : Type 0) → IsShipEnd status → (status ≡ ends.DiskFault → d) → (status ≡ ends.SinkFault → k) → (d → ⊥) → (k → ⊥) → IsShipComplete status
+ship_done ends.Done d k ended disk sink no_disk no_sink = tt
+ship_done ends.Memory d k ended disk sink no_disk no_sink = tt
+ship_done (ends.Damaged damage) d k ended disk sink no_disk no_sink = tt
+ship_done (ends.NoPosition file has) d k ended disk sink no_disk no_sink = tt
+ship_done ends.DiskFault d k ended disk sink no_disk no_sink = absurd (no_disk (disk refl))
+ship_done ends.SinkFault d k ended disk sink no_disk no_sink = absurd (no_sink (sink refl))
+ship_done ends.Usage d k ended disk sink no_disk no_sink = absurd ended
+ship_done (ends.Script line why) d k ended disk sink no_disk no_sink = absurd ended
+ship_done ends.SourceFault d k ended disk sink no_disk no_sink = absurd ended
+ship_done (ends.NumbersSpent region last) d k ended disk sink no_disk no_sink = absurd ended
+ship_done (ends.NotEmpty name) d k ended disk sink no_disk no_sink = absurd ended
+
+pub ship_complete : (word : Word) (p : Position) (status : Status) (d k : Type 0) → word ≡ To_ship p → IsShipEnd status
+    → (status ≡ ends.DiskFault → d) → (status ≡ ends.SinkFault → k) → (d → ⊥) → (k → ⊥) → IsCompleteFor word status
+ship_complete word p status d k is ended disk sink no_disk no_sink = complete_for word (To_ship p) status is (ship_done status d k ended disk sink no_disk no_sink)
+
 pub recover_complete : (word : Word) (status : Status) (script : List ℕ) (files : Files) (d k : Type 0) → word ≡ To_recover → IsReadingEnd status → IsDamageOf status (IsStoreDamage files)
     → (status ≡ ends.DiskFault → d) → (status ≡ ends.SinkFault → k) → IsReady word script files → (d → ⊥) → (k → ⊥) → IsCompleteFor word status
 recover_complete word status script files d k is ended damage disk sink ready no_disk no_sink =
@@ -124,6 +156,22 @@ pub recover_reported : (word : Word) (status : Status) (files : Files) (damage :
 recover_reported word status files damage is damaged told =
     let must : MustTell To_recover files damage = subst (λ (w : Word). MustTell w files damage) is damaged in
     reported_for word To_recover status damage is (told must.0 must.1)
+
+-- ---- compact
+
+pub compact_complete : (word : Word) (kind : CompactKind) (r : ℕ) (status : Status) (script : List ℕ) (files : Files) (d k : Type 0) → word ≡ To_compact kind r → IsReadingEnd status → IsDamageOf status (IsStoreDamage files)
+    → (status ≡ ends.DiskFault → d) → (status ≡ ends.SinkFault → k) → IsReady word script files → (d → ⊥) → (k → ⊥) → IsCompleteFor word status
+compact_complete word kind r status script files d k is ended damage disk sink ready no_disk no_sink =
+    let wanted : IsReady (To_compact kind r) script files = subst (λ (w : Word). IsReady w script files) is ready in
+    complete_for word (To_compact kind r) status is
+    (reader_done status (IsStoreDamage files) d k ended damage disk sink (λ x told. told.0 wanted) no_disk no_sink)
+
+pub compact_reported : (word : Word) (kind : CompactKind) (r : ℕ) (status : Status) (files : Files) (damage : Damage) → word ≡ To_compact kind r → MustTell word files damage
+    → ((¬ IsSound files) → IsDamage files damage → IsOrEarlier status (ends.Damaged damage) (ends.DiskFault ∷ []))
+    → IsOrEarlier status (ends.Damaged damage) (earlier_than_damage word)
+compact_reported word kind r status files damage is damaged told =
+    let must : MustTell (To_compact kind r) files damage = subst (λ (w : Word). MustTell w files damage) is damaged in
+    reported_for word (To_compact kind r) status damage is (told must.0 must.1)
 
 -- ---- run
 

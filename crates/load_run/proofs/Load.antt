@@ -1,17 +1,19 @@
 -- How the top call ends for a load whose store isn't empty, and where no memory was found to read the words.
-use Rattle.std.proofs.Common.{◌≡◌, ℕ, zero, suc, List, [], ◌∷◌, Contains, Option, Some, None, inl, inr, sym, subst, arith}
+use Rattle.std.proofs.Common.{◌≡◌, ℕ, zero, suc, List, [], ◌∷◌, Contains, Option, Some, None, inl, inr, refl, sym, subst, arith}
 use Rattle.log_model.specs.declared.name.Name.{Name}
 use Rattle.log_model.specs.Files.{Files}
 use Rattle.disk_images.specs.Crash.{DiskView, IsImageNow}
 use Rattle.script_model.specs.Outputs.{refused_memory}
 use Rattle.run_model.specs.Headline.{KeepsFound}
-use Rattle.command_ends.specs.Invocation.{invocation}
-use Rattle.command_ends.specs.Prints.{Prints}
-use Rattle.command_ends.specs.Status.{IsOrEarlier}
-use Rattle.command_ends.specs.declared.status.Status.{Status}
-use Rattle.command_ends.specs.declared.status.Status.TheVariants as ends
-use Rattle.command_ends.proofs.Endings.{refused_so, same_disk}
-use Rattle.load_run.specs.Words.{Word, To_log, To_show, To_dump, To_recover, To_run, To_load}
+use Rattle.command_base.specs.Invocation.{invocation}
+use Rattle.command_base.specs.Prints.{Prints}
+use Rattle.command_base.specs.Status.{IsOrEarlier}
+use Rattle.command_base.specs.declared.status.Status.{Status}
+use Rattle.command_base.specs.declared.status.Status.TheVariants as ends
+use Rattle.command_base.proofs.Endings.{refused_so, same_disk}
+use Rattle.ship_queue.specs.declared.error.ShipRefusal.TheVariants.{Memory}
+use Rattle.ship_command.proofs.Ships.{none_written, refused_ends as ship_refused}
+use Rattle.load_run.specs.Words.{Word, To_log, To_show, To_dump, To_ship, To_recover, To_compact, To_run, To_load}
 use Rattle.load_run.specs.Top.{Ends, IsStatusFor, MayLeave}
 
 -- the same, where a fault of the source is allowed for too
@@ -26,6 +28,9 @@ load_full status name (inr earlier) = inr (wider earlier)
 
 -- ---- words that weren't read
 
+one_line : (line : List ℕ) → Some refused_memory ≡ Some line → refused_memory ≡ line
+one_line line told = cc
+
 untouched : (v : DiskView) → KeepsFound v v
 untouched v J image = ∣ inl image ∣₁
 
@@ -37,7 +42,9 @@ unread_ends word status script had has v rose sank is printed = subst (λ (s : S
     go To_log = (refused_so had has refused_memory sank printed, same_disk v)
     go To_show = (refused_so had has refused_memory sank printed, same_disk v)
     go (To_dump n) = (refused_so had has refused_memory sank printed, same_disk v)
+    go (To_ship p) = ship_refused Memory p ends.Memory script had had has v v sank sank refl (λ other. none_written v.files p had) (λ s. s) (λ line told. subst (λ (l : List ℕ). Prints had has l sank) (one_line line told) printed)
     go To_recover = (refused_so had has refused_memory sank printed, λ J image. inl image)
+    go (To_compact kind r) = (refused_so had has refused_memory sank printed, λ J image. inl image)
     go To_run = inr (refused_so had has refused_memory sank printed, same_disk v)
     go (To_load options) = (refused_so had has refused_memory sank printed, untouched v)
 
@@ -46,7 +53,9 @@ memory_for None = tt
 memory_for (Some To_log) = tt
 memory_for (Some To_show) = tt
 memory_for (Some (To_dump n)) = tt
+memory_for (Some (To_ship p)) = tt
 memory_for (Some To_recover) = tt
+memory_for (Some (To_compact kind r)) = tt
 memory_for (Some To_run) = tt
 memory_for (Some (To_load options)) = tt
 
@@ -58,6 +67,8 @@ unread_leaves None script v J image = image
 unread_leaves (Some To_log) script v J image = inl image
 unread_leaves (Some To_show) script v J image = image
 unread_leaves (Some (To_dump n)) script v J image = image
+unread_leaves (Some (To_ship p)) script v J image = image
 unread_leaves (Some To_recover) script v J image = inl image
+unread_leaves (Some (To_compact kind r)) script v J image = inl (inl image)
 unread_leaves (Some To_run) script v J image = ∣ inl image ∣₁
 unread_leaves (Some (To_load options)) script v J image = ∣ inl image ∣₁

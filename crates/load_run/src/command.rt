@@ -8,13 +8,14 @@ ghost use Rattle.log_model.specs.Files.{Same};
 ghost use Rattle.disk_images.specs.Calls.{Rose};
 ghost use Rattle.script_model.specs.Fields.{Why};
 ghost use Rattle.load_run.specs.Words.{Word as TheWord, word_of};
-ghost use Rattle.command_ends.specs.Invocation.{invocation, IsUnchanged, GoesOn, AtEachMoment};
-ghost use Rattle.command_ends.specs.Prints.{Prints};
-ghost use Rattle.command_ends.specs.Status.{refusal_line, IfDamaged, IfNotEmpty, IsScriptFault, IsScriptAt, IsDamageOf, IsNotEmpty, IsOrEarlier};
-ghost use Rattle.load_run.specs.Top.{Ends, MayLeave, IsScriptTold, IsStatusFor, ComesWithLine, LeavesDisk, LeavesDamaged, TakesNoScript, IsWrongAt, IsDamageFor, MustTell, earlier_than_damage, IfSpent, MaySpend, WantsEmpty, NeedsEmpty, HasRightScript, IsReady, IsCompleteFor};
+ghost use Rattle.command_base.specs.Invocation.{invocation, IsUnchanged, GoesOn, AtEachMoment};
+ghost use Rattle.command_base.specs.Prints.{Prints};
+ghost use Rattle.command_base.specs.Status.{refusal_line, IfDamaged, IfNotEmpty, IsScriptFault, IsScriptAt, IsDamageOf, IsNoPositionOf, IsNotEmpty, IsOrEarlier};
+ghost use Rattle.load_run.specs.Top.{Ends, MayLeave, IsScriptTold, IsStatusFor, ComesWithLine, LeavesDisk, LeavesDamaged, TakesNoScript, IsWrongAt, IsDamageFor, IsNoPositionFor, MustTell, earlier_than_damage, IfSpent, MaySpend, WantsEmpty, NeedsEmpty, HasRightScript, IsReady, IsCompleteFor};
 
 use crate::words::{Word, read_words};
-use command_ends::{Outcome, Status, refuse};
+use command_base::{Outcome, Status, refuse};
+use compact_command::compact_region;
 use disk_images::{Disk, Sink, Source};
 use dump_command::dump;
 use load_command::load;
@@ -22,14 +23,15 @@ use log_command::log;
 use recover_command::recover;
 use region_calls::Gate;
 use run_command::run_script;
+use ship_command::ship;
 use show_command::show;
 use std::alloc::Global;
 use std::sync::Wait;
 use std::thread::Threads;
 
-/// Carries out the command that the words name: `log`, `show`, `dump NUMBER`, `recover`, `run` or `load` with its options. The
-/// source has a script, the sink takes the output. The gate can hold the handlers that `run` and `load` have; it changes nothing
-/// of what the command says.
+/// Carries out the command that the words name: `log`, `show`, `dump NUMBER`, `ship FILE ENTRIES`, `recover`, `compact KIND REGION`,
+/// `run` or `load` with its options. The source has a script, the sink takes the output. The gate can hold the handlers that `run` and `load` have; it
+/// changes nothing of what the command says.
 pub fn run<R: Threads + Wait + Sync, D: Disk + Send, S: Source, K: Sink, G: Gate + Sync>(
     rt: &R,
     alloc: Global,
@@ -43,7 +45,7 @@ pub fn run<R: Threads + Wait + Sync, D: Disk + Send, S: Source, K: Sink, G: Gate
     ensures ends { IsTrue S.told → IsTrue D.told → IsTrue K.told → (word : TheWord) → word_of (map (λ w. w.now) words.now) ≡ Some word
         → Ends word result.status (invocation (S.left script.old) (D.view disk) (D.view result.disk) (K.taken out.old) (K.taken out.new))
         (Rose (D.faults disk) (D.faults result.disk)) (Rose (K.faults out.old) (K.faults out.new)) }
-    // A refusal is one line, whole unless the sink fails.
+    // A refusal is one line, whole unless the sink fails. That of `ship` stands behind what was shipped.
     ensures refusal { IsTrue K.told → ComesWithLine (word_of (map (λ w. w.now) words.now)) result.status
         → (text : List ℕ) → refusal_line result.status ≡ Some text
         → Prints (K.taken out.old) (K.taken out.new) text (Rose (K.faults out.old) (K.faults out.new)) }
@@ -68,6 +70,8 @@ pub fn run<R: Threads + Wait + Sync, D: Disk + Send, S: Source, K: Sink, G: Gate
     ensures sink_cause { result.status ≡ Status.SinkFault → Rose (K.faults out.old) (K.faults out.new) }
     ensures damage_only { IsTrue D.told → (word : TheWord) → word_of (map (λ w. w.now) words.now) ≡ Some word
         → IsDamageOf result.status (IsDamageFor word (D.view disk).files (D.view result.disk).files) }
+    ensures no_position_only { IsTrue D.told → (word : TheWord) → word_of (map (λ w. w.now) words.now) ≡ Some word
+        → IsNoPositionOf result.status (IsNoPositionFor word (D.view disk).files) }
     ensures not_empty_only { IsTrue D.told → IsNotEmpty result.status (D.view disk).files }
     ensures not_empty_need { IfNotEmpty result.status (NeedsEmpty (word_of (map (λ w. w.now) words.now))) }
     ensures spent_only { IfSpent result.status (MaySpend (word_of (map (λ w. w.now) words.now))) }
@@ -80,12 +84,15 @@ pub fn run<R: Threads + Wait + Sync, D: Disk + Send, S: Source, K: Sink, G: Gate
     ensures damage { IsTrue D.told → (word : TheWord) (damage : TheDamage) → word_of (map (λ w. w.now) words.now) ≡ Some word
         → HasRightScript word (IsTrue S.told) (S.left script.old) → MustTell word (D.view disk).files damage
         → IsOrEarlier result.status (Status.Damaged damage) (earlier_than_damage word) }
+    ensures no_position { IsTrue D.told → (word : TheWord) (file has : ℕ) → word_of (map (λ w. w.now) words.now) ≡ Some word
+        → IsNoPositionFor word (D.view disk).files file has
+        → IsOrEarlier result.status (Status.NoPosition file has) (Status.DiskFault ∷ Status.SinkFault ∷ []) }
     ensures not_empty { IsTrue D.told → (word : TheWord) (name : Name) (rest : List Name)
         → word_of (map (λ w. w.now) words.now) ≡ Some word → WantsEmpty word → HasRightScript word (IsTrue S.told) (S.left script.old)
         → keys (D.view disk).files ≡ name ∷ rest → IsOrEarlier result.status (Status.NotEmpty name) (Status.SourceFault ∷ Status.DiskFault ∷ []) }
 
     // With a command, a script and a store as it wants them, and no fault, it is done or memory was refused, or `run` has
-    // spent a region's numbers.
+    // spent a region's numbers, or `ship` found damage or no such position.
     ensures complete { IsTrue S.told → IsTrue D.told → (word : TheWord) → word_of (map (λ w. w.now) words.now) ≡ Some word
         → IsReady word (S.left script.old) (D.view disk).files
         → (Rose (S.faults script.old) (S.faults script.new) → ⊥) → (Rose (D.faults disk) (D.faults result.disk) → ⊥)
@@ -111,8 +118,16 @@ pub fn run<R: Threads + Wait + Sync, D: Disk + Send, S: Source, K: Sink, G: Gate
             status: dump(alloc, number, &mut disk, out),
             disk,
         },
+        Some(Word::Ship { from }) => Outcome {
+            status: ship(rt, alloc, from, &mut disk, out),
+            disk,
+        },
         Some(Word::Recover) => Outcome {
             status: recover(alloc, &mut disk, out),
+            disk,
+        },
+        Some(Word::Compact { kind, region }) => Outcome {
+            status: compact_region(alloc, &mut disk, region, kind, out),
             disk,
         },
         Some(Word::Run) => run_script(rt, alloc, script, disk, out, gate),

@@ -5,5 +5,5 @@ mod command;
 mod words;
 
 pub use command::run;
-pub use command_ends::{Damage, Outcome, Status, refuse};
+pub use command_base::{Damage, Outcome, Status, refuse};
 pub use region_calls::{FreeGate, Gate};

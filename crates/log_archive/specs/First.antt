@@ -4,7 +4,7 @@ use Rattle.seq_accounting.specs.Accounts.{Accounts, ClosedFile, AreLower}
 
 -- all that the file has is flushed
 abbrev pub IsFlushedFile : Accounts → ClosedFile → Type 0
-IsFlushedFile a c = AreLower c.highest a.flushed
+IsFlushedFile a c = AreLower a c.highest
 
 abbrev pub NoneToGo : Accounts → ℕ → Type 0
 NoneToGo a above = (c : ClosedFile) → Contains a.closed c → above < c.file → IsFlushedFile a c → ⊥

@@ -5,7 +5,7 @@ use Rattle.log_model.specs.Entry.{Entry, IsEntry, entry_frame}
 use Rattle.log_model.specs.Files.{Files, SameBut}
 use Rattle.disk_images.specs.Crash.{DiskView, IsImageNow, Throughout}
 use Rattle.log_file.specs.Open.{OpenLog, IsOpen, IsStaged}
-use Rattle.command_ends.specs.LogFiles.{log_name}
+use Rattle.command_base.specs.LogFiles.{log_name}
 use Rattle.log_command.specs.Logged.{IsAlone, HasFirst}
 
 -- the first entries are committed

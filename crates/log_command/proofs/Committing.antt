@@ -10,14 +10,14 @@ use Rattle.entry_frame.proofs.SpellingLaws.{spelling_bounds}
 use Rattle.disk_images.specs.Crash.{DiskView, IsImageNow, Throughout, OnlyAt}
 use Rattle.disk_images.specs.Calls.{Looks}
 use Rattle.disk_images.proofs.Moments.{at_end, joined, weaker, more_time}
-use Rattle.recovery.specs.Change.{HasText, HasEntries}
+use Rattle.recovery_laws.specs.Change.{HasText, HasEntries}
 use Rattle.log_file.specs.Open.{OpenLog, IsOpen, IsStaged, HasEither}
 use Rattle.log_file.specs.LogText.{at_rest}
 use Rattle.log_file.proofs.Texts.{behind_none}
 use Rattle.log_file.proofs.Committed.{rest_has}
-use Rattle.command_ends.specs.LogFiles.{log_name}
-use Rattle.command_ends.specs.Invocation.{AtEachMoment}
-use Rattle.command_ends.proofs.Endings.{each_on, looked}
+use Rattle.command_base.specs.LogFiles.{log_name}
+use Rattle.command_base.specs.Invocation.{AtEachMoment}
+use Rattle.command_base.proofs.Endings.{each_on, looked}
 use Rattle.log_command.specs.Logged.{LogHolds, IsAlone, HasFirst, HasNone}
 use Rattle.log_command.specs.Writing.{WasOrFirst}
 

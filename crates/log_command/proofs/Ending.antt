@@ -11,17 +11,17 @@ use Rattle.script_model.specs.Calls.{Script, Says}
 use Rattle.script_model.specs.Report.{replies_text}
 use Rattle.script_model.specs.Outputs.{refused_memory, refused_disk}
 use Rattle.script_model.specs.declared.command.Command.TheVariants.{Log}
-use Rattle.command_ends.proofs.Endings.{taken_whole, taken_begins, refused_so, same_disk, unchanged, each_on, each_then, looked}
-use Rattle.command_ends.specs.Invocation.{Invocation, invocation, taken_of, AtEachMoment}
-use Rattle.command_ends.specs.LogFiles.{log_name}
+use Rattle.command_base.proofs.Endings.{taken_whole, taken_begins, refused_so, same_disk, unchanged, each_on, each_then, looked}
+use Rattle.command_base.specs.Invocation.{Invocation, invocation, taken_of, AtEachMoment}
+use Rattle.command_base.specs.LogFiles.{log_name}
 use Rattle.log_command.specs.Logged.{entries_in, oks, stopped_replies, LogHolds, LogDone, LogFailed, NoLogBegun, EndsLog, logs, HasNone, IsAlone, LogMayLeave}
 use Rattle.log_command.specs.Writing.{WasOrFirst}
-use Rattle.command_ends.specs.Prints.{Prints}
+use Rattle.command_base.specs.Prints.{Prints}
 use Rattle.log_command.specs.Parts.{IsFramesOf, IsStoreRefusal, IsWritingEnd}
-use Rattle.command_ends.specs.Status.{IsInputRefusal, IsOrEarlier, refusal_line}
-use Rattle.command_ends.specs.Ends.{Stands, Done, Failed}
-use Rattle.command_ends.specs.declared.status.Status.{Status}
-use Rattle.command_ends.specs.declared.status.Status.TheVariants as ends
+use Rattle.command_base.specs.Status.{IsInputRefusal, IsOrEarlier, refusal_line}
+use Rattle.command_base.specs.Ends.{Stands, Done, Failed}
+use Rattle.command_base.specs.declared.status.Status.{Status}
+use Rattle.command_base.specs.declared.status.Status.TheVariants as ends
 
 -- ---- the names of a store
 
@@ -45,6 +45,7 @@ store_ends ends.DiskFault script had has v w cut rose is looks prints =
     inr (refused_so had has refused_disk cut (prints refused_disk refl), record { others = λ m other. (unchanged v w looks).files m; images = λ J now. inl (looks.crash J now) })
 store_ends (ends.NumbersSpent region last) script had has v w cut rose is looks prints = absurd is
 store_ends (ends.NotEmpty name) script had has v w cut rose is looks prints = tt
+store_ends (ends.NoPosition number entries) script had has v w cut rose is looks prints = absurd is
 store_ends ends.Done script had has v w cut rose is looks prints = absurd is
 store_ends ends.Usage script had has v w cut rose is looks prints = absurd is
 store_ends (ends.Script line why) script had has v w cut rose is looks prints = absurd is
@@ -64,6 +65,7 @@ input_ends ends.SinkFault script had has v cut rose is prints = absurd is
 input_ends (ends.Damaged damage) script had has v cut rose is prints = absurd is
 input_ends (ends.NumbersSpent region last) script had has v cut rose is prints = absurd is
 input_ends (ends.NotEmpty name) script had has v cut rose is prints = absurd is
+input_ends (ends.NoPosition number entries) script had has v cut rose is prints = absurd is
 
 pub refused_ends : (status s : Status) (script had has : List ℕ) (v w : DiskView) (cut rose : Type 0) → status ≡ s → IsStoreRefusal s → Looks v w
     → ((text : List ℕ) → refusal_line s ≡ Some text → Prints had has text cut) → EndsLog status (invocation script v w had has) rose cut
@@ -181,6 +183,7 @@ ends_from ends.SourceFault script had has u v w late early sank is looks rose h 
 ends_from (ends.Damaged damage) script had has u v w late early sank is looks rose h = absurd is
 ends_from (ends.NumbersSpent region last) script had has u v w late early sank is looks rose h = absurd is
 ends_from (ends.NotEmpty name) script had has u v w late early sank is looks rose h = absurd is
+ends_from (ends.NoPosition number entries) script had has u v w late early sank is looks rose h = absurd is
 
 pub looked_only : (text : List ℕ) (u v : DiskView) → Looks u v → AtEachMoment (LogMayLeave text u) u v
 looked_only text u v looks = looked (LogMayLeave text u) u v looks (λ J now. inl now)

@@ -18,7 +18,7 @@ entries_append time n (Put r sync batch ∷ xs) ys =
     ap (λ (es : List Entry). record { region = r; number = n; time = time; batch = batch } ∷ es)
     (entries_append time (n + 1) xs ys ∙ ap (λ (k : ℕ). entries_from time (n + 1) xs ++ entries_from time k ys) e)
 entries_append time n (Scan view r from to ∷ xs) ys = entries_append time n xs ys
-entries_append time n (Flush r ∷ xs) ys = entries_append time n xs ys
+entries_append time n (Flush r family ∷ xs) ys = entries_append time n xs ys
 entries_append time n (Roll ∷ xs) ys = entries_append time n xs ys
 
 pub each_append : (xs ys : List Entry) → AllByRecursion IsEntry xs → AllByRecursion IsEntry ys → AllByRecursion IsEntry (xs ++ ys)

@@ -9,18 +9,18 @@ use Rattle.script_model.specs.Calls.{Script, Says}
 use Rattle.script_model.specs.Report.{ReplyLine, replies_text}
 use Rattle.script_model.specs.declared.command.Command.TheVariants.{Log}
 use Rattle.disk_images.specs.Crash.{DiskView, IsImageNow}
-use Rattle.recovery.specs.Change.{HasText, HasEntries}
-use Rattle.command_ends.specs.Invocation.{Invocation, IsImageAtEntry, IsUnchanged}
-use Rattle.command_ends.specs.LogFiles.{log_name}
-use Rattle.command_ends.specs.Ends.{Effects, EndsAs}
-use Rattle.command_ends.specs.declared.status.Status.{Status}
+use Rattle.recovery_laws.specs.Change.{HasText, HasEntries}
+use Rattle.command_base.specs.Invocation.{Invocation, IsImageAtEntry, IsUnchanged}
+use Rattle.command_base.specs.LogFiles.{log_name}
+use Rattle.command_base.specs.Ends.{Effects, EndsAs}
+use Rattle.command_base.specs.declared.status.Status.{Status}
 
 -- the entries of puts, numbered from n
 abbrev pub entries_from : ℕ → ℕ → List Call → List Entry
 entries_from time n [] = []
 entries_from time n (Put r sync batch ∷ calls) = record { region = r; number = n; time = time; batch = batch } ∷ entries_from time (n + 1) calls
 entries_from time n (Scan view r from to ∷ calls) = entries_from time n calls
-entries_from time n (Flush r ∷ calls) = entries_from time n calls
+entries_from time n (Flush r family ∷ calls) = entries_from time n calls
 entries_from time n (Roll ∷ calls) = entries_from time n calls
 
 -- the calls of all handlers, one handler after the other

@@ -4,8 +4,8 @@ use Rattle.std.specs.List.{AllByRecursion}
 use Rattle.log_model.specs.Entry.{IsEntry, entry_frame}
 use Rattle.script_model.specs.Calls.{Script as TheScript}
 use Rattle.log_command.specs.Logged.{entries_in}
-use Rattle.command_ends.specs.declared.status.Status.{Status}
-use Rattle.command_ends.specs.declared.status.Status.TheVariants.{Done, Memory, Usage, DiskFault, SinkFault, Damaged, NumbersSpent, NotEmpty}
+use Rattle.command_base.specs.declared.status.Status.{Status}
+use Rattle.command_base.specs.declared.status.Status.TheVariants.{Done, Memory, Usage, DiskFault, SinkFault, Damaged, NumbersSpent, NotEmpty, NoPosition}
 
 -- of looking whether the store is empty
 abbrev pub IsStoreRefusal : Status → Type 0
@@ -35,6 +35,7 @@ abbrev pub IsLogEnd : Status → Type 0
 IsLogEnd Usage = ⊥
 IsLogEnd (Damaged damage) = ⊥
 IsLogEnd (NumbersSpent region last) = ⊥
+IsLogEnd (NoPosition file has) = ⊥
 IsLogEnd _ = Unit {0}
 
 -- the frames of a script's puts

@@ -10,13 +10,13 @@ ghost use Rattle.disk_images.specs.Calls.{Rose};
 ghost use Rattle.script_model.specs.Calls.{IsScript, IsAmong};
 ghost use Rattle.script_calls.specs.Calls.{call_of};
 ghost use Rattle.log_file.specs.Open.{IsOpen, IsStaged, HasEither};
-ghost use Rattle.command_ends.specs.Invocation.{AtEachMoment};
-ghost use Rattle.command_ends.specs.LogFiles.{log_name};
+ghost use Rattle.command_base.specs.Invocation.{AtEachMoment};
+ghost use Rattle.command_base.specs.LogFiles.{log_name};
 ghost use Rattle.log_command.specs.Logged.{entries_from, entries_in, LogHolds, HasFirst, HasNone, IsAlone};
 ghost use Rattle.log_command.specs.Writing.{IsBegun, IsStopped, IsWithin, WasOrFirst};
 ghost use Rattle.log_command.specs.declared.writing.Written.TheVariants.{Nothing, Whole};
 
-use command_ends::LOG_1;
+use command_base::LOG_1;
 use disk_images::Disk;
 use entry_frame::{EntryBytes, encode_entry};
 use kv_cell::NoMemory;

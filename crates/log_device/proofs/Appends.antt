@@ -15,8 +15,8 @@ use Rattle.disk_images.specs.Calls.{IsTrueDisk}
 use Rattle.disk_images.specs.OneFile.{Touches, IsDurableFile}
 use Rattle.disk_images.specs.Moved.{HasEitherName, TouchesBoth}
 use Rattle.disk_images.proofs.Moments.{at_end}
-use Rattle.recovery.specs.Change.{HasText}
-use Rattle.recovery.proofs.Logs.{none_some}
+use Rattle.recovery_laws.specs.Change.{HasText}
+use Rattle.recovery_laws.proofs.Logs.{none_some}
 use Rattle.log_file.specs.Open.{OpenLog, HasEither, HasEnding}
 use Rattle.log_file.proofs.Committed.{rest_has}
 use Rattle.log_ledger.specs.History.{History}

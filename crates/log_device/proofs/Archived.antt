@@ -12,11 +12,11 @@ use Rattle.disk_images.specs.Calls.{Renamed}
 use Rattle.disk_images.specs.OneFile.{IsDurableFile}
 use Rattle.disk_images.specs.Moved.{HasEitherName, TouchesBoth}
 use Rattle.disk_images.proofs.Moments.{weaker, at_end}
-use Rattle.recovery.specs.Change.{HasText}
-use Rattle.recovery.proofs.Names.{name_cases}
-use Rattle.recovery.proofs.Logs.{grown}
-use Rattle.recovery.proofs.Likes.{none_fresh, like_same}
-use Rattle.recovery.proofs.Archived.{archived}
+use Rattle.recovery_laws.specs.Change.{HasText}
+use Rattle.recovery_laws.proofs.Names.{name_cases}
+use Rattle.recovery_laws.proofs.Logs.{grown}
+use Rattle.recovery_laws.proofs.Likes.{none_fresh, like_same}
+use Rattle.recovery_laws.proofs.Archived.{archived}
 use Rattle.log_file.specs.LogText.{ended_text, at_rest}
 use Rattle.log_file.specs.Open.{OpenLog}
 use Rattle.log_file.proofs.Committed.{ended_has}

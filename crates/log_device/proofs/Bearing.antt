@@ -6,7 +6,7 @@ use Rattle.log_model.specs.declared.name.NameKind.TheVariants as kinds
 use Rattle.log_model.specs.Files.{Files, content, SameBut, Same, IsAbsent, IsPresent, IsFit, IsSound}
 use Rattle.disk_images.specs.Crash.{DiskView, Throughout}
 use Rattle.disk_images.proofs.Moments.{at_once, more_time}
-use Rattle.recovery.proofs.Names.{name_cases}
+use Rattle.recovery_laws.proofs.Names.{name_cases}
 use Rattle.log_file.specs.Open.{OpenLog}
 use Rattle.log_ledger.specs.History.{History}
 use Rattle.log_device.specs.Keeps.{Keeps, log_name, old_name}

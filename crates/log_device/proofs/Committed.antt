@@ -9,12 +9,12 @@ use Rattle.log_model.specs.Recovered.{HasFamily}
 use Rattle.disk_images.specs.Crash.{DiskView, IsImageNow, Throughout, OnlyAt}
 use Rattle.disk_images.specs.OneFile.{Touches}
 use Rattle.disk_images.proofs.Moments.{weaker, at_end}
-use Rattle.recovery.specs.Change.{HasText}
-use Rattle.recovery.specs.Kept.{committed}
-use Rattle.recovery.proofs.Names.{name_cases}
-use Rattle.recovery.proofs.Lists.{entries_in, some_family}
-use Rattle.recovery.proofs.Logs.{grown}
-use Rattle.recovery.proofs.Likes.{staged_fresh, none_fresh, like_committed, like_same, orderly_committed}
+use Rattle.recovery_laws.specs.Change.{HasText}
+use Rattle.recovery_laws.specs.Kept.{committed}
+use Rattle.recovery_laws.proofs.Names.{name_cases}
+use Rattle.recovery_laws.proofs.Lists.{entries_in, some_family}
+use Rattle.recovery_laws.proofs.Logs.{grown}
+use Rattle.recovery_laws.proofs.Likes.{staged_fresh, none_fresh, like_committed, like_same, orderly_committed}
 use Rattle.log_file.specs.Open.{OpenLog, IsOpen, IsStaged, HasEither}
 use Rattle.log_file.proofs.Committed.{rest_has}
 use Rattle.log_ledger.specs.History.{ClosedLog, History, committed_in}

@@ -3,28 +3,20 @@ use Rattle.std.proofs.Common.{◌≡◌, inl, inr, ℕ, ◌+◌, ◌<◌, ◌≤
 use Rattle.std.proofs.lemmas.Bool.{cases_eq, cases_lt}
 use Rattle.std.proofs.lemmas.List.{get_or-set_same, get_or-set_other, get_or_past}
 use Rattle.cell_model.specs.Order.{NumberedCell}
-use Rattle.recovery.specs.Kept.{Kept, IsCut}
-use Rattle.flush_snapshot.specs.Cut.{cut_store, AreOf}
+use Rattle.recovery_laws.specs.Kept.{Kept, IsCut}
+use Rattle.flush_snapshot.specs.Cut.{cut_store}
 use Rattle.flush_snapshot.proofs.Holds.{cut_holds}
 use Rattle.log_ledger.specs.Counted.{PutsCut}
 use Rattle.log_device.specs.Keeps.{store_name}
 
--- a store of all families takes each cell
-pub of_all : (cells : List NumberedCell) → AreOf [] cells
-of_all [] = tt
-of_all (x ∷ xs) = (λ some. absurd (some refl), of_all xs)
-
-pub is_cut : (k : Kept) (r n from number : ℕ) (cells : List NumberedCell) → ((f : List ℕ) → k.flushed r f ≤ n) → PutsCut k r n cells → IsCut k r [] n (cut_store (store_name r number) [] from n cells)
-is_cut k r n from number cells more puts = record {
+pub is_cut : (k : Kept) (r : ℕ) (family : List ℕ) (n from number : ℕ) (cells : List NumberedCell) → ((f : List ℕ) → k.flushed r f ≤ n) → PutsCut k r family n cells → IsCut k r family n (cut_store (store_name r number) family from n cells)
+is_cut k r family n from number cells more puts = record {
   region = refl;
   scope = refl;
   of = refl;
   to = refl;
   more = λ f of. more f;
-  cells = λ v p. (
-    λ h. let e = (puts v p).0 ((cut_holds (store_name r number) [] from n cells v p).0 h) in (e.0, e.1, e.2, e.3, e.4, inl refl, e.5),
-    λ found. (cut_holds (store_name r number) [] from n cells v p).1 ((puts v p).1 (found.0, found.1, found.2, found.3, found.4, found.6)),
-  );
+  cells = λ v p. (λ h. (puts v p).0 ((cut_holds (store_name r number) family from n cells v p).0 h), λ found. (cut_holds (store_name r number) family from n cells v p).1 ((puts v p).1 found));
 }
 
 -- a region that is served has a place, and is served when its store's number is counted on

@@ -8,7 +8,7 @@ use Rattle.log_model.specs.Files.{Files, SameBut, IsPresent}
 use Rattle.disk_images.specs.Crash.{DiskView, Throughout, OnlyAt}
 use Rattle.disk_images.specs.OneFile.{Touches, IsDurableFile}
 use Rattle.disk_images.proofs.Moments.{at_end}
-use Rattle.recovery.proofs.Names.{name_cases}
+use Rattle.recovery_laws.proofs.Names.{name_cases}
 use Rattle.log_device.specs.Keeps.{IsUpTo, IsClosedLog, log_name}
 
 -- another file that is durable stays so

@@ -3,7 +3,7 @@ use Rattle.std.proofs.Common.{◌≡◌, ◌⊎◌, inl, inr, ℕ, ◌+◌, ◌<
 use Rattle.std.proofs.lemmas.Bool.{cases_eq, cases_lt, eq-eqb, ne_eqb}
 use Rattle.std.proofs.lemmas.List.Filters.{length-filter_both}
 use Rattle.log_model.specs.Entry.{Entry}
-use Rattle.recovery.specs.Kept.{Kept}
+use Rattle.recovery_laws.specs.Kept.{Kept}
 use Rattle.log_model.specs.Recovered.{IsWhollyFlushed}
 use Rattle.disk_images.specs.Crash.{DiskView}
 use Rattle.disk_images.proofs.Moments.{at_once, joined, more_time}

@@ -1,20 +1,22 @@
 -- Images that are like what is kept leave what a call may leave.
-use Rattle.std.proofs.Common.{◌≡◌, ◌⊎◌, inl, inr, ℕ, ◌<◌, ◌≤◌, List, [], ◌++◌, Contains, get_or, sym, ◌∙◌, subst}
+use Rattle.std.proofs.Common.{◌≡◌, ◌⊎◌, inl, inr, ℕ, ◌<◌, ◌≤◌, List, [], ◌++◌, Contains, get_or, sym, ap, ◌∙◌, subst, arith}
 use Rattle.std.proofs.lemmas.List.{append-nil}
 use Rattle.std.proofs.lemmas.List.Elements.{Contains-append_left, Contains-append_right, Contains-append_cases}
+use Rattle.cell_model.specs.Order.{VersionKey, Payload}
 use Rattle.log_model.specs.declared.name.Name.{Name}
 use Rattle.log_model.specs.declared.name.NameKind.TheVariants as kinds
 use Rattle.log_model.specs.Entry.{Entry}
 use Rattle.log_model.specs.Files.{Files}
-use Rattle.log_model.specs.Recovered.{HasFamily, IsRecovered, IsLast}
-use Rattle.recovery.specs.Change.{PutBy, RecoversWith, RecoversSome}
-use Rattle.recovery.specs.Kept.{Kept, IsLike, IsOrderly, committed, lasts}
-use Rattle.recovery.proofs.Rising.{lasts-append}
-use Rattle.recovery.proofs.Lasts.{like_last, lasts_with}
-use Rattle.recovery.proofs.Likes.{like_recovers, some_alike, orderly_committed}
-use Rattle.recovery.proofs.Longer.{longer, from_base}
-use Rattle.recovery.proofs.Numbers.{stored_to}
-use Rattle.recovery.proofs.Started.{last_log}
+use Rattle.log_model.specs.Recovered.{HasFamily, IsRecovered, IsStored, IsLast, FlushesTo}
+use Rattle.recovery_laws.specs.Change.{PutBy, RecoversWith, RecoversSome}
+use Rattle.recovery_laws.specs.Kept.{Kept, IsLike, IsOrderly, committed, lasts}
+use Rattle.recovery_laws.proofs.Rising.{lasts-append}
+use Rattle.recovery_laws.proofs.Lasts.{like_last, lasts_with}
+use Rattle.recovery_laws.proofs.Likes.{like_recovers, some_alike, orderly_committed}
+use Rattle.recovery_laws.proofs.Longer.{longer, from_base}
+use Rattle.recovery_laws.proofs.Contents.{puts_family, puts_number}
+use Rattle.recovery_laws.proofs.Numbers.{stored_to}
+use Rattle.recovery_laws.proofs.Started.{last_log}
 use Rattle.log_device.specs.Keeps.{Shows}
 use Rattle.log_device.specs.Leaves.{Leaves}
 
@@ -58,12 +60,27 @@ recovers_behind k F W J f orderly given w some =
 pub recovers_all : (k : Kept) (F J : Files) → IsLike k F → IsOrderly k → AreGiven k.staged → IsLike (committed k) J → RecoversSome F k.staged J
 recovers_all k F J f orderly given j = recovers_behind k F J J f orderly given j (some_alike (committed k) J J j j (orderly_committed k orderly given))
 
+-- each cell of a durable entry up to its region's number is flushed
+abbrev pub AreFlushedTo : List ℕ → Kept → Type 0
+AreFlushedTo stored k = (e : Entry) (f : List ℕ) → Contains k.durable e → HasFamily e f → e.number ≤ get_or stored e.region 0 → e.number ≤ k.flushed e.region f
+
+-- so what recovers up to it is in stores
+stored_up_to : (stored : List ℕ) (k : Kept) (J : Files) → IsLike k J → AreFlushedTo stored k → (r : ℕ) (v : VersionKey) (p : Payload) → IsRecovered J r v p → v.number ≤ get_or stored r 0 → IsStored J r v p
+stored_up_to stored k J like low r v p (inl is) le = is
+stored_up_to stored k J like low r v p (inr u) le =
+    let of = puts_family u.entry v p u.puts in
+    let number : v.number ≡ u.entry.number = puts_number u.entry v p u.puts in
+    let upto : get_or stored u.entry.region 0 ≡ get_or stored r 0 = ap (λ (q : ℕ). get_or stored q 0) u.region in
+    let at : k.flushed u.entry.region v.key.family ≡ k.flushed r v.key.family = ap (λ (q : ℕ). k.flushed q v.key.family) u.region in
+    let member = like.only u.entry v.key.family u.logged of (λ n f. u.above n (subst (λ (q : ℕ). FlushesTo J q v.key.family n) u.region f)) in
+    stored_to k J like r v.number v p (omega (arith, number, at, low u.entry v.key.family member of (omega (arith, number, le, upto)))) (inr u) (omega arith)
+
 -- the numbers say the truth of an image that is like what is kept
 pub leaves : (stored closed : List ℕ) (k : Kept) (log : Name) (current : List Entry) (F : Files) (staged : List Entry) (J : Files) → log.kind ≡ kinds.Log → log.region ≡ 0 → Shows k log current J
-    → ((r : ℕ) (f : List ℕ) → get_or stored r 0 ≤ k.flushed r f) → ((e : Entry) → Contains current e → get_or closed e.region 0 < e.number) → RecoversSome F staged J → Leaves stored closed F staged J
+    → AreFlushedTo stored k → ((e : Entry) → Contains current e → get_or closed e.region 0 < e.number) → RecoversSome F staged J → Leaves stored closed F staged J
 leaves stored closed k log current F staged J kind region shows low newer some = record {
   recovers = some;
-  in_stores = λ r v p recovers upto. stored_to k J shows.like r (get_or stored r 0) v p (low r v.key.family) recovers upto;
+  in_stores = stored_up_to stored k J shows.like low;
   in_last_log = λ name es e is file member.
       last_log (λ x. get_or closed x.region 0 < x.number) J log current shows.ended kind shows.text (λ m m_kind there. let up = shows.up_to m m_kind there in (up.0 ∙ sym region, up.1)) newer name es is file e member;
 }

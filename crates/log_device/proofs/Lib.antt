@@ -1,6 +1,5 @@
 pub mod Appends
 pub mod Bearing
-pub mod Few
 pub mod Disk
 pub mod Lists
 pub mod Committed
@@ -11,6 +10,8 @@ pub mod Leaving
 pub mod Results
 pub mod Calls
 pub mod Syncing
+pub mod Told
+pub mod Left
 pub mod FlushSteps
 pub mod RollSteps
 pub mod Staged
@@ -18,7 +19,6 @@ pub mod Numbering
 pub mod Whole
 pub mod Cut
 pub mod StoreSteps
-pub mod HighestKept
 pub mod Going
 pub mod Starting
 pub mod LastNumber

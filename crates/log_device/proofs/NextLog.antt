@@ -8,11 +8,11 @@ use Rattle.disk_images.specs.Crash.{DiskView, IsImageNow, Throughout, OnlyAt}
 use Rattle.disk_images.specs.Calls.{IsTrueDisk}
 use Rattle.disk_images.specs.OneFile.{Touches, IsDurableFile}
 use Rattle.disk_images.proofs.Moments.{weaker, joined, at_end}
-use Rattle.recovery.specs.Change.{HasText, HasEntries}
-use Rattle.recovery.specs.Kept.{IsLike}
-use Rattle.recovery.proofs.Names.{name_cases}
-use Rattle.recovery.proofs.Logs.{grown, none_some}
-use Rattle.recovery.proofs.Likes.{none_fresh, like_same}
+use Rattle.recovery_laws.specs.Change.{HasText, HasEntries}
+use Rattle.recovery_laws.specs.Kept.{IsLike}
+use Rattle.recovery_laws.proofs.Names.{name_cases}
+use Rattle.recovery_laws.proofs.Logs.{grown, none_some}
+use Rattle.recovery_laws.proofs.Likes.{none_fresh, like_same}
 use Rattle.log_file.specs.LogText.{ended_text}
 use Rattle.std.proofs.lemmas.List.Elements.{Contains-append_left, Contains-push}
 use Rattle.log_file.specs.Open.{OpenLog, AreEntriesOf, IsOpen, IsStaged, HasEnding}

@@ -8,7 +8,7 @@ use Rattle.disk_images.specs.Crash.{Throughout}
 use Rattle.disk_images.specs.declared.disk.Disk.{Ghosts}
 use Rattle.disk_images.proofs.Moments.{at_once, joined, more_time, weaker}
 use Rattle.log_file.specs.Open.{OpenLog}
-use Rattle.log_ledger.specs.Books.{Books}
+use Rattle.log_ledger.specs.Books.{Books, AreStoresFew}
 use Rattle.log_ledger.specs.History.{History, committed_in, closed_in}
 use Rattle.log_device.specs.Bears.{Bears}
 use Rattle.log_device.specs.Calls.{Syncs, Rolls, RollsFrom, RollsBooks, BeginsNext}
@@ -150,8 +150,8 @@ module _ {D E : Type 0} (g : Ghosts D) (h : History) (first : Result ℕ E) (old
 
 -- behind the commit
 pub books_behind : {D : Type 0} (result : Result Rolled RollRefusal) (old mid new : Device D) → books_of mid ≡ record (books_of old) { synced = (books_of old).drawn } → ((q : ℕ) → get_or (books_of old).synced q 0 ≤ get_or (books_of mid).synced q 0)
-    → ((file : OpenLog) → log_of old ≡ Some file → IsCommitted file (log_of mid)) → RollsBooks result mid new → RollsBooks result old new
-books_behind result old mid new same rises files said =
+    → ((limit : ℕ) → AreStoresFew limit (books_of old) → AreStoresFew limit (books_of mid)) → ((file : OpenLog) → log_of old ≡ Some file → IsCommitted file (log_of mid)) → RollsBooks result mid new → RollsBooks result old new
+books_behind result old mid new same rises few files said =
     let now = books_of new in
     let drawn : (books_of mid).drawn ≡ (books_of old).drawn = ap (λ (b : Books). b.drawn) same in
     let synced : (books_of mid).synced ≡ (books_of old).drawn = ap (λ (b : Books). b.synced) same in
@@ -182,4 +182,5 @@ books_behind result old mid new same rises files said =
       stored = said.stored ∙ stored;
       drawn = said.drawn ∙ drawn;
       next_store = said.next_store ∙ ap (λ (b : Books). b.next_store) same;
+      few = λ limit was. said.few limit (few limit was);
     }

@@ -5,8 +5,8 @@ use Rattle.log_model.specs.Entry.{Entry, IsEntry}
 use Rattle.log_model.specs.LogText.{IsEntryOf, in_version}
 use Rattle.log_model.specs.Files.{Files, key_of}
 use Rattle.disk_images.specs.Crash.{DiskView}
-use Rattle.recovery.specs.Kept.{Kept, IsLike, lasts, with_staged}
-use Rattle.recovery.proofs.Likes.{orderly_staged}
+use Rattle.recovery_laws.specs.Kept.{Kept, IsLike, lasts, with_staged}
+use Rattle.recovery_laws.proofs.Likes.{orderly_staged}
 use Rattle.log_file.specs.Open.{OpenLog, IsStaged}
 use Rattle.log_file.specs.Calls.{IsSameFile}
 use Rattle.log_file.proofs.Committed.{open_still}

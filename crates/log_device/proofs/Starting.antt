@@ -18,12 +18,12 @@ use Rattle.disk_images.specs.Crash.{DiskView, IsImageNow, Throughout, OnlyAt}
 use Rattle.disk_images.specs.Calls.{IsTrueDisk, Looks}
 use Rattle.disk_images.specs.OneFile.{Touches}
 use Rattle.disk_images.proofs.Moments.{weaker, joined, at_end, at_once, in_one_call, more_time}
-use Rattle.recovery.specs.Change.{HasText, HasEntries, RecoversSome}
-use Rattle.recovery.specs.Kept.{IsLike, IsOrderly, start_of}
-use Rattle.recovery.proofs.Names.{name_cases}
-use Rattle.recovery.proofs.Logs.{grown}
-use Rattle.recovery.proofs.Likes.{none_fresh, like_same, some_alike}
-use Rattle.recovery.proofs.Started.{started, started_orderly}
+use Rattle.recovery_laws.specs.Change.{HasText, HasEntries, RecoversSome}
+use Rattle.recovery_laws.specs.Kept.{IsLike, IsOrderly, start_of}
+use Rattle.recovery_laws.proofs.Names.{name_cases}
+use Rattle.recovery_laws.proofs.Logs.{grown}
+use Rattle.recovery_laws.proofs.Likes.{none_fresh, like_same, some_alike}
+use Rattle.recovery_laws.proofs.Started.{started, started_orderly}
 use Rattle.log_file.specs.Open.{OpenLog, IsOpen, IsStaged}
 use Rattle.log_file.proofs.Committed.{rest_has}
 use Rattle.log_ledger.specs.declared.base.RegionBase.{RegionBase}

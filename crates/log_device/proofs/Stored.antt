@@ -11,13 +11,13 @@ use Rattle.disk_images.specs.Crash.{DiskView, IsImageNow, Throughout, OnlyAt}
 use Rattle.disk_images.specs.Calls.{IsTrueDisk}
 use Rattle.disk_images.specs.OneFile.{Touches, IsDurableFile}
 use Rattle.disk_images.proofs.Moments.{weaker, at_end}
-use Rattle.recovery.specs.Change.{HasText}
-use Rattle.recovery.specs.Kept.{IsCut, IsNotThere, IsNotReplaced, flushed_to, lasts}
-use Rattle.recovery.proofs.Names.{name_cases, store_apart}
-use Rattle.recovery.proofs.Likes.{orderly_flushed}
-use Rattle.recovery.proofs.Logs.{none_some}
-use Rattle.recovery.proofs.OneStore.{one_store}
-use Rattle.recovery.proofs.Flushed.{unopened, opened}
+use Rattle.recovery_laws.specs.Change.{HasText}
+use Rattle.recovery_laws.specs.Kept.{IsCut, IsNotThere, IsNotReplaced, flushed_to, lasts}
+use Rattle.recovery_laws.proofs.Names.{name_cases, store_apart}
+use Rattle.recovery_laws.proofs.Likes.{orderly_flushed}
+use Rattle.recovery_laws.proofs.Logs.{none_some}
+use Rattle.recovery_laws.proofs.OneStore.{one_store}
+use Rattle.recovery_laws.proofs.Flushed.{unopened, opened}
 use Rattle.log_file.specs.LogText.{at_rest}
 use Rattle.log_file.specs.Open.{OpenLog}
 use Rattle.store_file.specs.Whole.{IsWholeOrNot}
@@ -41,8 +41,8 @@ module _ (log : OpenLog) (u : DiskView) (h : History) (ns : List ℕ) (keeps : K
   pub free_store : IsAbsent u.files (store_name r (get_or ns r 0)) × (¬ u.gone (store_name r (get_or ns r 0)))
   free_store = (free_in_files (content u.files (store_name r (get_or ns r 0))) refl, λ gone. absurd (cc ((keeps.gone (store_name r (get_or ns r 0)) gone).0)))
 
-module _ (log : OpenLog) (u w : DiskView) (h : History) (ns : List ℕ) (keeps : Keeps log u h ns) (sound : IsTrueDisk u) (r n : ℕ) (s : Store) (by : ℕ) (served : 0 < get_or ns r 0)
-    (cut : IsCut h.kept r [] n s) (is_store : IsStore s) (logged : n ≤ lasts h.kept.first h.kept.durable r) where
+module _ (log : OpenLog) (u w : DiskView) (h : History) (ns : List ℕ) (keeps : Keeps log u h ns) (sound : IsTrueDisk u) (r : ℕ) (family : List ℕ) (n : ℕ) (s : Store) (by : ℕ) (served : 0 < get_or ns r 0)
+    (cut : IsCut h.kept r family n s) (is_store : IsStore s) (logged : n ≤ lasts h.kept.first h.kept.durable r) where
   abbrev pub name : Name
   name = store_name r (get_or ns r 0)
 
@@ -81,9 +81,9 @@ module _ (log : OpenLog) (u w : DiskView) (h : History) (ns : List ℕ) (keeps :
     | inr ours ↦ (let at : get_or ns other.region 0 ≡ get_or ns r 0 = ap (λ (q : ℕ). get_or ns q 0) file.of in omega (arith, ours.2, at))
   ]
 
-  stored_in : (I J : Files) → IsImageNow u I → SameBut name I J → content J name ≡ Some (store_text Tagged s) → Shows (flushed_to h.kept r [] n) log.name h.current J
+  stored_in : (I J : Files) → IsImageNow u I → SameBut name I J → content J name ≡ Some (store_text Tagged s) → Shows (flushed_to h.kept r family n) log.name h.current J
   stored_in I J there same is = record {
-    like = opened name refl I J same (hidden I there) h.kept [] n s cut (file_in J is) (not_replaced I there) (one_in J is) (keeps.images I there).like;
+    like = opened name refl I J same (hidden I there) h.kept family n s cut (file_in J is) (not_replaced I there) (one_in J is) (keeps.images I there).like;
     ended = (keeps.images I there).ended;
     text = log_text I J there same;
     up_to = up_to_there I J there same;
@@ -98,7 +98,7 @@ module _ (log : OpenLog) (u w : DiskView) (h : History) (ns : List ℕ) (keeps :
   }
 
   abbrev pub Storing : Files → Type 0
-  Storing J = Between h.kept log.name h.current (flushed_to h.kept r [] n) log.name h.current J
+  Storing J = Between h.kept log.name h.current (flushed_to h.kept r family n) log.name h.current J
 
   one_image : (J : Files) → OnlyAt name (IsWholeOrNot (store_text Tagged s)) u J → Storing J
   one_image J only = elim only.here as (λ _. Storing J) [
@@ -172,7 +172,7 @@ module _ (log : OpenLog) (u w : DiskView) (h : History) (ns : List ℕ) (keeps :
         omega (arith, keeps.found m kind there (omega (arith, now, some)), now)
   ]
 
-  pub store_kept : Throughout (OnlyAt name (IsWholeOrNot (store_text Tagged s)) u) by u w → Touches name u w → IsDurableFile w name (store_text Tagged s) → Keeps log w (flushed_in h r n) next_stores
+  pub store_kept : Throughout (OnlyAt name (IsWholeOrNot (store_text Tagged s)) u) by u w → Touches name u w → IsDurableFile w name (store_text Tagged s) → Keeps log w (flushed_in h r family n) next_stores
   store_kept over touches file = record {
     kind = keeps.kind;
     region = keeps.region;
@@ -183,7 +183,7 @@ module _ (log : OpenLog) (u w : DiskView) (h : History) (ns : List ℕ) (keeps :
       count = keeps.open_log.count;
     };
     staged = keeps.staged;
-    orderly = orderly_flushed h.kept r [] n keeps.orderly cut.more logged;
+    orderly = orderly_flushed h.kept r family n keeps.orderly cut.more logged;
     images = λ J now. let only = at_end (OnlyAt name (IsWholeOrNot (store_text Tagged s)) u) by u w over J now in stored_in only.base J only.was only.elsewhere (file.durable J now);
     names = λ J now.
         let only = at_end (OnlyAt name (IsWholeOrNot (store_text Tagged s)) u) by u w over J now in

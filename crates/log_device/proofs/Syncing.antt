@@ -6,6 +6,8 @@ use Rattle.disk_images.specs.Crash.{DiskView, Throughout, OnlyAt}
 use Rattle.disk_images.specs.OneFile.{Touches}
 use Rattle.disk_images.specs.declared.disk.Disk.{Ghosts}
 use Rattle.chronicle_model.specs.Growth.{AppendsTo}
+use Rattle.recovery_laws.specs.Kept.{lasts}
+use Rattle.recovery_laws.proofs.Rising.{lasts_no_less, lasts-append}
 use Rattle.log_file.specs.Open.{OpenLog, HasEither}
 use Rattle.log_ledger.specs.Books.{Books, AreInOrder}
 use Rattle.log_ledger.specs.Counted.{IsCounted}
@@ -36,7 +38,7 @@ module _ {D : Type 0} (g : Ghosts D) (h : History) (old new : Device D) (log : O
 
   pub syncs : {E : Type 0} (result : Result ℕ E) → OnOk result (HasHistory g new (committed_in h)) → Syncs g h result old new
   syncs result committed = record {
-    any_moment = commit_leaves log (view_of g old) h (books_of old) keeps whole.counted sound (view_of g new) (commit_moments log (view_of g old) h (books_of old).next_store keeps (view_of g new) over);
+    any_moment = commit_leaves log (view_of g old) h (books_of old) keeps whole.counted sound whole.told (view_of g new) (commit_moments log (view_of g old) h (books_of old).next_store keeps (view_of g new) over);
     names = λ file is. subst (λ (f : OpenLog). EachImage g (Bears h.kept.base (books_of old).next_store f.name.number) 4 old new) (same_file log file (sym its ∙ is))
         (names_moments log (view_of g old) h (books_of old).next_store keeps (HasEither log.name h.current (h.current ++ h.kept.staged)) 4 (view_of g new) over);
     committed = committed;
@@ -62,13 +64,24 @@ at_rest g n old new had now order books breaks = record {
 
 -- the same history, where the ledger differs in what doesn't matter to it
 pub same_history : {D : Type 0} (g : Ghosts D) (h : History) (old new : Device D) → disk_of new ≡ disk_of old → log_of new ≡ log_of old → (books_of new).next_store ≡ (books_of old).next_store → IsCounted (books_of new) h
-    → HasHistory g old h → HasHistory g new h
-same_history {D} g h old new disk log stores counted whole = record {
+    → ((r : ℕ) → get_or (books_of new).stored r 0 ≤ lasts h.kept.first h.kept.durable r) → HasHistory g old h → HasHistory g new h
+same_history {D} g h old new disk log stores counted told whole = record {
   file = whole.file;
   is = log ∙ whole.is;
   keeps = subst (λ (ns : List ℕ). Keeps whole.file (view_of g new) h ns) (sym stores) (subst (λ (d : D). Keeps whole.file (g.view d) h (books_of old).next_store) (sym disk) whole.keeps);
   counted = counted;
+  told = told;
 }
+
+-- nothing else is told
+pub same_told : {D : Type 0} (g : Ghosts D) (h : History) (old : Device D) (stored : List ℕ) → stored ≡ (books_of old).stored → HasHistory g old h → (r : ℕ) → get_or stored r 0 ≤ lasts h.kept.first h.kept.durable r
+same_told g h old stored same whole r = subst (λ (l : List ℕ). get_or l r 0 ≤ lasts h.kept.first h.kept.durable r) (sym same) (whole.told r)
+
+-- what is told is committed still when more is
+pub told_behind : {D : Type 0} (g : Ghosts D) (h : History) (old : Device D) (stored : List ℕ) → stored ≡ (books_of old).stored → HasHistory g old h → (r : ℕ) → get_or stored r 0 ≤ lasts h.kept.first (h.kept.durable ++ h.kept.staged) r
+told_behind g h old stored same whole r =
+    let was = same_told g h old stored same whole r in
+    omega (arith, was, lasts_no_less (lasts h.kept.first h.kept.durable) h.kept.staged r whole.keeps.orderly.rising, lasts-append h.kept.first h.kept.durable h.kept.staged r)
 
 -- a file in which nothing is staged
 pub rest_file : {D : Type 0} (old new : Device D) → IsIdle (log_of old) → log_of new ≡ log_of old → (file : OpenLog) → log_of old ≡ Some file → IsCommitted file (log_of new)

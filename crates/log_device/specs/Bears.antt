@@ -1,9 +1,8 @@
 -- Which names a device's files bear.
-use Rattle.std.specs.Prelude.{◌≡◌, ◌≢◌, ◌⊎◌, ◌<◌, ◌≤◌, ◌+◌, ℕ, List, get_or}
+use Rattle.std.specs.Prelude.{◌≡◌, ◌≢◌, ◌⊎◌, ◌<◌, ◌≤◌, ℕ, List, get_or}
 use Rattle.log_model.specs.declared.name.Name.{Name}
 use Rattle.log_model.specs.declared.name.NameKind.TheVariants as kinds
 use Rattle.log_model.specs.Files.{Files, IsAbsent, IsPresent}
-use Rattle.log_ledger.specs.Books.{Books}
 
 -- no log or old log has a number above this one
 abbrev pub IsLogsUpTo : ℕ → Files → Type 0
@@ -18,7 +17,3 @@ pub record Bears (found : Files) (next_store : List ℕ) (last : ℕ) (J : Files
   pub stores : (m : Name) → m.kind ≡ kinds.Store → IsPresent J m
       → IsPresent found m ⊎ ((1 ≤ m.region) × (m.region ≤ 64) × (m.number ≤ get_or next_store m.region 0))
   pub no_edits : (m : Name) → m.kind ≡ kinds.Edits → IsAbsent J m
-
--- the number of a region's next store is above this one by no more than the region's stored sequence id and one
-abbrev pub AreStoresFew : ℕ → Books → Type 0
-AreStoresFew limit b = (r : ℕ) → get_or b.next_store r 0 ≤ limit + 1 + get_or b.stored r 0

@@ -1,22 +1,23 @@
 -- What each call of a device does. Of each call one record says what the disk, each crash image and the history become, and one
 -- what the numbers and the current file become, whatever the disk tells.
 use Rattle.std.specs.Prelude.{◌≡◌, ◌⊎◌, ◌<◌, ◌≤◌, ◌+◌, ◌==◌, if◌then◌else◌, ℕ, List, [], length, get_or, slice_set}
-use Rattle.std.specs.Prelude.{Some, Result, Ok, Err, IfOk, OnOk, OnErr, IsErrOf}
+use Rattle.std.specs.Prelude.{Option, Some, None, Result, Ok, Err, IfOk, OnOk, OnErr, IsErrOf}
 use Rattle.log_model.specs.Entry.{Entry, IsEntry, entry_frame}
+use Rattle.recovery_laws.specs.Kept.{lasts}
 use Rattle.disk_images.specs.declared.disk.Disk.{Ghosts}
 use Rattle.chronicle_model.specs.Growth.{LowerLogsStay, AppendsTo}
 use Rattle.log_file.specs.Open.{OpenLog}
 use Rattle.log_trucks.specs.Held.{Haul}
-use Rattle.log_ledger.specs.History.{ClosedLog, History, staged_in, committed_in, closed_in, flushed_in, with_logs}
-use Rattle.log_ledger.specs.Books.{IsServed, SameRegions}
-use Rattle.log_ledger.specs.Counted.{IsHighestKept, LogsLeft}
+use Rattle.log_ledger.specs.History.{ClosedLog, History, staged_in, committed_in, closed_in, flushed_in, family_in, with_logs}
+use Rattle.log_ledger.specs.Books.{IsServed, SameRegions, AreStoresFew}
+use Rattle.log_ledger.specs.Counted.{HasUnflushed, LogsLeft}
 use Rattle.log_device.specs.declared.device.Device.{Device}
 use Rattle.log_device.specs.declared.error.Rolled.{Rolled}
 use Rattle.log_device.specs.declared.error.RollRefusal.{RollRefusal}
 use Rattle.log_device.specs.declared.error.RollRefusal.TheVariants as roll_refusals
 use Rattle.log_device.specs.declared.error.DeviceFlush.{DeviceFlush}
 use Rattle.log_device.specs.declared.error.DeviceFlush.TheVariants as flush_refusals
-use Rattle.log_device.specs.Bears.{Bears, AreStoresFew}
+use Rattle.log_device.specs.Bears.{Bears}
 use Rattle.log_device.specs.Keeps.{IsInOrder, log_name}
 use Rattle.log_device.specs.Flushed.{NoneKept, HasStore}
 use Rattle.log_device.specs.Whole.{IsBroken, IsCommitted, IsIdle, HasStaged, IsBegunAfter, NoneFell}
@@ -40,6 +41,7 @@ pub record StagesBooks {D T E : Type 0} (truck : Haul) (result : Result T E) (ol
   pub stored : (books_of new).stored ≡ (books_of old).stored
   pub closed : (books_of new).closed ≡ (books_of old).closed
   pub next_store : (books_of new).next_store ≡ (books_of old).next_store
+  pub few : (limit : ℕ) → AreStoresFew limit (books_of old) → AreStoresFew limit (books_of new)
 
 -- a sync by a device with this history
 pub record Syncs {D E : Type 0} (g : Ghosts D) (h : History) (result : Result ℕ E) (old new : Device D) : Type 0 where
@@ -63,6 +65,7 @@ pub record SyncsBooks {D E : Type 0} (result : Result ℕ E) (old new : Device D
   -- after a fault all numbers are as they were
   pub faulty : OnErr result (books_of new ≡ books_of old)
   pub never_falls : (r : ℕ) → get_or (books_of old).synced r 0 ≤ get_or (books_of new).synced r 0
+  pub few : (limit : ℕ) → AreStoresFew limit (books_of old) → AreStoresFew limit (books_of new)
 
 -- A roll of at most so many disk calls by a device with these staged entries, which has this history once they are committed.
 pub record RollsFrom {D : Type 0} (g : Ghosts D) (calls : ℕ) (staged : List Entry) (h : History) (result : Result Rolled RollRefusal) (old new : Device D) : Type 0 where
@@ -106,6 +109,7 @@ pub record RollsBooks {D : Type 0} (result : Result Rolled RollRefusal) (old new
   pub stored : (books_of new).stored ≡ (books_of old).stored
   pub drawn : (books_of new).drawn ≡ (books_of old).drawn
   pub next_store : (books_of new).next_store ≡ (books_of old).next_store
+  pub few : (limit : ℕ) → AreStoresFew limit (books_of old) → AreStoresFew limit (books_of new)
 
 -- the end of this file, in which nothing is staged, and the begin of the next one, by a device with this history
 pub record BeginsNext {D T E : Type 0} (g : Ghosts D) (h : History) (file : OpenLog) (result : Result T E) (old new : Device D) : Type 0 where
@@ -123,36 +127,42 @@ pub record BeginsNextBooks {D T E : Type 0} (result : Result T E) (old new : Dev
   pub closed_faulty : OnErr result ((books_of new).closed ≡ (books_of old).closed)
   -- and the other numbers are as they were
   pub same : SameRegions (books_of old) (record (books_of new) { closed = (books_of old).closed })
+  pub few : (limit : ℕ) → AreStoresFew limit (books_of old) → AreStoresFew limit (books_of new)
 
--- A flush of region r by a device with these staged entries, which has this history once they are committed.
-pub record FlushesFrom {D : Type 0} (g : Ghosts D) (staged : List Entry) (h : History) (r : ℕ) (result : Result ℕ DeviceFlush) (old new : Device D) : Type 0 where
+-- A flush of region r, of one family or of all, by a device with these staged entries, which has this history once they are
+-- committed.
+pub record FlushesFrom {D : Type 0} (g : Ghosts D) (staged : List Entry) (h : History) (r : ℕ) (family : Option (List ℕ)) (result : Result ℕ DeviceFlush) (old new : Device D) : Type 0 where
   -- at each moment each image is fit, and recovers to the files as they read with the first of the staged entries
   pub any_moment : (bound : ℕ) × EachImage g (LeavesAt g old staged) bound old new
   -- and its files bear names that the device gives
   pub names : (file : OpenLog) → log_of old ≡ Some file
       → (bound : ℕ) × EachImage g (Bears h.kept.base (books_of old).next_store file.name.number) bound old new
-  pub flushed : IfOk result (λ n. IsHighestKept h.kept r n × HasHistory g new (flushed_in h r n))
+  -- the region's last number is flushed then, of this family or of all
+  pub flushed : IfOk result
+      (λ n. (n ≡ lasts h.kept.first h.kept.durable r) × HasUnflushed h.kept r family × HasHistory g new (flushed_in h r (family_in family) n))
   -- the region's next store file is durable, from the first number that wasn't flushed on
-  pub store : IfOk result (λ n. HasStore (view_of g new) r (get_or (books_of old).next_store r 0) (h.kept.flushed r [] + 1) n)
-  pub nothing : (n : ℕ) → result ≡ Err (flush_refusals.Nothing n) → (n ≡ h.kept.flushed r []) × NoneKept h.kept r
+  pub store : IfOk result
+      (λ n. HasStore (view_of g new) r (family_in family) (get_or (books_of old).next_store r 0) (h.kept.flushed r (family_in family) + 1) n)
+  pub nothing : (n : ℕ) → result ≡ Err (flush_refusals.Nothing n) → (n ≡ lasts h.kept.first h.kept.durable r) × NoneKept h.kept r family
   -- after a refusal what was staged is committed, unless the device is broken
   pub refused : OnErr result ((IsBroken new → ⊥) → HasHistory g new h)
   -- the logs below the current one read as they did, whatever the call answers
   pub lower : (file : OpenLog) → log_of old ≡ Some file → LowerLogsStay file.name.number (files_of g old) (files_of g new)
 
--- a flush of region r by a device with this history
-abbrev pub Flushes : {D : Type 0} → Ghosts D → History → ℕ → Result ℕ DeviceFlush → Device D → Device D → Type 0
-Flushes g h r result old new = FlushesFrom g h.kept.staged (committed_in h) r result old new
+-- a flush of region r, of one family or of all, by a device with this history
+abbrev pub Flushes : {D : Type 0} → Ghosts D → History → ℕ → Option (List ℕ) → Result ℕ DeviceFlush → Device D → Device D → Type 0
+Flushes g h r family result old new = FlushesFrom g h.kept.staged (committed_in h) r family result old new
 
-pub record FlushesBooks {D : Type 0} (r : ℕ) (result : Result ℕ DeviceFlush) (old new : Device D) : Type 0 where
-  -- it gives the region's last number
+pub record FlushesBooks {D : Type 0} (r : ℕ) (family : Option (List ℕ)) (result : Result ℕ DeviceFlush) (old new : Device D) : Type 0 where
+  -- it gives the region's last number, also where there is nothing to flush
   pub number : IfOk result (λ n. n ≡ get_or (books_of old).drawn r 0)
-  -- which is above what was told of it
-  pub above : IfOk result (λ n. get_or (books_of old).stored r 0 < n)
-  pub nothing_number : (n : ℕ) → result ≡ Err (flush_refusals.Nothing n) → get_or (books_of old).drawn r 0 ≤ n
-  -- what is told of the region is the number that was given, and of each other region it is as it was
-  pub stored : IfOk result (λ n. get_or (books_of new).stored r 0 ≡ n)
-  pub stored_nothing : (n : ℕ) → result ≡ Err (flush_refusals.Nothing n) → get_or (books_of new).stored r 0 ≡ n
+  pub nothing_number : (n : ℕ) → result ≡ Err (flush_refusals.Nothing n) → n ≡ get_or (books_of old).drawn r 0
+  -- which, in a flush of all, is above what was told of it
+  pub above : family ≡ None → IfOk result (λ n. get_or (books_of old).stored r 0 < n)
+  -- what is told of the region is the number that a flush of all gave; a flush of one family changes nothing in what is told
+  pub stored : family ≡ None → IfOk result (λ n. get_or (books_of new).stored r 0 ≡ n)
+  pub stored_nothing : family ≡ None → (n : ℕ) → result ≡ Err (flush_refusals.Nothing n) → get_or (books_of new).stored r 0 ≡ n
+  pub stored_of_one : (f : List ℕ) → family ≡ Some f → (books_of new).stored ≡ (books_of old).stored
   pub stored_still : (IsErrOf result flush_refusals.Memory ⊎ IsErrOf result flush_refusals.WriteFault) → (books_of new).stored ≡ (books_of old).stored
   pub others : (q : ℕ) → (q ≡ r → ⊥) → get_or (books_of new).stored q 0 ≡ get_or (books_of old).stored q 0
   pub next_store : OnOk result ((books_of new).next_store ≡ slice_set (books_of old).next_store r (get_or (books_of old).next_store r 0 + 1))
@@ -187,3 +197,4 @@ pub record ArchivesBooks {D E : Type 0} (result : Result ℕ E) (old new : Devic
   pub stored : (books_of new).stored ≡ (books_of old).stored
   pub closed : (books_of new).closed ≡ (books_of old).closed
   pub next_store : (books_of new).next_store ≡ (books_of old).next_store
+  pub few : (limit : ℕ) → AreStoresFew limit (books_of old) → AreStoresFew limit (books_of new)

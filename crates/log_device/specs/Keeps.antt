@@ -7,8 +7,8 @@ use Rattle.log_model.specs.Files.{Files, content, IsPresent}
 use Rattle.disk_images.specs.Crash.{DiskView, IsImageNow, Throughout}
 use Rattle.chronicle_model.specs.Growth.{LogsStay}
 use Rattle.disk_images.specs.OneFile.{IsDurableFile}
-use Rattle.recovery.specs.Change.{HasText}
-use Rattle.recovery.specs.Kept.{Kept, IsLike, IsOrderly}
+use Rattle.recovery_laws.specs.Change.{HasText}
+use Rattle.recovery_laws.specs.Kept.{Kept, IsLike, IsOrderly}
 use Rattle.log_file.specs.LogText.{ended_text}
 use Rattle.log_file.specs.Open.{OpenLog, AreEntriesOf, IsOpen, IsStaged}
 use Rattle.log_ledger.specs.History.{ClosedLog, History}

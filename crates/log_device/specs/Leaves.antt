@@ -5,7 +5,7 @@ use Rattle.log_model.specs.declared.name.Name.{Name}
 use Rattle.log_model.specs.Entry.{Entry}
 use Rattle.log_model.specs.Files.{Files, IsLogFile, IsLastLog}
 use Rattle.log_model.specs.Recovered.{IsRecovered, IsStored}
-use Rattle.recovery.specs.Change.{RecoversSome}
+use Rattle.recovery_laws.specs.Change.{RecoversSome}
 
 -- what recovers of a region up to this number is in stores
 abbrev pub IsStoredTo : List ℕ → Files → Type 0

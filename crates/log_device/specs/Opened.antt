@@ -5,7 +5,7 @@ use Rattle.log_model.specs.declared.name.NameKind.{NameKind}
 use Rattle.log_model.specs.declared.name.NameKind.TheVariants as kinds
 use Rattle.log_model.specs.Files.{Files, content, IsFit, IsPresent}
 use Rattle.log_model.specs.Recovered.{IsGreatest, IsFlushed}
-use Rattle.recovery.specs.Kept.{HasNoLogs}
+use Rattle.recovery_laws.specs.Kept.{HasNoLogs}
 use Rattle.disk_images.specs.Crash.{DiskView, IsImageNow}
 use Rattle.log_ledger.specs.declared.base.RegionBase.{RegionBase}
 use Rattle.log_device.specs.declared.device.Device.{Device}

@@ -5,6 +5,7 @@ use Rattle.log_model.specs.Files.{Files}
 use Rattle.disk_images.specs.declared.disk.Disk.{Ghosts}
 use Rattle.disk_images.specs.Crash.{DiskView, Elapses, Throughout}
 use Rattle.disk_images.specs.Calls.{HasCause}
+use Rattle.recovery_laws.specs.Kept.{lasts}
 use Rattle.log_file.specs.Open.{OpenLog}
 use Rattle.log_ledger.specs.History.{History}
 use Rattle.log_ledger.specs.Books.{Books}
@@ -32,6 +33,8 @@ pub record IsWhole {D : Type 0} (d : Device D) (disk : DiskView) (h : History) :
   pub is : log_of d ≡ Some file
   pub keeps : Keeps file disk h (books_of d).next_store
   pub counted : IsCounted (books_of d) h
+  -- what is told of a region is committed
+  pub told : (r : ℕ) → get_or (books_of d).stored r 0 ≤ lasts h.kept.first h.kept.durable r
 
 -- what its disk tells
 abbrev pub view_of : {D : Type 0} → Ghosts D → Device D → DiskView

@@ -31,8 +31,8 @@ impl<D> Device<D> {
         self.ledger.synced(region)
     }
 
-    /// The number that the region's last flush with Ok or Nothing gave, or that up to which it was flushed at the start. It
-    /// never falls.
+    /// The number that the region's last flush of all with Ok or Nothing gave, or that up to which it was flushed at the
+    /// start. It never falls.
     pub fn stored(&self, region: u32) -> u64
         requires { region ≤ 64 }
         ensures number { result ≡ get_or (books_of self.now).stored region 0 }

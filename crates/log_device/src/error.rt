@@ -43,14 +43,14 @@ pub enum RollRefusal {
     NothingToRoll { file: u64 },
 }
 
-/// Why a region isn't flushed.
+/// Why a region, or one family of it, isn't flushed.
 #[derive(Clone, Copy, Debug, PartialEq, Eq, Error)]
 pub enum DeviceFlush {
     #[error("no memory")]
     Memory,
     #[error("a disk call of the log failed")]
     WriteFault,
-    /// No entry above this number, up to which the region is flushed.
+    /// No cell of the region, or of the family that was asked for, is unflushed. This is the region's last number.
     #[error("nothing above number {flushed} to flush")]
     Nothing { flushed: u64 },
 }

@@ -1,16 +1,18 @@
-//! A region's entries go into a store file.
+//! A region's entries, or the cells of one family of them, go into a store file.
 
-ghost use Rattle.std.specs.Prelude.{◌≡◌, ◌≤◌, ◌<◌, ◌+◌, ◌↔◌, ◌⊎◌, ℕ, [], get_or, slice_set, Some, Ok, Err, IsTrue, IfOk, OnOk, OnErr, IsErrOf};
-ghost use Rattle.recovery.specs.Kept.{flushed_to};
+ghost use Rattle.std.specs.Prelude.{◌≡◌, ◌≤◌, ◌<◌, ◌+◌, ◌↔◌, ◌⊎◌, ℕ, List, [], length, get_or, slice_set, Some, None, Ok, Err, IsTrue, IfOk, IfSome, OnOk, OnErr, IsErrOf};
+ghost use Rattle.std.specs.Option.{option_copied};
+ghost use Rattle.seq_accounting.specs.Accounts.{flushed_at};
+ghost use Rattle.recovery_laws.specs.Kept.{flushed_to};
 ghost use Rattle.chronicle_model.specs.Growth.{LogsStay, Prolongs};
 ghost use Rattle.log_file.specs.Open.{OpenLog};
-ghost use Rattle.flush_snapshot.specs.Cut.{IsWithin};
-ghost use Rattle.log_ledger.specs.History.{History, flushed_in};
-ghost use Rattle.log_ledger.specs.Books.{IsServed, AreInOrder};
-ghost use Rattle.log_ledger.specs.Counted.{PutsCut};
-ghost use Rattle.log_device.specs.Bears.{Bears, AreStoresFew};
+ghost use Rattle.flush_snapshot.specs.Cut.{AreOf, IsWithin};
+ghost use Rattle.log_ledger.specs.History.{History, flushed_in, family_in};
+ghost use Rattle.log_ledger.specs.Books.{IsServed, IsLeft, AreInOrder, AreStoresFew};
+ghost use Rattle.log_ledger.specs.Counted.{PutsCut, HasUnflushed};
+ghost use Rattle.log_device.specs.Bears.{Bears};
 ghost use Rattle.log_device.specs.Keeps.{Between};
-ghost use Rattle.log_device.specs.Flushed.{HasStore};
+ghost use Rattle.log_device.specs.Flushed.{HasStore, NoneKept};
 ghost use Rattle.log_device.specs.Whole.{IsBroken, IsAtRest, Breaks, log_of, books_of, HasHistory, EachImage, CausesFault, OnlyCommits, disk_of, view_of, files_of};
 ghost use Rattle.log_device.specs.Calls.{Flushes, FlushesFrom, FlushesBooks};
 
@@ -20,21 +22,28 @@ use disk_images::{Disk, Name, NameKind};
 use flush_snapshot::write_cut;
 use kv_cell::NumberedCells;
 use log_file::FileRefusal;
+use seq_accounting::FlushRoom;
 use std::alloc::Global;
 
 impl<D: Disk> Device<D> {
-    /// Commits all that is staged, and writes the cells of the region's entries that aren't flushed as one store file; it
-    /// gives the highest number of them, up to which the region is flushed then. `Nothing` comes exactly where no entry of
-    /// the region above the flushed number is kept after the commit, `Memory` after the commit and before any other disk
-    /// call.
-    pub fn flush(&mut self, alloc: Global, region: u32) -> Result<u64, DeviceFlush>
+    /// Commits all that is staged, and writes the region's cells that aren't flushed, those of this family (1 to 127 bytes) or
+    /// of all where none is given, as one store file. It gives the region's last number, up to which the family, or all of the
+    /// region, is flushed then. `Nothing` comes exactly where no such cell is kept after the commit, with the same number;
+    /// `Memory` after the commit and before any other disk call.
+    pub fn flush(
+        &mut self,
+        alloc: Global,
+        region: u32,
+        family: Option<&[u8]>,
+    ) -> Result<u64, DeviceFlush>
         requires served { IsServed (books_of self.old) region }
+        requires family { IfSome family (λ f. (1 ≤ length f.now) × (length f.now ≤ 127)) }
         requires whole { IsTrue D.told → (IsBroken self.old → ⊥) → ∥ ((h : History) × HasHistory D.Disk self.old h) ∥₁ }
 
         // What the disk and each crash image hold, and what the numbers and the file say, on any disk.
         ensures flushes { IsTrue D.told → (h : History) → HasHistory D.Disk self.old h
-            → Flushes D.Disk h region result self.old self.new }
-        ensures books { FlushesBooks region result self.old self.new }
+            → Flushes D.Disk h region (option_copied family.entry) result self.old self.new }
+        ensures books { FlushesBooks region (option_copied family.entry) result self.old self.new }
 
         // The logs' chronicle before the call begins the one after it, whatever it answers.
         ensures chronicle { IsTrue D.told → (h : History) → HasHistory D.Disk self.old h
@@ -48,64 +57,105 @@ impl<D: Disk> Device<D> {
             × IsErrOf result DeviceFlush.WriteFault) }
     {
         self.commit_staged()?;
-        self.flush_committed(alloc, region)
+        self.flush_committed(alloc, region, family)
     }
 
-    /// Flushes a region where nothing is staged.
-    fn flush_committed(&mut self, alloc: Global, region: u32) -> Result<u64, DeviceFlush>
+    /// Flushes a region, or one family of it, where nothing is staged.
+    fn flush_committed(
+        &mut self,
+        alloc: Global,
+        region: u32,
+        family: Option<&[u8]>,
+    ) -> Result<u64, DeviceFlush>
         requires served { IsServed (books_of self.old) region }
+        requires family { IfSome family (λ f. (1 ≤ length f.now) × (length f.now ≤ 127)) }
         requires rest { IsAtRest D.Disk self.old }
 
         ensures flushes { IsTrue D.told → (h : History) → HasHistory D.Disk self.old h → h.kept.staged ≡ []
-            → FlushesFrom D.Disk [] h region result self.old self.new }
-        ensures books { FlushesBooks region result self.old self.new }
+            → FlushesFrom D.Disk [] h region (option_copied family.entry) result self.old self.new }
+        ensures books { FlushesBooks region (option_copied family.entry) result self.old self.new }
         ensures logs { IsTrue D.told → LogsStay (files_of D.Disk self.old) (files_of D.Disk self.new) }
         ensures memory { IsErrOf result DeviceFlush.Memory → disk_of self.new ≡ disk_of self.old }
         ensures breaks { Breaks D.Disk (IsErrOf result DeviceFlush.WriteFault) self.old self.new }
     {
         let ledger = &*self.ledger;
-        if !ledger.has_unflushed(region) {
-            self.ledger.keep(region);
+        if !ledger.has_unflushed(region, family) {
             return Err(DeviceFlush::Nothing {
-                flushed: self.ledger.flushed(region),
+                flushed: self.found_nothing(region, family),
             });
         }
-        let cells = ledger.cells(alloc, region)?;
-        self.write_store(alloc, region, cells)
+        let own = name_of(family);
+        let cells = ledger.cells(alloc, region, own)?;
+        let Ok(room) = FlushRoom::new(alloc, own) else {
+            return Err(DeviceFlush::Memory);
+        };
+        self.write_store(alloc, region, family, cells, room)
     }
 
-    /// Writes these cells, which are what the region has above its flushed number, as its next store file.
+    /// A region, or one family of it, has nothing to flush: what is told of a region that is asked for as a whole is its last
+    /// number then, which it gives.
+    fn found_nothing(&mut self, region: u32, family: Option<&[u8]>) -> u64
+        requires served { IsServed (books_of self.old) region }
+        requires rest { IsAtRest D.Disk self.old }
+        requires order { AreInOrder (books_of self.old) }
+        requires none { option_copied family ≡ None → get_or (books_of self.old).chains region [] ≡ [] }
+
+        ensures flushes { IsTrue D.told → (h : History) → HasHistory D.Disk self.old h → h.kept.staged ≡ []
+            → NoneKept h.kept region (option_copied family.entry)
+            → FlushesFrom D.Disk [] h region (option_copied family.entry) (Err (DeviceFlush.Nothing result)) self.old self.new }
+        ensures books { FlushesBooks region (option_copied family.entry) (Err (DeviceFlush.Nothing result)) self.old self.new }
+        ensures disk { disk_of self.new ≡ disk_of self.old }
+        ensures log { log_of self.new ≡ log_of self.old }
+    {
+        let flushed = self.ledger.synced(region);
+        if family.is_none() {
+            self.ledger.keep(region);
+        }
+        flushed
+    }
+
+    /// Writes these cells, which are what the region has of the family above its flushed number, as its next store file.
     fn write_store(
         &mut self,
         alloc: Global,
         region: u32,
+        family: Option<&[u8]>,
         cells: NumberedCells,
+        room: FlushRoom,
     ) -> Result<u64, DeviceFlush>
         requires served { IsServed (books_of self.old) region }
+        requires family { IfSome family (λ f. (1 ≤ length f.now) × (length f.now ≤ 127)) }
         requires order { AreInOrder (books_of self.old) }
-        requires above { get_or (books_of self.old).accounts.flushed region 0 < get_or (books_of self.old).drawn region 0 }
-        requires within { IsWithin (get_or (books_of self.old).accounts.flushed region 0 + 1) (get_or (books_of self.old).drawn region 0) cells }
+        requires left { IsLeft (books_of self.old) region (family_in (option_copied family)) }
+        requires above { option_copied family ≡ None → get_or (books_of self.old).stored region 0 < get_or (books_of self.old).drawn region 0 }
+        requires low { flushed_at (books_of self.old).accounts region (family_in (option_copied family)) < get_or (books_of self.old).drawn region 0 }
+        requires within { IsWithin (flushed_at (books_of self.old).accounts region (family_in (option_copied family)) + 1)
+            (get_or (books_of self.old).drawn region 0) cells }
+        requires of { AreOf (family_in (option_copied family)) cells }
+        requires room { room ≡ family_in (option_copied family) }
         requires rest { IsAtRest D.Disk self.old }
 
         ensures flushes { IsTrue D.told → (h : History) → HasHistory D.Disk self.old h → h.kept.staged ≡ []
-            → PutsCut h.kept region (get_or (books_of self.old).drawn region 0) cells
-            → FlushesFrom D.Disk [] h region result self.old self.new }
-        ensures books { FlushesBooks region result self.old self.new }
+            → HasUnflushed h.kept region (option_copied family.entry)
+            → PutsCut h.kept region (family_in (option_copied family.entry)) (get_or (books_of self.old).drawn region 0) cells
+            → FlushesFrom D.Disk [] h region (option_copied family.entry) result self.old self.new }
+        ensures books { FlushesBooks region (option_copied family.entry) result self.old self.new }
         ensures logs { IsTrue D.told → LogsStay (files_of D.Disk self.old) (files_of D.Disk self.new) }
-        ensures memory { IsErrOf result DeviceFlush.Memory → self.new ≡ self.old }
+        ensures memory { IsErrOf result DeviceFlush.Memory → disk_of self.new ≡ disk_of self.old }
         ensures breaks { Breaks D.Disk (IsErrOf result DeviceFlush.WriteFault) self.old self.new }
     {
         let ledger = &*self.ledger;
-        let from = ledger.flushed(region) + 1;
+        let own = name_of(family);
+        let from = ledger.flushed(region, own) + 1;
         let to = ledger.drawn(region);
         let name = Name {
             kind: NameKind::Store,
             region,
             number: ledger.next_store(region),
         };
-        match write_cut(alloc, &mut self.disk, name, &[], from, to, cells) {
+        match write_cut(alloc, &mut self.disk, name, own, from, to, cells) {
             Ok(_) => {
-                self.ledger.flush(region);
+                self.ledger.flush(region, room);
                 Ok(to)
             }
             Err(FileRefusal::Memory) => Err(DeviceFlush::Memory),
@@ -114,5 +164,15 @@ impl<D: Disk> Device<D> {
                 Err(DeviceFlush::WriteFault)
             }
         }
+    }
+}
+
+/// The family's name, empty where none is given.
+fn name_of(family: Option<&[u8]>) -> &[u8]
+    ensures { result.now ≡ family_in (option_copied family.entry) }
+{
+    match family {
+        Some(family) => family,
+        None => &[],
     }
 }

@@ -3,12 +3,12 @@
 ghost use Rattle.std.specs.Prelude.{◌≡◌, ◌≤◌, ◌<◌, ◌+◌, ◌^◌, ◌↔◌, ℕ, List, [], Contains, IsTrue, IfOk, IfErr, IsErrOf, IsErrAnd, Some};
 ghost use Rattle.log_model.specs.Files.{IsPresent};
 ghost use Rattle.log_model.specs.Recovered.{IsGreatest};
-ghost use Rattle.recovery.specs.Change.{RecoversSome};
+ghost use Rattle.recovery_laws.specs.Change.{RecoversSome};
 ghost use Rattle.disk_images.specs.Crash.{Throughout};
 ghost use Rattle.disk_images.specs.Calls.{HasCause, Looks};
 ghost use Rattle.log_file.specs.Open.{OpenLog};
 ghost use Rattle.log_ledger.specs.Bases.{AreRegions, IsAmong, AreNumbersOf};
-ghost use Rattle.log_ledger.specs.Books.{IsServed};
+ghost use Rattle.log_ledger.specs.Books.{IsServed, AreStoresFew};
 ghost use Rattle.log_ledger.specs.History.{started_in};
 ghost use Rattle.log_device.specs.Bears.{Bears};
 ghost use Rattle.log_device.specs.Keeps.{Keeps, log_name};
@@ -48,6 +48,8 @@ impl<D: Disk> Device<D> {
         ensures served { IfOk result (λ d. (r : ℕ) → IsServed (books_of d) r ↔ IsAmong regions.now r) }
         ensures drawn { IfOk result (λ d. AreNumbersOf (λ m. m.flushed) regions.now (books_of d).drawn) }
         ensures next_store { IfOk result (λ d. AreNumbersOf (λ m. m.next_store) regions.now (books_of d).next_store) }
+        ensures few { (limit : ℕ) → ((m : RegionBase) → Contains regions.now m → m.next_store ≤ limit + 1)
+            → IfOk result (λ d. AreStoresFew limit (books_of d)) }
         ensures numbers { IfOk result (λ d. ((books_of d).synced ≡ (books_of d).drawn)
             × ((books_of d).stored ≡ (books_of d).drawn) × ((books_of d).closed ≡ (books_of d).drawn)) }
         ensures unbroken { IfOk result (λ d. IsBroken d → ⊥) }

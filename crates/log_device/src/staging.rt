@@ -1,12 +1,13 @@
 //! Entries are staged, and made durable.
 
 ghost use Rattle.std.specs.Prelude.{◌≡◌, ◌≤◌, ◌<◌, ◌+◌, ◌↔◌, ◌++◌, ℕ, [], length, get_or, Some, None, Ok, IsTrue, IfOk, IfErr, OnOk, OnErr, IsErr};
-ghost use Rattle.log_model.specs.Entry.{Entry, IsEntry, entry_frame};
+ghost use Rattle.log_model.specs.Entry.{Entry};
 ghost use Rattle.chronicle_model.specs.Growth.{AppendsTo, Prolongs};
 ghost use Rattle.log_file.specs.Open.{OpenLog};
+ghost use Rattle.log_trucks.specs.Held.{Carries};
 ghost use Rattle.log_ledger.specs.History.{History, committed_in};
 ghost use Rattle.log_ledger.specs.Books.{IsServed, AreInOrder};
-ghost use Rattle.recovery.specs.Kept.{committed};
+ghost use Rattle.recovery_laws.specs.Kept.{committed};
 ghost use Rattle.log_device.specs.Bears.{Bears};
 ghost use Rattle.log_device.specs.Keeps.{Between};
 ghost use Rattle.log_device.specs.Whole.{IsBroken, Breaks, IsCommitted, IsIdle, disk_of, log_of, books_of, files_of, HasHistory, EachImage, CausesFault};
@@ -24,8 +25,7 @@ impl<D: Disk> Device<D> {
     pub fn stage(&mut self, truck: Box<Truck>) -> Result<(), StageFull>
         requires served { IsServed (books_of self.old) truck.value.region }
         requires alone { truck.value.behind ≡ [] }
-        requires entry { ∥ ((e : Entry) × IsEntry e × (truck.value.bytes ≡ entry_frame e)
-            × (e.region ≡ truck.value.region) × (e.number ≡ truck.value.number)) ∥₁ }
+        requires entry { ∥ ((e : Entry) × Carries truck.value e) ∥₁ }
         requires above { get_or (books_of self.old).drawn truck.value.region 0 < truck.value.number }
 
         // What the device has after it, and what its numbers and its file say, on any disk.

@@ -11,7 +11,7 @@ use Rattle.disk_images.specs.Gate.{ClosedOrOpen}
 use Rattle.disk_images.specs.OneFile.{IsShort, IsDurableFile}
 use Rattle.disk_images.proofs.Moments.{more_time, at_once}
 use Rattle.disk_images.proofs.Torn.{only_weaker, only_unchanged}
-use Rattle.recovery.specs.Change.{HasText, HasEntries}
+use Rattle.recovery_laws.specs.Change.{HasText, HasEntries}
 use Rattle.log_file.specs.LogText.{front, behind_gate, behind_end, at_rest, ended_text}
 use Rattle.log_file.specs.Open.{OpenLog, AreEntriesOf, HasEither, HasEnding, IsStaged, IsOpen}
 use Rattle.log_file.specs.Calls.{IsSameFile}

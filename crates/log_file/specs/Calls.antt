@@ -5,7 +5,7 @@ use Rattle.log_model.specs.Entry.{Entry}
 use Rattle.log_model.specs.Files.{content}
 use Rattle.disk_images.specs.Crash.{DiskView, Throughout, OnlyAt}
 use Rattle.disk_images.specs.OneFile.{Touches, IsDurableFile}
-use Rattle.recovery.specs.Change.{HasText, HasEntries}
+use Rattle.recovery_laws.specs.Change.{HasText, HasEntries}
 use Rattle.log_file.specs.LogText.{ended_text}
 use Rattle.log_file.specs.Open.{OpenLog, IsOpen, IsStaged, HasEither, HasEnding}
 

@@ -7,7 +7,7 @@ use Rattle.log_model.specs.declared.name.Name.{Name}
 use Rattle.log_model.specs.Entry.{Entry}
 use Rattle.log_model.specs.LogText.{IsEntryOf, in_version}
 use Rattle.log_model.specs.Files.{key_of}
-use Rattle.recovery.specs.Change.{HasText}
+use Rattle.recovery_laws.specs.Change.{HasText}
 use Rattle.log_file.specs.LogText.{front, behind_gate, at_rest}
 
 -- its name, the place of its next gate, the number of its entries, and what is staged behind that gate: the bytes, and

@@ -3,7 +3,7 @@ use Rattle.std.proofs.Common.{◌≡◌, ◌⊎◌, inl, inr, List, [], ◌∷�
 use Rattle.std.proofs.lemmas.List.Elements.{Contains-append_left, Contains-append_right, Contains-append_cases, Contains-push, Contains-push_cases}
 use Rattle.log_model.specs.Entry.{Entry}
 use Rattle.log_trucks.specs.Held.{Held, AreHeld}
-use Rattle.recovery.proofs.Lists.{none_in, first_or_later}
+use Rattle.recovery_laws.proofs.Lists.{none_in, first_or_later}
 
 pub none_at : {A : Type 0} (x : A) → Contains [] x → ⊥
 none_at x h = omega (arith, h.1)

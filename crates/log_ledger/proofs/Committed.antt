@@ -1,26 +1,32 @@
 -- The numbers once what is staged is committed, and once the current file is closed.
-use Rattle.std.proofs.Common.{◌≡◌, ◌⊎◌, ◌↔◌, inl, inr, ℕ, ◌<◌, List, [], ◌∷◌, ◌++◌, get_or, Contains, refl, sym, ap, ◌∙◌, subst, arith, append-nil}
+use Rattle.std.proofs.Common.{◌≡◌, ◌⊎◌, ◌↔◌, inl, inr, ℕ, ◌≤◌, List, [], ◌∷◌, ◌++◌, map, Contains, refl, sym, ap, ◌∙◌, subst, arith, append-nil}
 use Rattle.std.proofs.lemmas.List.Elements.{Contains-append_left, Contains-append_right, Contains-append_cases}
 use Rattle.log_model.specs.Entry.{Entry}
-use Rattle.recovery.proofs.Rising.{lasts-append}
-use Rattle.recovery.proofs.Likes.{orderly_committed}
-use Rattle.recovery.proofs.Lists.{none_in}
+use Rattle.recovery_laws.specs.Kept.{lasts}
+use Rattle.recovery_laws.proofs.Rising.{lasts-append, above_last}
+use Rattle.recovery_laws.proofs.Likes.{orderly_committed}
+use Rattle.recovery_laws.proofs.Lists.{none_in}
+use Rattle.seq_accounting.specs.Marks.{FamilyMark, number_of}
 use Rattle.seq_accounting.specs.Accounts.{ClosedFile}
+use Rattle.seq_accounting.specs.Noted.{Note, HasNoted}
 use Rattle.log_ledger.specs.History.{History, committed_in, closed_in}
 use Rattle.log_ledger.specs.Books.{Books, IsServed, AreInOrder}
-use Rattle.log_ledger.specs.Counted.{IsHighest, IsCountedLog, AreCounted, CarriesUnflushed, IsCounted}
-use Rattle.log_ledger.proofs.Sets.{same_at, spread}
+use Rattle.log_ledger.specs.Counted.{IsHighest, IsCountedLog, AreCounted, CarriesUnflushed, IsUnflushedEntry, IsCounted, note_of}
+use Rattle.log_ledger.proofs.Sets.{same_at}
 use Rattle.log_ledger.proofs.Highest.{highest_none}
 use Rattle.log_ledger.proofs.Logs.{counted_logs, counted_more}
-use Rattle.log_ledger.proofs.Steps.{ClosedBy}
+use Rattle.log_ledger.proofs.Steps.{ClosedBy, flushed_same}
 
 pub counted_committed : (b : Books) (h : History) → AreInOrder b → IsCounted b h → IsCounted (record b { synced = b.drawn }) (committed_in h)
 counted_committed b h order counted = record {
   synced = λ r served. counted.drawn r served ∙ sym (lasts-append h.kept.first h.kept.durable h.kept.staged r);
   drawn = λ r served. counted.drawn r served ∙ sym (lasts-append h.kept.first h.kept.durable h.kept.staged r);
   flushed = counted.flushed;
-  evenly = counted.evenly;
-  stored = counted.stored;
+  stored = λ e f has of below. elim (Contains-append_cases h.kept.durable h.kept.staged e has) as (λ _. e.number ≤ h.kept.flushed e.region f) [
+    | inl old ↦ counted.stored e f old of below
+    | inr new ↦ absurd (omega (arith, below, (order.regions e.region).stored, counted.synced e.region (counted.ours e (inl (Contains-append_right h.current h.kept.staged e new))), above_last (lasts h.kept.first h.kept.durable) h.kept.staged e counted.orderly.rising new))
+  ];
+  noted = subst (λ (l : List Entry). HasNoted b.accounts (map note_of l)) (sym (append-nil (h.kept.durable ++ h.kept.staged))) counted.noted;
   newer = λ e has. counted.newer e (subst (λ (l : List Entry). Contains l e) current has);
   ours = λ e has. counted.ours e (elim has as (λ _. Contains (h.current ++ h.kept.staged) e ⊎ Contains h.kept.durable e) [
     | inl written ↦ inl (subst (λ (l : List Entry). Contains l e) current written)
@@ -30,13 +36,13 @@ counted_committed b h order counted = record {
     ])
   ]);
   given = λ e has. counted.given e (subst (λ (l : List Entry). Contains l e) current has);
-  current = λ r. subst (λ (l : List Entry). IsHighest r l (get_or b.accounts.current r 0)) (sym current) (counted.current r);
+  current = λ r f. subst (λ (l : List Entry). IsHighest r f l (number_of b.accounts.current r f)) (sym current) (counted.current r f);
   logs = counted_logs b (record b { synced = b.drawn }) b.accounts.closed h.logs (λ r served. served) counted.logs;
   chains = λ r served. let carries = counted.chains r served in record {
     entries = carries.entries;
     held = carries.held;
     apart = carries.apart;
-    each = λ e. subst (λ (l : List Entry). Contains carries.entries e ↔ (Contains l e × (e.region ≡ r) × (h.kept.flushed r [] < e.number))) (sym (append-nil (h.kept.durable ++ h.kept.staged))) (carries.each e);
+    each = λ e. subst (λ (l : List Entry). Contains carries.entries e ↔ (Contains l e × (e.region ≡ r) × IsUnflushedEntry h.kept e)) (sym (append-nil (h.kept.durable ++ h.kept.staged))) (carries.each e);
   };
   orderly = orderly_committed h.kept counted.orderly (λ e has. counted.given e (Contains-append_right h.current h.kept.staged e has));
 }
@@ -52,16 +58,16 @@ pub counted_closed : (old new : Books) (file : ℕ) (h : History) → AreInOrder
 counted_closed old new file h order s counted none = record {
   synced = λ r served. same_at old.synced new.synced r 0 s.synced ∙ counted.synced r (was r served);
   drawn = λ r served. same_at old.drawn new.drawn r 0 s.drawn ∙ counted.drawn r (was r served);
-  flushed = λ r served. same_at old.accounts.flushed new.accounts.flushed r 0 s.flushed ∙ counted.flushed r (was r served);
-  evenly = counted.evenly;
-  stored = λ r. omega (arith, same_at old.stored new.stored r 0 s.stored, counted.stored r);
+  flushed = λ r f served. flushed_same old.accounts new.accounts s.keeps.numbers.flushed r f ∙ counted.flushed r f (was r served);
+  stored = λ e f has of below. counted.stored e f has of (omega (arith, below, same_at old.stored new.stored e.region 0 s.stored));
+  noted = s.keeps.history (map note_of (h.kept.durable ++ h.kept.staged)) counted.noted;
   newer = λ e has. absurd (none_in e (subst (λ (l : List Entry). Contains l e) none has));
   ours = λ e has. is_served e.region (elim has as (λ _. IsServed old e.region) [
     | inl staged ↦ absurd (none_in e (subst (λ (l : List Entry). Contains l e) none staged))
     | inr durable ↦ counted.ours e (inr durable)
   ]);
   given = λ e has. absurd (none_in e (subst (λ (l : List Entry). Contains l e) none has));
-  current = λ r. subst (λ (l : List Entry). IsHighest r l (get_or new.accounts.current r 0)) (sym none) (subst (IsHighest r []) (sym (empty r)) (highest_none r));
+  current = λ r f. subst (λ (l : List Entry). IsHighest r f l (number_of new.accounts.current r f)) (sym none) (subst (IsHighest r f []) (sym (empty r f)) (highest_none r f));
   logs = subst (λ (cs : List ClosedFile). AreCounted new cs (h.logs ++ record { number = file; entries = h.current } ∷ [])) (sym s.files)
       (counted_more new old.accounts.closed h.logs (record { file = file; highest = old.accounts.current }) (record { number = file; entries = h.current })
       (counted_logs old new old.accounts.closed h.logs is_served counted.logs) the_log);
@@ -75,13 +81,13 @@ counted_closed old new file h order s counted none = record {
     is_served : (r : ℕ) → IsServed old r → IsServed new r
     is_served r served = omega (arith, served, same_at old.next_store new.next_store r 0 s.next_store)
 
-    empty : (r : ℕ) → get_or new.accounts.current r 0 ≡ 0
-    empty r = ap (λ (l : List ℕ). get_or l r 0) s.current ∙ spread 65 r 0
+    empty : (r : ℕ) (f : List ℕ) → number_of new.accounts.current r f ≡ 0
+    empty r f = ap (λ (l : List FamilyMark). number_of l r f) s.current
 
     the_log : IsCountedLog new (record { file = file; highest = old.accounts.current }) (record { number = file; entries = h.current })
     the_log = record {
       number = refl;
-      highest = λ r. subst (λ (l : List Entry). IsHighest r l (get_or old.accounts.current r 0)) (written h none) (counted.current r);
+      highest = λ r f. subst (λ (l : List Entry). IsHighest r f l (number_of old.accounts.current r f)) (written h none) (counted.current r f);
       ours = λ e has. is_served e.region (counted.ours e (inl (Contains-append_left h.current h.kept.staged e has)));
       given = λ e has. counted.given e (Contains-append_left h.current h.kept.staged e has);
     }
@@ -91,8 +97,8 @@ counted_empty b h counted none empty = record {
   synced = counted.synced;
   drawn = counted.drawn;
   flushed = counted.flushed;
-  evenly = counted.evenly;
   stored = counted.stored;
+  noted = counted.noted;
   newer = λ e has. absurd (none_in e (subst (λ (l : List Entry). Contains l e) (written h none ∙ empty) has));
   ours = counted.ours;
   given = counted.given;
@@ -103,13 +109,13 @@ counted_empty b h counted none empty = record {
 }
 
 -- room says nothing of the history
-pub counted_room : (b : Books) (n : ℕ) (h : History) → IsCounted b h → IsCounted (record b { accounts = record b.accounts { room = n } }) h
-counted_room b n h counted = record {
+pub counted_room : (b : Books) (n : ℕ) (h : History) → ((notes : List Note) → HasNoted b.accounts notes → HasNoted (record b.accounts { room = n }) notes) → IsCounted b h → IsCounted (record b { accounts = record b.accounts { room = n } }) h
+counted_room b n h history counted = record {
   synced = counted.synced;
   drawn = counted.drawn;
   flushed = counted.flushed;
-  evenly = counted.evenly;
   stored = counted.stored;
+  noted = history (map note_of (h.kept.durable ++ h.kept.staged)) counted.noted;
   newer = counted.newer;
   ours = counted.ours;
   given = counted.given;

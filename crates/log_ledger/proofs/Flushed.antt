@@ -1,197 +1,214 @@
--- The numbers once a region is flushed, and once closed files are forgotten.
-use Rattle.std.proofs.Common.{◌≡◌, ◌↔◌, inl, inr, ℕ, ◌+◌, ◌<◌, ◌≤◌, List, [], ◌++◌, length, get_or, set, Contains, refl, sym, ap, ◌∙◌, subst, arith}
-use Rattle.std.proofs.lemmas.Bool.{cases_eq, cases_lt}
-use Rattle.std.proofs.lemmas.Bool.Decides.{nat_tests}
+-- The numbers once a family of a region is flushed, and once closed files are forgotten.
+use Rattle.std.proofs.Common.{◌≡◌, inl, inr, ℕ, ◌+◌, ◌<◌, ◌≤◌, Bool, cond, List, [], ◌∷◌, ◌++◌, filter, length, map, get_or, set, Contains, refl, sym, ap, ◌∙◌, subst, arith, append-nil}
+use Rattle.std.proofs.lemmas.Bool.{cases_eq, cases_lt, cases_Bool}
 use Rattle.std.proofs.lemmas.List.Elements.{Contains-append_left}
 use Rattle.log_model.specs.Entry.{Entry}
-use Rattle.recovery.specs.Kept.{Kept, lasts, flushed_to}
-use Rattle.recovery.specs.Change.{last_of}
-use Rattle.recovery.proofs.Rising.{last_is}
-use Rattle.recovery.proofs.Likes.{orderly_flushed}
-use Rattle.recovery.proofs.Lists.{none_in, flushed_here as is_here, flushed_there as is_there}
-use Rattle.seq_accounting.specs.Accounts.{ClosedFile, unflushed}
+use Rattle.log_model.specs.Recovered.{HasFamily}
+use Rattle.recovery_laws.specs.Kept.{Kept, lasts, flushed_to, AreApart}
+use Rattle.recovery_laws.proofs.Likes.{orderly_flushed}
+use Rattle.recovery_laws.proofs.Lists.{flush_cases, flushed_here as is_here, flushed_there as is_there}
+use Rattle.seq_accounting.specs.Marks.{FamilyMark, number_of}
+use Rattle.seq_accounting.specs.Accounts.{ClosedFile, flushed_at, unflushed}
 use Rattle.log_trucks.specs.Held.{Held}
+use Rattle.log_trucks.specs.Unflushed.{has_unflushed}
 use Rattle.log_ledger.specs.History.{ClosedLog, History, flushed_in, with_logs}
-use Rattle.log_ledger.specs.Books.{Books, IsServed, IsChain, AreInOrder}
-use Rattle.log_ledger.specs.Counted.{IsHighest, AreCounted, CarriesUnflushed, IsCounted, IsHighestKept, LogsLeft}
+use Rattle.log_ledger.specs.Books.{Books, IsServed, AreInOrder}
+use Rattle.log_ledger.specs.Counted.{IsHighest, AreCounted, CarriesUnflushed, IsUnflushedEntry, IsCounted, LogsLeft, note_of}
 use Rattle.log_ledger.proofs.Sets.{same_at, set_here, set_there, within}
-use Rattle.log_ledger.proofs.Chains.{truck_of}
-use Rattle.log_ledger.proofs.Logs.{counted_logs, counted_length, Sieved, sieved}
-use Rattle.log_ledger.proofs.Steps.{FlushedBy, ForgottenBy}
+use Rattle.log_ledger.proofs.Chains.{none_at, truck_of}
+use Rattle.log_ledger.proofs.Filters.{in_filter, to_filter}
+use Rattle.log_ledger.proofs.Families.{entry_above, above_entry}
+use Rattle.log_ledger.proofs.Logs.{counted_logs, counted_length, IsTested, Sieved, sieved}
+use Rattle.log_ledger.proofs.Steps.{FlushedBy, ForgottenBy, flushed_same, flushed_here, flushed_there}
 
--- an entry of the region that isn't flushed has a truck, and so a sequence id up to the last one staged
-pub unflushed_bound : (k : Kept) (r flushed drawn : ℕ) (chain : List Held) → IsChain flushed drawn chain → CarriesUnflushed k r chain
-    → (e : Entry) → Contains (k.durable ++ k.staged) e → e.region ≡ r → k.flushed r [] < e.number → e.number ≤ drawn
-unflushed_bound k r flushed drawn chain is carries e has region above =
-    let t = truck_of chain carries.entries carries.held e ((carries.each e).1 (has, region, above)) in
-    omega (arith, (is.numbers t.0 t.1).1, t.2)
+-- an entry of the region of which a family isn't flushed has a truck, and so a sequence id above the stored one, up to the last one staged
+pub unflushed_bound : (b : Books) (h : History) (r : ℕ) → AreInOrder b → CarriesUnflushed h.kept r (get_or b.chains r [])
+    → (e : Entry) → Contains (h.kept.durable ++ h.kept.staged) e → e.region ≡ r → IsUnflushedEntry h.kept e → (get_or b.stored r 0 < e.number) × (e.number ≤ get_or b.drawn r 0)
+unflushed_bound b h r order carries e has region above =
+    let t = truck_of (get_or b.chains r []) carries.entries carries.held e ((carries.each e).1 (has, region, above)) in
+    let is = (order.regions r).chain.numbers t.0 t.1 in
+    (omega (arith, is.0, t.2), omega (arith, is.1, t.2))
 
--- where all is flushed, no entry is above the flushed sequence id
-pub none_unflushed : (b : Books) (h : History) (r : ℕ) → AreInOrder b → IsServed b r → IsCounted b h → get_or b.drawn r 0 ≤ get_or b.accounts.flushed r 0
-    → (e : Entry) → Contains (h.kept.durable ++ h.kept.staged) e → e.region ≡ r → e.number ≤ h.kept.flushed r []
-none_unflushed b h r order served counted all e has region = elim (cases_lt (h.kept.flushed r []) e.number) as (λ _. e.number ≤ h.kept.flushed r []) [
-  | inl above ↦ omega (arith, unflushed_bound h.kept r (get_or b.accounts.flushed r 0) (get_or b.drawn r 0) (get_or b.chains r []) (order.regions r).chain (counted.chains r served) e has region above, all, counted.flushed r served)
-  | inr low ↦ low
+apart_filter : (p : Entry → Bool) (es : List Entry) → AreApart es → AreApart (filter p es)
+apart_filter p [] apart = tt
+apart_filter p (e ∷ es) apart = elim (cases_Bool (p e)) as (λ _. AreApart (filter p (e ∷ es))) [
+  | inl is ↦ subst AreApart (sym (ap (λ (b : Bool). cond b (e ∷ filter p es) (filter p es)) is)) ((λ d has same. apart.0 d (in_filter p es d has).0 same), apart_filter p es apart.1)
+  | inr not ↦ subst AreApart (sym (ap (λ (b : Bool). cond b (e ∷ filter p es) (filter p es)) not)) (apart_filter p es apart.1)
 ]
 
--- where not all is flushed, the last durable entry has the last sequence id
-pub highest_kept : (b : Books) (h : History) (r : ℕ) → AreInOrder b → IsServed b r → IsCounted b h → h.kept.staged ≡ [] → get_or b.accounts.flushed r 0 < get_or b.drawn r 0
-    → IsHighestKept h.kept r (get_or b.drawn r 0)
-highest_kept b h r order served counted none some = elim (last_is r (h.kept.first r) h.kept.durable) as (λ _. IsHighestKept h.kept r (get_or b.drawn r 0)) [
-  | inl e ↦ record { entry = e.0; member = e.1; region = e.2; number = e.3 ∙ sym last; above = above; bound = bound }
-  | inr first ↦ absurd (omega (arith, last, first, counted.orderly.from r, above))
-]
-  where
-    last : get_or b.drawn r 0 ≡ last_of r (h.kept.first r) h.kept.durable
-    last = counted.drawn r served ∙ ap (λ (l : List Entry). lasts (lasts h.kept.first h.kept.durable) l r) none
+module _ (old new : Books) (r : ℕ) (family : List ℕ) (h : History) (order : AreInOrder old) (s : FlushedBy old new r family) (served : IsServed old r) (counted : IsCounted old h) (none : h.kept.staged ≡ []) where
+  place : r < 65
+  place = omega (arith, within old.next_store r served, order.wide.next_store)
 
-    above : h.kept.flushed r [] < get_or b.drawn r 0
-    above = omega (arith, counted.flushed r served, some)
+  abbrev after : Kept
+  after = flushed_to h.kept r family (get_or old.drawn r 0)
 
-    bound : (e : Entry) → Contains h.kept.durable e → e.region ≡ r → e.number ≤ get_or b.drawn r 0
-    bound e has region = elim (cases_lt (h.kept.flushed r []) e.number) as (λ _. e.number ≤ get_or b.drawn r 0) [
-      | inl over ↦ unflushed_bound h.kept r (get_or b.accounts.flushed r 0) (get_or b.drawn r 0) (get_or b.chains r []) (order.regions r).chain (counted.chains r served) e
-          (Contains-append_left h.kept.durable h.kept.staged e has) region over
-      | inr under ↦ omega (arith, under, above)
-    ]
+  was : (q : ℕ) → IsServed new q → IsServed old q
+  was q ours = elim (cases_eq q r) as (λ _. IsServed old q) [
+    | inl here ↦ subst (IsServed old) (sym here) served
+    | inr other ↦ omega (arith, ours, set_there old.next_store new.next_store r (get_or old.next_store r 0 + 1) q 0 s.next_store other)
+  ]
 
-flushed_here : (k : Kept) (r n q : ℕ) (f : List ℕ) → q ≡ r → (flushed_to k r [] n).flushed q f ≡ n
-flushed_here k r n q f here = is_here k r [] n q f (sym here) (inl refl)
+  is_served : (q : ℕ) → IsServed old q → IsServed new q
+  is_served q ours = elim (cases_eq q r) as (λ _. IsServed new q) [
+    | inl here ↦ omega (arith, set_here old.next_store new.next_store r (get_or old.next_store r 0 + 1) q 0 s.next_store (omega (arith, place, order.wide.next_store)) here)
+    | inr other ↦ omega (arith, ours, set_there old.next_store new.next_store r (get_or old.next_store r 0 + 1) q 0 s.next_store other)
+  ]
 
-flushed_there : (k : Kept) (r n q : ℕ) (f : List ℕ) → (q ≡ r → ⊥) → (flushed_to k r [] n).flushed q f ≡ k.flushed q f
-flushed_there k r n q f other = is_there k r [] n q f (λ hit of. other (sym hit))
+  -- the accounts say what is kept
+  told : (q : ℕ) (f : List ℕ) → IsServed old q → flushed_at new.accounts q f ≡ after.flushed q f
+  told q f ours = elim (flush_cases r family q f) as (λ _. flushed_at new.accounts q f ≡ after.flushed q f) [
+    | inl hit ↦ flushed_here old.accounts new.accounts r family (get_or old.drawn r 0) s.flushed q f hit.0 hit.1 ∙ sym (is_here h.kept r family (get_or old.drawn r 0) q f hit.0 hit.1)
+    | inr other ↦ flushed_there old.accounts new.accounts r family (get_or old.drawn r 0) s.flushed q f other ∙ counted.flushed q f ours ∙ sym (is_there h.kept r family (get_or old.drawn r 0) q f other)
+  ]
 
--- the chain of a region that is flushed up to a sequence id that none of its entries is above
-carries_none : (k : Kept) (r n q : ℕ) → q ≡ r → ((e : Entry) → Contains (k.durable ++ k.staged) e → e.region ≡ r → e.number ≤ n) → CarriesUnflushed (flushed_to k r [] n) q []
-carries_none k r n q here low = record {
-  entries = [];
-  held = tt;
-  apart = tt;
-  each = λ e. ((λ has. absurd (none_in e has)), (λ is. absurd (omega (arith, low e is.0 (is.1 ∙ here), is.2, flushed_here k r n q [] here))));
-}
+  -- what is flushed of no family falls
+  raised : (q : ℕ) (f : List ℕ) → IsServed old q → h.kept.flushed q f ≤ after.flushed q f
+  raised q f ours = elim (flush_cases r family q f) as (λ _. h.kept.flushed q f ≤ after.flushed q f) [
+    | inl hit ↦ omega (arith, is_here h.kept r family (get_or old.drawn r 0) q f hit.0 hit.1, counted.flushed q f ours, (order.regions q).durable f, (order.regions q).synced, ap (λ (k : ℕ). get_or old.drawn k 0) hit.0)
+    | inr other ↦ omega (arith, is_there h.kept r family (get_or old.drawn r 0) q f other)
+  ]
 
-carries_other : (k : Kept) (r n q : ℕ) (chain : List Held) → (q ≡ r → ⊥) → CarriesUnflushed k q chain → CarriesUnflushed (flushed_to k r [] n) q chain
-carries_other k r n q chain other carries = record {
-  entries = carries.entries;
-  held = carries.held;
-  apart = carries.apart;
-  each = λ e. subst (λ (m : ℕ). Contains carries.entries e ↔ (Contains (k.durable ++ k.staged) e × (e.region ≡ q) × (m < e.number))) (sym (flushed_there k r n q [] other)) (carries.each e);
-}
+  serves : (e : Entry) → Contains (h.kept.durable ++ h.kept.staged) e → IsServed old e.region
+  serves e has = counted.ours e (inr (subst (λ (l : List Entry). Contains l e) (ap (λ (l : List Entry). h.kept.durable ++ l) none ∙ append-nil h.kept.durable) has))
 
-pub counted_flushed : (old new : Books) (r : ℕ) (h : History) → AreInOrder old → FlushedBy old new r → IsServed old r → get_or old.accounts.flushed r 0 < get_or old.drawn r 0
-    → IsCounted old h → h.kept.staged ≡ [] → IsCounted new (flushed_in h r (get_or old.drawn r 0))
-counted_flushed old new r h order s served some counted none = record {
-  synced = λ q ours. same_at old.synced new.synced q 0 s.synced ∙ counted.synced q (was q ours);
-  drawn = λ q ours. same_at old.drawn new.drawn q 0 s.drawn ∙ counted.drawn q (was q ours);
-  flushed = λ q ours. elim (cases_eq q r) as (λ _. get_or new.accounts.flushed q 0 ≡ (flushed_to h.kept r [] (get_or old.drawn r 0)).flushed q []) [
-    | inl here ↦ set_here old.accounts.flushed new.accounts.flushed r (get_or old.drawn r 0) q 0 s.flushed flushed_place here ∙ sym (flushed_here h.kept r (get_or old.drawn r 0) q [] here)
-    | inr other ↦ set_there old.accounts.flushed new.accounts.flushed r (get_or old.drawn r 0) q 0 s.flushed other ∙ counted.flushed q (was q ours) ∙ sym (flushed_there h.kept r (get_or old.drawn r 0) q [] other)
-  ];
-  evenly = λ q f. elim (cases_eq q r) as (λ _. (flushed_to h.kept r [] (get_or old.drawn r 0)).flushed q f ≡ (flushed_to h.kept r [] (get_or old.drawn r 0)).flushed q []) [
-    | inl here ↦ flushed_here h.kept r (get_or old.drawn r 0) q f here ∙ sym (flushed_here h.kept r (get_or old.drawn r 0) q [] here)
-    | inr other ↦ flushed_there h.kept r (get_or old.drawn r 0) q f other ∙ counted.evenly q f ∙ sym (flushed_there h.kept r (get_or old.drawn r 0) q [] other)
-  ];
-  stored = λ q. elim (cases_eq q r) as (λ _. get_or new.stored q 0 ≤ (flushed_to h.kept r [] (get_or old.drawn r 0)).flushed q []) [
-    | inl here ↦ omega (arith, set_here old.stored new.stored r (get_or old.drawn r 0) q 0 s.stored stored_place here, flushed_here h.kept r (get_or old.drawn r 0) q [] here)
-    | inr other ↦ omega (arith, set_there old.stored new.stored r (get_or old.drawn r 0) q 0 s.stored other, counted.stored q, flushed_there h.kept r (get_or old.drawn r 0) q [] other)
-  ];
-  newer = λ e has. omega (arith, same_at old.closed new.closed e.region 0 s.closed, counted.newer e has);
-  ours = λ e has. is_served e.region (counted.ours e has);
-  given = counted.given;
-  current = λ q. subst (IsHighest q (h.current ++ h.kept.staged)) (sym (same_at old.accounts.current new.accounts.current q 0 s.current)) (counted.current q);
-  logs = subst (λ (cs : List ClosedFile). AreCounted new cs h.logs) (sym s.files) (counted_logs old new old.accounts.closed h.logs is_served counted.logs);
-  chains = λ q ours. elim (cases_eq q r) as (λ _. CarriesUnflushed (flushed_to h.kept r [] (get_or old.drawn r 0)) q (get_or new.chains q [])) [
-    | inl here ↦ subst (CarriesUnflushed (flushed_to h.kept r [] (get_or old.drawn r 0)) q) (sym (set_here old.chains new.chains r [] q [] s.chains chain_place here)) (carries_none h.kept r (get_or old.drawn r 0) q here low)
-    | inr other ↦ subst (CarriesUnflushed (flushed_to h.kept r [] (get_or old.drawn r 0)) q) (sym (set_there old.chains new.chains r [] q [] s.chains other)) (carries_other h.kept r (get_or old.drawn r 0) q (get_or old.chains q []) other (counted.chains q (was q ours)))
-  ];
-  orderly = orderly_flushed h.kept r [] (get_or old.drawn r 0) counted.orderly (λ f of. omega (arith, counted.evenly r f, counted.flushed r served, some))
-      (omega (arith, counted.drawn r served ∙ ap (λ (l : List Entry). lasts (lasts h.kept.first h.kept.durable) l r) none));
-}
-  where
-    place : r < 65
-    place = omega (arith, within old.next_store r served, order.wide.next_store)
+  carries_left : CarriesUnflushed after r s.chains.now
+  carries_left = let carries = counted.chains r served in record {
+    entries = filter (has_unflushed new.accounts r) carries.entries;
+    held = s.chains.has carries.entries carries.held;
+    apart = apart_filter (has_unflushed new.accounts r) carries.entries carries.apart;
+    each = λ e. (forth e, back e);
+  }
+    where
+      forth : (e : Entry) → Contains (filter (has_unflushed new.accounts r) (counted.chains r served).entries) e → Contains (h.kept.durable ++ h.kept.staged) e × (e.region ≡ r) × IsUnflushedEntry after e
+      forth e has =
+          let found = in_filter (has_unflushed new.accounts r) (counted.chains r served).entries e has in
+          let old_one = ((counted.chains r served).each e).0 found.0 in
+          let f = entry_above new.accounts r e found.1 in
+          (old_one.0, old_one.1, (f.0, f.1, omega (arith, f.2, told r f.0 served, ap (λ (q : ℕ). after.flushed q f.0) old_one.1)))
 
-    flushed_place : r < length old.accounts.flushed
-    flushed_place = omega (arith, place, order.wide.flushed)
+      back : (e : Entry) → Contains (h.kept.durable ++ h.kept.staged) e × (e.region ≡ r) × IsUnflushedEntry after e → Contains (filter (has_unflushed new.accounts r) (counted.chains r served).entries) e
+      back e is =
+          let f = is.2 in
+          let at : after.flushed e.region f.0 ≡ after.flushed r f.0 = ap (λ (q : ℕ). after.flushed q f.0) is.1 in
+          to_filter (has_unflushed new.accounts r) (counted.chains r served).entries e
+          (((counted.chains r served).each e).1 (is.0, is.1, (f.0, f.1, omega (arith, f.2, raised e.region f.0 (serves e is.0)))))
+          (above_entry new.accounts r e f.0 f.1 (omega (arith, f.2, told r f.0 served, at)))
 
-    stored_place : r < length old.stored
-    stored_place = omega (arith, place, order.wide.stored)
+  carries_other : (q : ℕ) → (q ≡ r → ⊥) → (chain : List Held) → CarriesUnflushed h.kept q chain → CarriesUnflushed after q chain
+  carries_other q other chain carries = record {
+    entries = carries.entries;
+    held = carries.held;
+    apart = carries.apart;
+    each = λ e. (
+      λ has. let is = (carries.each e).0 has in
+          (is.0, is.1, (is.2.0, is.2.1, omega (arith, is.2.2, is_there h.kept r family (get_or old.drawn r 0) e.region is.2.0 (λ same for. other (sym is.1 ∙ sym same))))),
+      λ is. (carries.each e).1
+          (is.0, is.1, (is.2.0, is.2.1, omega (arith, is.2.2, is_there h.kept r family (get_or old.drawn r 0) e.region is.2.0 (λ same for. other (sym is.1 ∙ sym same))))),
+    );
+  }
 
-    store_place : r < length old.next_store
-    store_place = omega (arith, place, order.wide.next_store)
+  -- up to the stored sequence id all is flushed
+  stored : (e : Entry) (f : List ℕ) → Contains h.kept.durable e → HasFamily e f → e.number ≤ get_or new.stored e.region 0 → e.number ≤ after.flushed e.region f
+  stored e f has of below = by family refl
+    where
+      ours : IsServed old e.region
+      ours = counted.ours e (inr has)
 
-    chain_place : r < length old.chains
-    chain_place = omega (arith, place, order.wide.chains)
+      kept : get_or new.stored e.region 0 ≡ get_or old.stored e.region 0 → e.number ≤ after.flushed e.region f
+      kept same = omega (arith, counted.stored e f has of (omega (arith, below, same)), raised e.region f ours)
 
-    was : (q : ℕ) → IsServed new q → IsServed old q
-    was q ours = elim (cases_eq q r) as (λ _. IsServed old q) [
-      | inl here ↦ subst (IsServed old) (sym here) served
-      | inr other ↦ omega (arith, ours, set_there old.next_store new.next_store r (get_or old.next_store r 0 + 1) q 0 s.next_store other)
-    ]
+      by : (g : List ℕ) → family ≡ g → e.number ≤ after.flushed e.region f
+      by [] all = elim (cases_eq e.region r) as (λ _. e.number ≤ after.flushed e.region f) [
+        | inl here ↦ omega (
+          arith,
+          below,
+          set_here old.stored new.stored r (get_or old.drawn r 0) e.region 0 (s.stored_all all) (omega (arith, place, order.wide.stored)) here,
+          is_here h.kept r family (get_or old.drawn r 0) e.region f (sym here) (inl all),
+        )
+        | inr other ↦ kept (set_there old.stored new.stored r (get_or old.drawn r 0) e.region 0 (s.stored_all all) other)
+      ]
+      by (x ∷ xs) some = kept (same_at old.stored new.stored e.region 0 (s.stored_one (λ all. absurd (cc (some, all)))))
 
-    is_served : (q : ℕ) → IsServed old q → IsServed new q
-    is_served q ours = elim (cases_eq q r) as (λ _. IsServed new q) [
-      | inl here ↦ omega (arith, set_here old.next_store new.next_store r (get_or old.next_store r 0 + 1) q 0 s.next_store store_place here)
-      | inr other ↦ omega (arith, ours, set_there old.next_store new.next_store r (get_or old.next_store r 0 + 1) q 0 s.next_store other)
-    ]
-
-    low : (e : Entry) → Contains (h.kept.durable ++ h.kept.staged) e → e.region ≡ r → e.number ≤ get_or old.drawn r 0
-    low e has region = elim (cases_lt (h.kept.flushed r []) e.number) as (λ _. e.number ≤ get_or old.drawn r 0) [
-      | inl above ↦ unflushed_bound h.kept r (get_or old.accounts.flushed r 0) (get_or old.drawn r 0) (get_or old.chains r []) (order.regions r).chain (counted.chains r served) e has region above
-      | inr under ↦ omega (arith, under, counted.flushed r served, some)
-    ]
+  pub counted_flushed : IsCounted new (flushed_in h r family (get_or old.drawn r 0))
+  counted_flushed = record {
+    synced = λ q ours. same_at old.synced new.synced q 0 s.synced ∙ counted.synced q (was q ours);
+    drawn = λ q ours. same_at old.drawn new.drawn q 0 s.drawn ∙ counted.drawn q (was q ours);
+    flushed = λ q f ours. told q f (was q ours);
+    stored = stored;
+    noted = s.history (map note_of (h.kept.durable ++ h.kept.staged)) counted.noted;
+    newer = λ e has. omega (arith, same_at old.closed new.closed e.region 0 s.closed, counted.newer e has);
+    ours = λ e has. is_served e.region (counted.ours e has);
+    given = counted.given;
+    current = λ q f. subst (λ (l : List FamilyMark). IsHighest q f (h.current ++ h.kept.staged) (number_of l q f)) (sym (s.flushed.completed.current ∙ s.flushed.started.current)) (counted.current q f);
+    logs = subst (λ (cs : List ClosedFile). AreCounted new cs h.logs) (sym (s.flushed.completed.files.closed ∙ s.flushed.started.files.closed)) (counted_logs old new old.accounts.closed h.logs is_served counted.logs);
+    chains = λ q ours. elim (cases_eq q r) as (λ _. CarriesUnflushed after q (get_or new.chains q [])) [
+      | inl here ↦ subst (λ (k : ℕ). CarriesUnflushed after k (get_or new.chains k [])) (sym here)
+          (subst (CarriesUnflushed after r) (sym (set_here old.chains new.chains r s.chains.now r [] s.chains.set (omega (arith, place, order.wide.chains)) refl)) carries_left)
+      | inr other ↦ subst (CarriesUnflushed after q) (sym (set_there old.chains new.chains r s.chains.now q [] s.chains.set other)) (carries_other q other (get_or old.chains q []) (counted.chains q (was q ours)))
+    ];
+    orderly = orderly_flushed h.kept r family (get_or old.drawn r 0) counted.orderly (λ f of. omega (arith, counted.flushed r f served, (order.regions r).durable f, (order.regions r).synced))
+        (omega (arith, counted.drawn r served ∙ ap (λ (l : List Entry). lasts (lasts h.kept.first h.kept.durable) l r) none));
+  }
 
 -- a flush that found nothing
-pub counted_kept : (b : Books) (r : ℕ) (h : History) → AreInOrder b → IsServed b r → IsCounted b h → IsCounted (record b { stored = set b.stored r (get_or b.accounts.flushed r 0) }) h
-counted_kept b r h order served counted = record {
+pub counted_kept : (b : Books) (r : ℕ) (h : History) → AreInOrder b → IsServed b r → get_or b.chains r [] ≡ [] → IsCounted b h → IsCounted (record b { stored = set b.stored r (get_or b.synced r 0) }) h
+counted_kept b r h order served empty counted = record {
   synced = counted.synced;
   drawn = counted.drawn;
   flushed = counted.flushed;
-  evenly = counted.evenly;
-  stored = λ q. elim (cases_eq q r) as (λ _. get_or (set b.stored r (get_or b.accounts.flushed r 0)) q 0 ≤ h.kept.flushed q []) [
-    | inl here ↦ omega (arith, set_here b.stored (set b.stored r (get_or b.accounts.flushed r 0)) r (get_or b.accounts.flushed r 0) q 0 refl place here, counted.flushed r served, ap (λ (x : ℕ). h.kept.flushed x []) here)
-    | inr other ↦ omega (arith, set_there b.stored (set b.stored r (get_or b.accounts.flushed r 0)) r (get_or b.accounts.flushed r 0) q 0 refl other, counted.stored q)
+  stored = λ e f has of below. elim (cases_eq e.region r) as (λ _. e.number ≤ h.kept.flushed e.region f) [
+    | inl here ↦ elim (cases_lt (h.kept.flushed e.region f) e.number) as (λ _. e.number ≤ h.kept.flushed e.region f) [
+      | inl above ↦ absurd (none_above e f has of here above)
+      | inr low ↦ low
+    ]
+    | inr other ↦ counted.stored e f has of (omega (arith, below, set_there b.stored (set b.stored r (get_or b.synced r 0)) r (get_or b.synced r 0) e.region 0 refl other))
   ];
+  noted = counted.noted;
   newer = counted.newer;
   ours = counted.ours;
   given = counted.given;
   current = counted.current;
-  logs = counted_logs b (record b { stored = set b.stored r (get_or b.accounts.flushed r 0) }) b.accounts.closed h.logs (λ q ours. ours) counted.logs;
+  logs = counted_logs b (record b { stored = set b.stored r (get_or b.synced r 0) }) b.accounts.closed h.logs (λ q ours. ours) counted.logs;
   chains = counted.chains;
   orderly = counted.orderly;
 }
   where
-    place : r < length b.stored
-    place = omega (arith, within b.next_store r served, order.wide.next_store, order.wide.stored)
+    none_above : (e : Entry) (f : List ℕ) → Contains h.kept.durable e → HasFamily e f → e.region ≡ r → h.kept.flushed e.region f < e.number → ⊥
+    none_above e f has of here above =
+        let carries = counted.chains r served in
+        let there = (carries.each e).1 (Contains-append_left h.kept.durable h.kept.staged e has, here, (f, of, above)) in
+        let t = truck_of (get_or b.chains r []) carries.entries carries.held e there in
+        none_at t.0 (subst (λ (l : List Held). Contains l t.0) empty t.1)
 
-pub counted_forgotten : (old new : Books) (h : History) → AreInOrder old → ForgottenBy old new → IsCounted old h
+pub counted_forgotten : (old new : Books) (h : History) → ForgottenBy old new → ((c : ClosedFile) → Contains old.accounts.closed c → IsTested old c) → IsCounted old h
     → (left : List ClosedLog) × LogsLeft h left × (length new.accounts.closed ≡ length left) × IsCounted new (with_logs h left)
-counted_forgotten old new h order s counted = (
+counted_forgotten old new h s tested counted = (
   found.left,
   found.those,
-  ap length s.files ∙ counted_length old (unflushed old.accounts.flushed old.accounts.closed) found.left found.counted,
+  ap length s.files ∙ counted_length old (unflushed old.accounts) found.left found.counted,
   record {
-    synced = λ r served. same_at old.synced new.synced r 0 s.same.synced ∙ counted.synced r (was r served);
-    drawn = λ r served. same_at old.drawn new.drawn r 0 s.same.drawn ∙ counted.drawn r (was r served);
-    flushed = λ r served. same_at old.accounts.flushed new.accounts.flushed r 0 s.same.flushed ∙ counted.flushed r (was r served);
-    evenly = counted.evenly;
-    stored = λ r. omega (arith, same_at old.stored new.stored r 0 s.same.stored, counted.stored r);
-    newer = λ e has. omega (arith, same_at old.closed new.closed e.region 0 s.same.closed, counted.newer e has);
+    synced = λ r served. same_at old.synced new.synced r 0 s.synced ∙ counted.synced r (was r served);
+    drawn = λ r served. same_at old.drawn new.drawn r 0 s.drawn ∙ counted.drawn r (was r served);
+    flushed = λ r f served. flushed_same old.accounts new.accounts s.keeps.numbers.flushed r f ∙ counted.flushed r f (was r served);
+    stored = λ e f has of below. counted.stored e f has of (omega (arith, below, same_at old.stored new.stored e.region 0 s.stored));
+    noted = s.keeps.history (map note_of (h.kept.durable ++ h.kept.staged)) counted.noted;
+    newer = λ e has. omega (arith, same_at old.closed new.closed e.region 0 s.closed, counted.newer e has);
     ours = λ e has. is_served e.region (counted.ours e has);
     given = counted.given;
-    current = λ r. subst (IsHighest r (h.current ++ h.kept.staged)) (sym (same_at old.accounts.current new.accounts.current r 0 s.current)) (counted.current r);
+    current = λ r f. subst (λ (l : List FamilyMark). IsHighest r f (h.current ++ h.kept.staged) (number_of l r f)) (sym s.current) (counted.current r f);
     logs = subst (λ (cs : List ClosedFile). AreCounted new cs found.left) (sym s.files)
-        (counted_logs old new (unflushed old.accounts.flushed old.accounts.closed) found.left is_served found.counted);
+        (counted_logs old new (unflushed old.accounts) found.left is_served found.counted);
     chains = λ r served. subst (CarriesUnflushed h.kept r) (sym (same_at old.chains new.chains r [] s.chains)) (counted.chains r (was r served));
     orderly = counted.orderly;
   },
 )
   where
     found : Sieved old h.kept.flushed old.accounts.closed h.logs
-    found = sieved old h.kept.flushed order.wide.next_store counted.flushed counted.evenly old.accounts.closed h.logs counted.logs
+    found = sieved old h.kept.flushed counted.flushed old.accounts.closed h.logs tested counted.logs
 
     was : (r : ℕ) → IsServed new r → IsServed old r
-    was r served = omega (arith, served, same_at old.next_store new.next_store r 0 s.same.next_store)
+    was r served = omega (arith, served, same_at old.next_store new.next_store r 0 s.next_store)
 
     is_served : (r : ℕ) → IsServed old r → IsServed new r
-    is_served r served = omega (arith, served, same_at old.next_store new.next_store r 0 s.same.next_store)
+    is_served r served = omega (arith, served, same_at old.next_store new.next_store r 0 s.next_store)

@@ -1,16 +1,15 @@
 -- Closed files and the logs that they are.
-use Rattle.std.proofs.Common.{◌≡◌, ◌↔◌, inl, inr, ℕ, ◌<◌, Bool, true, false, not, cond, List, [], ◌∷◌, ◌++◌, length, get_or, Contains, refl, sym, ap, ◌∙◌, subst, arith}
-use Rattle.std.specs.Prelude.{filter, Option, Some, None, MatchOption}
+use Rattle.std.proofs.Common.{◌≡◌, ◌↔◌, inl, inr, ℕ, Bool, true, false, not, cond, List, [], ◌∷◌, ◌++◌, length, Contains, refl, sym, ap, ◌∙◌, subst, arith}
+use Rattle.std.specs.Prelude.{filter, IsTrue, Option, Some, None, MatchOption}
 use Rattle.log_model.specs.Recovered.{IsWhollyFlushed}
-use Rattle.seq_accounting.specs.Accounts.{ClosedFile, AreLower, are_lower, unflushed}
-use Rattle.seq_accounting.proofs.LowerLaws.{lower_of_test, test_of_lower}
+use Rattle.seq_accounting.specs.Marks.{number_of}
+use Rattle.seq_accounting.specs.Accounts.{ClosedFile, AreLower, are_lower, flushed_at}
 use Rattle.log_archive.specs.First.{NoneToGo, IsFirstToGo}
 use Rattle.log_ledger.specs.History.{History, ClosedLog}
 use Rattle.log_ledger.specs.Books.{Books, IsServed}
 use Rattle.log_ledger.specs.Counted.{IsCountedLog, AreCounted, IsCounted, NoneMayGoAbove, GoesNext}
 use Rattle.log_ledger.proofs.Chains.{none_at, at_first, at_later, at_either}
 use Rattle.log_ledger.proofs.Highest.{highest_lower}
-use Rattle.log_ledger.proofs.Sets.{within}
 
 -- what is counted of closed logs asks only which regions are served
 pub counted_logs : (a b : Books) (cs : List ClosedFile) (ls : List ClosedLog) → ((r : ℕ) → IsServed a r → IsServed b r) → AreCounted a cs ls → AreCounted b cs ls
@@ -53,35 +52,40 @@ file_of b (c ∷ cs) (k ∷ ls) are l h = elim (at_either k ls l h) [
 ]
 
 -- its numbers are at or below the flushed ones exactly if its entries are wholly flushed
-pub lower_flushed : (b : Books) (c : ClosedFile) (l : ClosedLog) (flushed : ℕ → List ℕ → ℕ) → IsCountedLog b c l → length b.next_store ≡ 65 → ((r : ℕ) → IsServed b r → get_or b.accounts.flushed r 0 ≡ flushed r [])
-    → ((r : ℕ) (f : List ℕ) → flushed r f ≡ flushed r []) → AreLower c.highest b.accounts.flushed → IsWhollyFlushed flushed l.entries
-lower_flushed b c l flushed is wide same evenly lower e f has of =
-    let served = is.ours e has in
-    let place = within b.next_store e.region served in
-    omega (arith, (is.highest e.region).bound e.number (e, has, refl, refl), lower e.region (omega (arith, place, wide)), same e.region served, evenly e.region f)
+pub lower_flushed : (b : Books) (c : ClosedFile) (l : ClosedLog) (flushed : ℕ → List ℕ → ℕ) → IsCountedLog b c l → ((r : ℕ) (f : List ℕ) → IsServed b r → flushed_at b.accounts r f ≡ flushed r f)
+    → AreLower b.accounts c.highest → IsWhollyFlushed flushed l.entries
+lower_flushed b c l flushed is same lower e f has of =
+    omega (arith, (is.highest e.region f).bound e.number (e, has, refl, of, refl), lower e.region f, same e.region f (is.ours e has))
 
-pub flushed_lower : (b : Books) (c : ClosedFile) (l : ClosedLog) (flushed : ℕ → List ℕ → ℕ) → IsCountedLog b c l → ((r : ℕ) → IsServed b r → get_or b.accounts.flushed r 0 ≡ flushed r [])
-    → ((r : ℕ) (f : List ℕ) → flushed r f ≡ flushed r []) → IsWhollyFlushed flushed l.entries → AreLower c.highest b.accounts.flushed
-flushed_lower b c l flushed is same evenly whole r region = highest_lower r (get_or c.highest r 0) (get_or b.accounts.flushed r 0) l.entries (is.highest r)
-    (λ e has of. let served : IsServed b r = subst (IsServed b) of (is.ours e has) in let f = is.given e has in omega (arith, whole e f.0 has f.1, evenly e.region f.0, ap (λ (q : ℕ). flushed q []) of, same r served))
+pub flushed_lower : (b : Books) (c : ClosedFile) (l : ClosedLog) (flushed : ℕ → List ℕ → ℕ) → IsCountedLog b c l → ((r : ℕ) (f : List ℕ) → IsServed b r → flushed_at b.accounts r f ≡ flushed r f)
+    → IsWhollyFlushed flushed l.entries → AreLower b.accounts c.highest
+flushed_lower b c l flushed is same whole r f = highest_lower r f (number_of c.highest r f) (flushed_at b.accounts r f) l.entries (is.highest r f)
+    (λ e has of in_family. let served : IsServed b r = subst (IsServed b) of (is.ours e has) in omega (arith, whole e f has in_family, ap (λ (q : ℕ). flushed q f) of, same r f served))
+
+abbrev pub is_left_file : Books → ClosedFile → Bool
+is_left_file b c = not (are_lower b.accounts.whole b.accounts.flushed c.highest)
 
 -- the logs of the files of which not all is flushed
 pub record Sieved (b : Books) (flushed : ℕ → List ℕ → ℕ) (cs : List ClosedFile) (ls : List ClosedLog) : Type 0 where
   pub left : List ClosedLog
-  pub counted : AreCounted b (unflushed b.accounts.flushed cs) left
+  pub counted : AreCounted b (filter (is_left_file b) cs) left
   pub those : (l : ClosedLog) → Contains left l ↔ (Contains ls l × (IsWhollyFlushed flushed l.entries → ⊥))
 
-module _ (b : Books) (flushed : ℕ → List ℕ → ℕ) (wide : length b.next_store ≡ 65) (same : (r : ℕ) → IsServed b r → get_or b.accounts.flushed r 0 ≡ flushed r []) (evenly : (r : ℕ) (f : List ℕ) → flushed r f ≡ flushed r []) where
+-- the test of a file says whether all of it is flushed
+abbrev pub IsTested : Books → ClosedFile → Type 0
+IsTested b c = IsTrue (are_lower b.accounts.whole b.accounts.flushed c.highest) ↔ AreLower b.accounts c.highest
+
+module _ (b : Books) (flushed : ℕ → List ℕ → ℕ) (same : (r : ℕ) (f : List ℕ) → IsServed b r → flushed_at b.accounts r f ≡ flushed r f) where
   none_left : Sieved b flushed [] []
   none_left = record { left = []; counted = tt; those = λ l. (λ has. absurd (none_at l has), λ has. absurd (none_at l has.0)) }
 
   -- the first file goes or stays
-  one_more : (c : ClosedFile) (l : ClosedLog) (cs : List ClosedFile) (ls : List ClosedLog) → IsCountedLog b c l → Sieved b flushed cs ls
-      → (t : Bool) → are_lower 65 c.highest b.accounts.flushed ≡ t → Sieved b flushed (c ∷ cs) (l ∷ ls)
-  one_more c l cs ls is rest true lower =
-      let whole = lower_flushed b c l flushed is wide same evenly (lower_of_test c.highest b.accounts.flushed lower) in record {
+  one_more : (c : ClosedFile) (l : ClosedLog) (cs : List ClosedFile) (ls : List ClosedLog) → IsCountedLog b c l → IsTested b c → Sieved b flushed cs ls
+      → (t : Bool) → are_lower b.accounts.whole b.accounts.flushed c.highest ≡ t → Sieved b flushed (c ∷ cs) (l ∷ ls)
+  one_more c l cs ls is tested rest true lower =
+      let whole = lower_flushed b c l flushed is same (tested.0 lower) in record {
         left = rest.left;
-        counted = subst (λ (t : Bool). AreCounted b (cond (not t) (c ∷ unflushed b.accounts.flushed cs) (unflushed b.accounts.flushed cs)) rest.left) (sym lower) rest.counted;
+        counted = subst (λ (t : Bool). AreCounted b (cond (not t) (c ∷ filter (is_left_file b) cs) (filter (is_left_file b) cs)) rest.left) (sym lower) rest.counted;
         those = λ k. (
           λ has. let r = (rest.those k).0 has in (at_later l ls k r.0, r.1),
           λ has. elim (at_either l ls k has.0) as (λ _. Contains rest.left k) [
@@ -90,10 +94,10 @@ module _ (b : Books) (flushed : ℕ → List ℕ → ℕ) (wide : length b.next_
           ],
         );
       }
-  one_more c l cs ls is rest false lower =
-      let stays : IsWhollyFlushed flushed l.entries → ⊥ = λ whole. absurd (cc (sym lower ∙ test_of_lower c.highest b.accounts.flushed (flushed_lower b c l flushed is same evenly whole))) in record {
+  one_more c l cs ls is tested rest false lower =
+      let stays : IsWhollyFlushed flushed l.entries → ⊥ = λ whole. absurd (cc (sym lower ∙ tested.1 (flushed_lower b c l flushed is same whole))) in record {
         left = l ∷ rest.left;
-        counted = subst (λ (t : Bool). AreCounted b (cond (not t) (c ∷ unflushed b.accounts.flushed cs) (unflushed b.accounts.flushed cs)) (l ∷ rest.left)) (sym lower) (is, rest.counted);
+        counted = subst (λ (t : Bool). AreCounted b (cond (not t) (c ∷ filter (is_left_file b) cs) (filter (is_left_file b) cs)) (l ∷ rest.left)) (sym lower) (is, rest.counted);
         those = λ k. (
           λ has. elim (at_either l rest.left k has) as (λ _. Contains (l ∷ ls) k × (IsWhollyFlushed flushed k.entries → ⊥)) [
             | inl first ↦ subst (λ (x : ClosedLog). Contains (l ∷ ls) x × (IsWhollyFlushed flushed x.entries → ⊥)) first (at_first l ls, λ whole. absurd (stays whole))
@@ -106,26 +110,26 @@ module _ (b : Books) (flushed : ℕ → List ℕ → ℕ) (wide : length b.next_
         );
       }
 
-  pub sieved : (cs : List ClosedFile) (ls : List ClosedLog) → AreCounted b cs ls → Sieved b flushed cs ls
-  sieved [] [] are = none_left
-  sieved [] (l ∷ ls) are = absurd are
-  sieved (c ∷ cs) [] are = absurd are
-  sieved (c ∷ cs) (l ∷ ls) are = one_more c l cs ls are.0 (sieved cs ls are.1) (are_lower 65 c.highest b.accounts.flushed) refl
+  pub sieved : (cs : List ClosedFile) (ls : List ClosedLog) → ((c : ClosedFile) → Contains cs c → IsTested b c) → AreCounted b cs ls → Sieved b flushed cs ls
+  sieved [] [] tested are = none_left
+  sieved [] (l ∷ ls) tested are = absurd are
+  sieved (c ∷ cs) [] tested are = absurd are
+  sieved (c ∷ cs) (l ∷ ls) tested are = one_more c l cs ls are.0 (tested c (at_first c cs)) (sieved cs ls (λ d has. tested d (at_later c cs d has)) are.1) (are_lower b.accounts.whole b.accounts.flushed c.highest) refl
 
 -- which log may go next
-pub first_counted : (b : Books) (h : History) (above : ℕ) (o : Option ℕ) → length b.next_store ≡ 65 → IsCounted b h
+pub first_counted : (b : Books) (h : History) (above : ℕ) (o : Option ℕ) → IsCounted b h
     → MatchOption o (NoneToGo b.accounts above) (λ file. IsFirstToGo b.accounts above file) → MatchOption o (NoneMayGoAbove h above) (GoesNext h above)
-first_counted b h above None wide counted none = λ l has later whole.
+first_counted b h above None counted none = λ l has later whole.
     let f = file_of b b.accounts.closed h.logs counted.logs l has in
-    none f.0 f.1 (omega (arith, later, f.2.number)) (flushed_lower b f.0 l h.kept.flushed f.2 counted.flushed counted.evenly whole)
-first_counted b h above (Some file) wide counted first =
+    none f.0 f.1 (omega (arith, later, f.2.number)) (flushed_lower b f.0 l h.kept.flushed f.2 counted.flushed whole)
+first_counted b h above (Some file) counted first =
     let l = log_of b b.accounts.closed h.logs counted.logs first.which first.there in record {
       log = l.0;
       member = l.1;
       number = sym l.2.number ∙ first.named;
-      flushed = lower_flushed b first.which l.0 h.kept.flushed l.2 wide counted.flushed counted.evenly first.lower;
+      flushed = lower_flushed b first.which l.0 h.kept.flushed l.2 counted.flushed first.lower;
       least = λ k has later whole.
           let f = file_of b b.accounts.closed h.logs counted.logs k has in
-          let low = first.least f.0 f.1 (omega (arith, later, f.2.number)) (flushed_lower b f.0 k h.kept.flushed f.2 counted.flushed counted.evenly whole) in
+          let low = first.least f.0 f.1 (omega (arith, later, f.2.number)) (flushed_lower b f.0 k h.kept.flushed f.2 counted.flushed whole) in
           omega (arith, low, f.2.number);
     }

@@ -1,23 +1,27 @@
 -- The numbers once a truck is staged.
-use Rattle.std.proofs.Common.{◌≡◌, ◌⊎◌, inl, inr, ℕ, ◌<◌, List, [], ◌∷◌, ◌++◌, length, get_or, Contains, sym, ap, ◌∙◌, subst, arith, append_assoc}
-use Rattle.std.proofs.lemmas.Bool.{cases_eq}
+use Rattle.std.proofs.Common.{◌≡◌, ◌⊎◌, inl, inr, ℕ, ◌<◌, Bool, cond, ◌==◌, ◌&&◌, List, [], ◌∷◌, ◌++◌, map, length, get_or, Contains, sym, ap, ◌∙◌, subst, arith, append_assoc}
+use Rattle.std.proofs.lemmas.Bool.{cases_eq, cases_Bool, eq-eqb, eqb-true}
+use Rattle.std.proofs.lemmas.List.{map-append}
 use Rattle.std.proofs.lemmas.List.Elements.{Contains-append_left, Contains-push, Contains-push_cases}
-use Rattle.log_model.specs.Entry.{Entry, IsEntry, entry_frame}
-use Rattle.recovery.specs.Kept.{Kept, lasts, with_staged}
-use Rattle.recovery.proofs.Rising.{lasts_here, lasts_other}
-use Rattle.recovery.proofs.Likes.{orderly_staged}
+use Rattle.log_model.specs.Entry.{Entry}
+use Rattle.recovery_laws.specs.Kept.{Kept, lasts, with_staged}
+use Rattle.recovery_laws.proofs.Rising.{lasts_here, lasts_other}
+use Rattle.recovery_laws.proofs.Likes.{orderly_staged}
 use Rattle.log_model.specs.Recovered.{HasFamily}
-use Rattle.recovery.proofs.Lists.{first_or_later, is_first, is_later, some_family}
+use Rattle.recovery_laws.proofs.Lists.{first_or_later, is_first, is_later, some_family}
+use Rattle.seq_accounting.specs.Marks.{number_of, has_family}
 use Rattle.seq_accounting.specs.Accounts.{ClosedFile}
-use Rattle.log_trucks.specs.Held.{Held, Haul, held_of, IsHeld}
+use Rattle.seq_accounting.specs.Noted.{HasNoted}
+use Rattle.log_trucks.specs.Held.{Held, Haul, Carries, noted_of, IsHeld}
 use Rattle.log_ledger.specs.History.{History, staged_in}
 use Rattle.log_ledger.specs.Books.{Books, IsServed, AreInOrder}
-use Rattle.log_ledger.specs.Counted.{IsHighest, AreCounted, CarriesUnflushed, IsCounted}
+use Rattle.log_ledger.specs.Counted.{IsHighest, AreCounted, CarriesUnflushed, IsUnflushedEntry, IsCounted, note_of}
 use Rattle.log_ledger.proofs.Sets.{same_at, set_here, set_there, within}
 use Rattle.log_ledger.proofs.Chains.{truck_of}
 use Rattle.log_ledger.proofs.Highest.{highest_here, highest_other}
 use Rattle.log_ledger.proofs.Logs.{counted_logs}
-use Rattle.log_ledger.proofs.Steps.{StagedBy}
+use Rattle.log_ledger.proofs.Families.{and_both, family_noted, noted_family, noted_as}
+use Rattle.log_ledger.proofs.Steps.{StagedBy, flushed_same}
 
 -- one entry more, behind those that were current or staged
 joined : (h : History) (e : Entry) → (h.current ++ h.kept.staged) ++ e ∷ [] ≡ h.current ++ (h.kept.staged ++ e ∷ [])
@@ -28,7 +32,7 @@ was_or_is h e d has = Contains-push_cases (h.current ++ h.kept.staged) e d (subs
 
 -- a truck in front of a chain whose entries have lower sequence ids
 pub carries_more : (k : Kept) (e : Entry) (r : ℕ) (x : Held) (chain : List Held) → CarriesUnflushed k r chain → e.region ≡ r → IsHeld x e
-    → ((y : Held) → Contains chain y → y.number < e.number) → k.flushed r [] < e.number → CarriesUnflushed (with_staged k e) r (x ∷ chain)
+    → ((y : Held) → Contains chain y → y.number < e.number) → IsUnflushedEntry k e → CarriesUnflushed (with_staged k e) r (x ∷ chain)
 carries_more k e r x chain carries here held below above = record {
   entries = e ∷ carries.entries;
   held = (held, carries.held);
@@ -39,15 +43,15 @@ carries_more k e r x chain carries here held below above = record {
     all : (k.durable ++ k.staged) ++ e ∷ [] ≡ k.durable ++ (k.staged ++ e ∷ [])
     all = append_assoc k.durable k.staged (e ∷ [])
 
-    forth : (d : Entry) → Contains (e ∷ carries.entries) d → Contains (k.durable ++ (k.staged ++ e ∷ [])) d × (d.region ≡ r) × (k.flushed r [] < d.number)
-    forth d has = elim (first_or_later e carries.entries d has) as (λ _. Contains (k.durable ++ (k.staged ++ e ∷ [])) d × (d.region ≡ r) × (k.flushed r [] < d.number)) [
-      | inl is ↦ subst (λ (y : Entry). Contains (k.durable ++ (k.staged ++ e ∷ [])) y × (y.region ≡ r) × (k.flushed r [] < y.number)) is
+    forth : (d : Entry) → Contains (e ∷ carries.entries) d → Contains (k.durable ++ (k.staged ++ e ∷ [])) d × (d.region ≡ r) × IsUnflushedEntry k d
+    forth d has = elim (first_or_later e carries.entries d has) as (λ _. Contains (k.durable ++ (k.staged ++ e ∷ [])) d × (d.region ≡ r) × IsUnflushedEntry k d) [
+      | inl is ↦ subst (λ (y : Entry). Contains (k.durable ++ (k.staged ++ e ∷ [])) y × (y.region ≡ r) × IsUnflushedEntry k y) is
           (subst (λ (l : List Entry). Contains l e) all (Contains-push (k.durable ++ k.staged) e), here, above)
       | inr later ↦ (let old = (carries.each d).0 later in
           (subst (λ (l : List Entry). Contains l d) all (Contains-append_left (k.durable ++ k.staged) (e ∷ []) d old.0), old.1, old.2))
     ]
 
-    back : (d : Entry) → Contains (k.durable ++ (k.staged ++ e ∷ [])) d × (d.region ≡ r) × (k.flushed r [] < d.number) → Contains (e ∷ carries.entries) d
+    back : (d : Entry) → Contains (k.durable ++ (k.staged ++ e ∷ [])) d × (d.region ≡ r) × IsUnflushedEntry k d → Contains (e ∷ carries.entries) d
     back d is = elim (Contains-push_cases (k.durable ++ k.staged) e d (subst (λ (l : List Entry). Contains l d) (sym all) is.0)) as (λ _. Contains (e ∷ carries.entries) d) [
       | inl old ↦ is_later e carries.entries d ((carries.each d).1 (old, is.1, is.2))
       | inr new ↦ subst (λ (y : Entry). Contains (e ∷ carries.entries) y) new (is_first e carries.entries)
@@ -60,18 +64,18 @@ carries_on k e r chain carries other = record { entries = carries.entries; held 
     all : (k.durable ++ k.staged) ++ e ∷ [] ≡ k.durable ++ (k.staged ++ e ∷ [])
     all = append_assoc k.durable k.staged (e ∷ [])
 
-    forth : (d : Entry) → Contains carries.entries d → Contains (k.durable ++ (k.staged ++ e ∷ [])) d × (d.region ≡ r) × (k.flushed r [] < d.number)
+    forth : (d : Entry) → Contains carries.entries d → Contains (k.durable ++ (k.staged ++ e ∷ [])) d × (d.region ≡ r) × IsUnflushedEntry k d
     forth d has = let old = (carries.each d).0 has in (subst (λ (l : List Entry). Contains l d) all (Contains-append_left (k.durable ++ k.staged) (e ∷ []) d old.0), old.1, old.2)
 
-    back : (d : Entry) → Contains (k.durable ++ (k.staged ++ e ∷ [])) d × (d.region ≡ r) × (k.flushed r [] < d.number) → Contains carries.entries d
+    back : (d : Entry) → Contains (k.durable ++ (k.staged ++ e ∷ [])) d × (d.region ≡ r) × IsUnflushedEntry k d → Contains carries.entries d
     back d is = elim (Contains-push_cases (k.durable ++ k.staged) e d (subst (λ (l : List Entry). Contains l d) (sym all) is.0)) as (λ _. Contains carries.entries d) [
       | inl old ↦ (carries.each d).1 (old, is.1, is.2)
       | inr new ↦ absurd (other (ap (λ (y : Entry). y.region) new ∙ is.1))
     ]
 
 pub counted_staged : (old new : Books) (t : Haul) (h : History) (e : Entry) → AreInOrder old → StagedBy old new t → IsServed old t.region → get_or old.drawn t.region 0 < t.number
-    → IsCounted old h → IsEntry e → t.bytes ≡ entry_frame e → e.region ≡ t.region → e.number ≡ t.number → IsCounted new (staged_in h e)
-counted_staged old new t h e order s ours above counted is bytes region number = record {
+    → IsCounted old h → Carries t e → IsCounted new (staged_in h e)
+counted_staged old new t h e order s ours above counted carries_it = let is = carries_it.entry in let bytes = carries_it.bytes in let region = carries_it.region in let number = carries_it.number in record {
   synced = λ r served. same_at old.synced new.synced r 0 s.synced ∙ counted.synced r (was r served);
   drawn = λ r served. elim (cases_eq r t.region) as (λ _. get_or new.drawn r 0 ≡ lasts (lasts h.kept.first h.kept.durable) (h.kept.staged ++ e ∷ []) r) [
     | inl here ↦ set_here old.drawn new.drawn t.region t.number r 0 s.drawn drawn_place here ∙ sym number
@@ -79,9 +83,10 @@ counted_staged old new t h e order s ours above counted is bytes region number =
     | inr other ↦ set_there old.drawn new.drawn t.region t.number r 0 s.drawn other ∙ counted.drawn r (was r served)
         ∙ sym (lasts_other (lasts h.kept.first h.kept.durable) h.kept.staged e r (λ same. other (sym same ∙ region)))
   ];
-  flushed = λ r served. same_at old.accounts.flushed new.accounts.flushed r 0 s.flushed ∙ counted.flushed r (was r served);
-  evenly = counted.evenly;
-  stored = λ r. omega (arith, same_at old.stored new.stored r 0 s.stored, counted.stored r);
+  flushed = λ r f served. flushed_same old.accounts new.accounts s.noted.flushed r f ∙ counted.flushed r f (was r served);
+  stored = λ d f has of below. counted.stored d f has of (omega (arith, below, same_at old.stored new.stored d.region 0 s.stored));
+  noted = subst (HasNoted new.accounts) (sym (map-append note_of (h.kept.durable ++ h.kept.staged) (e ∷ [])) ∙ ap (map note_of) (append_assoc h.kept.durable h.kept.staged (e ∷ [])))
+      (s.history (map note_of (h.kept.durable ++ h.kept.staged)) (note_of e) (noted_as t e carries_it) counted.noted);
   newer = λ d has. elim (was_or_is h e d has) as (λ _. get_or new.closed d.region 0 < d.number) [
     | inl before ↦ omega (arith, same_at old.closed new.closed d.region 0 s.closed, counted.newer d before)
     | inr same ↦ newest d same
@@ -97,20 +102,16 @@ counted_staged old new t h e order s ours above counted is bytes region number =
     | inl before ↦ counted.given d before
     | inr same ↦ subst (λ (y : Entry). (f : List ℕ) × HasFamily y f) same (some_family e is.batch.given)
   ];
-  current = λ r. subst (λ (l : List Entry). IsHighest r l (get_or new.accounts.current r 0)) (joined h e) (elim (cases_eq r t.region) as (λ _. IsHighest r ((h.current ++ h.kept.staged) ++ e ∷ []) (get_or new.accounts.current r 0)) [
-    | inl here ↦ subst (IsHighest r ((h.current ++ h.kept.staged) ++ e ∷ [])) (number ∙ sym (set_here old.accounts.current new.accounts.current t.region t.number r 0 s.current current_place here))
-        (highest_here r (get_or old.accounts.current r 0) (h.current ++ h.kept.staged) e (counted.current r) (region ∙ sym here) (below r here))
-    | inr other ↦ subst (IsHighest r ((h.current ++ h.kept.staged) ++ e ∷ [])) (sym (set_there old.accounts.current new.accounts.current t.region t.number r 0 s.current other))
-        (highest_other r (get_or old.accounts.current r 0) (h.current ++ h.kept.staged) e (counted.current r) (λ same. other (sym same ∙ region)))
-  ]);
-  logs = subst (λ (cs : List ClosedFile). AreCounted new cs h.logs) (sym s.files) (counted_logs old new old.accounts.closed h.logs is_served counted.logs);
+  current = λ r f. subst (λ (l : List Entry). IsHighest r f l (number_of new.accounts.current r f)) (joined h e) (current_more r f);
+  logs = subst (λ (cs : List ClosedFile). AreCounted new cs h.logs) (sym s.noted.files.closed) (counted_logs old new old.accounts.closed h.logs is_served counted.logs);
   chains = λ r served. elim (cases_eq r t.region) as (λ _. CarriesUnflushed (with_staged h.kept e) r (get_or new.chains r [])) [
-    | inl here ↦ subst (CarriesUnflushed (with_staged h.kept e) r) (sym (set_here old.chains new.chains t.region (held_of t ∷ get_or old.chains t.region []) r [] s.chains chain_place here))
-        (carries_more h.kept e r (held_of t) (get_or old.chains t.region []) (subst (λ (q : ℕ). CarriesUnflushed h.kept r (get_or old.chains q [])) here (counted.chains r (was r served))) (region ∙ sym here)
+    | inl here ↦ subst (CarriesUnflushed (with_staged h.kept e) r) (sym (set_here old.chains new.chains t.region (noted_of t ∷ get_or old.chains t.region []) r [] s.chains chain_place here))
+        (carries_more h.kept e r (noted_of t) (get_or old.chains t.region []) (subst (λ (q : ℕ). CarriesUnflushed h.kept r (get_or old.chains q [])) here (counted.chains r (was r served))) (region ∙ sym here)
         (record { region = sym region; number = sym number; bytes = bytes; entry = is })
         (λ y has. omega (arith, ((order.regions t.region).chain.numbers y has).1, above, number))
-        (omega (arith, counted.flushed r (was r served), (order.regions r).flushed, ap (λ q. get_or old.drawn q 0) here, above, number)))
-    | inr other ↦ subst (CarriesUnflushed (with_staged h.kept e) r) (sym (set_there old.chains new.chains t.region (held_of t ∷ get_or old.chains t.region []) r [] s.chains other))
+        (let f = some_family e is.batch.given in
+        (f.0, f.1, omega (arith, counted.flushed e.region f.0 (subst (IsServed old) (sym region) ours), (order.regions e.region).durable f.0, (order.regions e.region).synced, ap (λ q. get_or old.drawn q 0) region, above, number))))
+    | inr other ↦ subst (CarriesUnflushed (with_staged h.kept e) r) (sym (set_there old.chains new.chains t.region (noted_of t ∷ get_or old.chains t.region []) r [] s.chains other))
         (carries_on h.kept e r (get_or old.chains r []) (counted.chains r (was r served)) (λ same. other (sym same ∙ region)))
   ];
   orderly = orderly_staged h.kept e counted.orderly (omega (arith, counted.drawn e.region (subst (IsServed old) (sym region) ours), ap (λ q. get_or old.drawn q 0) region, above, number));
@@ -128,15 +129,22 @@ counted_staged old new t h e order s ours above counted is bytes region number =
     drawn_place : t.region < length old.drawn
     drawn_place = omega (arith, place, order.wide.drawn)
 
-    current_place : t.region < length old.accounts.current
-    current_place = omega (arith, place, order.wide.current)
-
     chain_place : t.region < length old.chains
     chain_place = omega (arith, place, order.wide.chains)
 
     newest : (d : Entry) → e ≡ d → get_or new.closed d.region 0 < d.number
     newest d same = subst (λ (y : Entry). get_or new.closed y.region 0 < y.number) same
-        (omega (arith, same_at old.closed new.closed e.region 0 s.closed, ap (λ q. get_or old.closed q 0) region, (order.regions t.region).closed, (order.regions t.region).synced, above, number))
+        (omega (arith, same_at old.closed new.closed e.region 0 s.closed, ap (λ q. get_or old.closed q 0) carries_it.region, (order.regions t.region).closed, (order.regions t.region).synced, above, carries_it.number))
 
-    below : (r : ℕ) → r ≡ t.region → get_or old.accounts.current r 0 < e.number
-    below r here = omega (arith, (order.regions r).current, ap (λ q. get_or old.drawn q 0) here, above, number)
+    current_more : (r : ℕ) (f : List ℕ) → IsHighest r f ((h.current ++ h.kept.staged) ++ e ∷ []) (number_of new.accounts.current r f)
+    current_more r f = subst (IsHighest r f ((h.current ++ h.kept.staged) ++ e ∷ [])) (sym (s.noted.current r f)) (elim (cases_Bool (t.region == r && has_family t.families f)) as
+        (λ _. IsHighest r f ((h.current ++ h.kept.staged) ++ e ∷ []) (cond (t.region == r && has_family t.families f) t.number (number_of old.accounts.current r f))) [
+          | inl hit ↦ subst (IsHighest r f ((h.current ++ h.kept.staged) ++ e ∷ [])) (carries_it.number ∙ sym (ap (λ (b : Bool). cond b t.number (number_of old.accounts.current r f)) hit))
+              (let both = and_both (t.region == r) (has_family t.families f) hit in
+              let here : t.region ≡ r = eqb-true t.region r both.0 in
+              highest_here r f (number_of old.accounts.current r f) (h.current ++ h.kept.staged) e (counted.current r f) (carries_it.region ∙ here) (noted_family e f (sym (carries_it.families f) ∙ both.1))
+              (omega (arith, (order.accounts.regions r).current_noted f, (order.regions r).noted, ap (λ q. get_or old.drawn q 0) here, above, carries_it.number)))
+          | inr miss ↦ subst (IsHighest r f ((h.current ++ h.kept.staged) ++ e ∷ [])) (sym (ap (λ (b : Bool). cond b t.number (number_of old.accounts.current r f)) miss))
+              (highest_other r f (number_of old.accounts.current r f) (h.current ++ h.kept.staged) e (counted.current r f)
+              (λ here of. absurd (cc (sym miss ∙ (ap (λ (b : Bool). b && has_family t.families f) (eq-eqb t.region r (sym carries_it.region ∙ here)) ∙ (carries_it.families f ∙ family_noted e f of))))))
+        ])

@@ -1,8 +1,8 @@
 -- What a device has made of its logs since it was started.
-use Rattle.std.specs.Prelude.{ℕ, Bool, not, ◌==◌, List, [], ◌∷◌, ◌++◌, filter}
+use Rattle.std.specs.Prelude.{ℕ, Bool, not, ◌==◌, List, [], ◌∷◌, ◌++◌, filter, Option, Some, None}
 use Rattle.log_model.specs.Entry.{Entry}
 use Rattle.log_model.specs.Files.{Files}
-use Rattle.recovery.specs.Kept.{Kept, committed, with_staged, flushed_to, start_of}
+use Rattle.recovery_laws.specs.Kept.{Kept, committed, with_staged, flushed_to, start_of}
 
 -- a log file that was closed, with its entries
 pub record ClosedLog : Type 0 where
@@ -32,9 +32,14 @@ committed_in h = record { kept = committed h.kept; logs = h.logs; current = h.cu
 abbrev pub closed_in : History → ℕ → History
 closed_in h number = record { kept = h.kept; logs = h.logs ++ record { number = number; entries = h.current } ∷ []; current = [] }
 
--- the same with one region flushed up to this sequence id
-abbrev pub flushed_in : History → ℕ → ℕ → History
-flushed_in h r n = record { kept = flushed_to h.kept r [] n; logs = h.logs; current = h.current }
+-- the family that a flush is of, empty where it is of all
+abbrev pub family_in : Option (List ℕ) → List ℕ
+family_in None = []
+family_in (Some f) = f
+
+-- the same with one family of a region, or all where it is empty, flushed up to this sequence id
+abbrev pub flushed_in : History → ℕ → List ℕ → ℕ → History
+flushed_in h r family n = record { kept = flushed_to h.kept r family n; logs = h.logs; current = h.current }
 
 -- the same with these closed logs
 abbrev pub with_logs : History → List ClosedLog → History

@@ -3,9 +3,10 @@
 ghost use Rattle.std.specs.Prelude.{◌≡◌, ◌↔◌, ◌+◌, ◌<◌, ◌≤◌, ◌^◌, ℕ, List, [], Contains, IfOk, get_or};
 ghost use Rattle.log_model.specs.Files.{Files};
 ghost use Rattle.log_model.specs.Recovered.{IsFlushed};
-ghost use Rattle.recovery.specs.Kept.{HasNoLogs};
+ghost use Rattle.recovery_laws.specs.Kept.{HasNoLogs};
 ghost use Rattle.log_ledger.specs.History.{started_in};
-ghost use Rattle.log_ledger.specs.Books.{IsServed};
+ghost use Rattle.seq_accounting.specs.Accounts.{flushed_at};
+ghost use Rattle.log_ledger.specs.Books.{IsServed, AreStoresFew};
 ghost use Rattle.log_ledger.specs.Counted.{IsCounted};
 ghost use Rattle.log_ledger.specs.Bases.{AreRegions, IsAmong, AreNumbersOf};
 
@@ -53,6 +54,9 @@ impl Ledger {
         ensures next_store { IfOk result (λ l. AreNumbersOf (λ m. m.next_store) regions.now l.next_store) }
         ensures files { IfOk result (λ l. l.accounts.closed ≡ []) }
         ensures last { IfOk result (λ l. l.accounts.last ≡ 0) }
+        ensures flushed { IfOk result (λ l. (r : ℕ) (f : List ℕ) → flushed_at l.accounts r f ≡ get_or l.drawn r 0) }
+        ensures few { IfOk result (λ l. (limit : ℕ) → ((m : RegionBase) → Contains regions.now m → m.next_store ≤ limit + 1)
+            → AreStoresFew limit l) }
     {
         let marks = marks_of(alloc, regions)?;
         let accounts = match Accounting::new(alloc, &marks) {
@@ -91,11 +95,10 @@ impl Ledger {
         self.synced[region as usize]
     }
 
-    /// The sequence id that the region's last flush gave.
+    /// The sequence id that the region's last flush of all families gave.
     pub fn stored(&self, region: u32) -> u64
         requires { region ≤ 64 }
         ensures number { result ≡ get_or self.now.stored region 0 }
-        ensures flushed { result ≤ get_or self.now.accounts.flushed region 0 }
         ensures synced { result ≤ get_or self.now.synced region 0 }
         ensures limit { result < 2 ^ 48 }
     {
@@ -112,22 +115,31 @@ impl Ledger {
         self.closed[region as usize]
     }
 
-    /// The sequence id up to which the region is flushed.
-    pub fn flushed(&self, region: u32) -> u64
+    /// The sequence id up to which the whole region is flushed.
+    pub fn whole(&self, region: u32) -> u64
         requires { region ≤ 64 }
-        ensures number { result ≡ get_or self.now.accounts.flushed region 0 }
-        ensures staged { result ≤ get_or self.now.drawn region 0 }
+        ensures number { result ≡ flushed_at self.now.accounts region [] }
+        ensures synced { result ≤ get_or self.now.synced region 0 }
         ensures limit { result < 2 ^ 48 }
     {
-        self.accounts.flushed(region)
+        self.accounts.flushed(region, &[])
+    }
+
+    /// The sequence id up to which a family of the region is flushed; of the empty one, up to which the whole region is.
+    pub fn flushed(&self, region: u32, family: &[u8]) -> u64
+        requires { region ≤ 64 }
+        ensures number { result ≡ flushed_at self.now.accounts region family.now }
+        ensures synced { result ≤ get_or self.now.synced region 0 }
+        ensures limit { result < 2 ^ 48 }
+    {
+        self.accounts.flushed(region, family)
     }
 
     /// The number of the region's next store file, 0 where the device doesn't serve it.
     pub fn next_store(&self, region: u32) -> u64
         requires { region ≤ 64 }
         ensures number { result ≡ get_or self.now.next_store region 0 }
-        ensures bound { result ≤ 2 ^ 63 + 1 + get_or self.now.accounts.flushed region 0 }
-        ensures limit { result + 1 < 2 ^ 64 }
+        ensures bound { result < 2 ^ 63 + 1 + 2 ^ 58 }
     {
         self.next_store[region as usize]
     }

@@ -4,9 +4,11 @@
 
 mod base;
 mod flushing;
+mod laws;
 mod ledger;
 mod rolling;
 mod staging;
 
 pub use base::RegionBase;
+pub use laws::few_stores_are_few;
 pub use ledger::Ledger;

@@ -1,9 +1,9 @@
 //! Log files that are closed, and those that may go.
 
-ghost use Rattle.std.specs.Prelude.{◌≡◌, ◌+◌, ◌<◌, ◌≤◌, ◌^◌, List, [], length, Contains, sum, OnOk, IfSome, MatchOption};
+ghost use Rattle.std.specs.Prelude.{◌≡◌, ◌+◌, ◌<◌, ◌≤◌, ◌^◌, ℕ, List, [], length, Contains, sum, OnOk, IfSome, MatchOption};
 ghost use Rattle.seq_accounting.specs.Accounts.{IsClosed};
 ghost use Rattle.log_ledger.specs.History.{ClosedLog, History, closed_in, with_logs};
-ghost use Rattle.log_ledger.specs.Books.{SameRegions};
+ghost use Rattle.log_ledger.specs.Books.{AreStoresFew, SameRegions};
 ghost use Rattle.log_ledger.specs.Counted.{IsCounted, NoneMayGoAbove, GoesNext, LogsLeft};
 
 use crate::ledger::Ledger;
@@ -17,6 +17,7 @@ impl Ledger {
         ensures ok { OnOk result (1 ≤ self.new.accounts.room) }
         ensures same { self.new ≡ record self.old { accounts = record self.old.accounts { room = self.new.accounts.room } } }
         ensures room { self.old.accounts.room ≤ self.new.accounts.room }
+        ensures few { (limit : ℕ) → AreStoresFew limit self.old → AreStoresFew limit self.new }
         ensures small { sum self.old.drawn < 2 ^ 55 }
     {
         match self.accounts.reserve_file() {
@@ -34,6 +35,7 @@ impl Ledger {
         ensures closed { self.new.closed ≡ self.old.synced }
         ensures last { self.new.accounts.last ≡ file }
         ensures room { self.new.accounts.room + 1 ≡ self.old.accounts.room }
+        ensures few { (limit : ℕ) → AreStoresFew limit self.old → AreStoresFew limit self.new }
         ensures same { SameRegions self.old (record self.new { closed = self.old.closed }) }
     {
         self.closed = self.synced;
@@ -43,6 +45,7 @@ impl Ledger {
     /// Takes the current file, in which no entry stands, as closed, and begins with another empty one.
     pub fn close_empty(&mut self)
         ensures counted { (h : History) → IsCounted self.old h → h.kept.staged ≡ [] → h.current ≡ [] → IsCounted self.new h }
+        ensures few { (limit : ℕ) → AreStoresFew limit self.old → AreStoresFew limit self.new }
         ensures closed { self.new ≡ record self.old { closed = self.old.synced } }
     {
         self.closed = self.synced;
@@ -66,6 +69,7 @@ impl Ledger {
         ensures fewer { length self.new.accounts.closed + result ≡ length self.old.accounts.closed }
         ensures last { self.new.accounts.last ≡ self.old.accounts.last }
         ensures room { self.old.accounts.room ≤ self.new.accounts.room }
+        ensures few { (limit : ℕ) → AreStoresFew limit self.old → AreStoresFew limit self.new }
         ensures same { SameRegions self.old self.new }
     {
         self.accounts.forget_lower()

@@ -7,7 +7,9 @@ use Rattle.log_model.specs.LogText.{IsEntryOf, in_version}
 use Rattle.log_model.specs.Files.{Files, key_of as file_key, IsLogged}
 use Rattle.log_model.specs.Recovered.{IsLast}
 use Rattle.log_model.proofs.TextLaws.{HasVersion, with_version}
-use Rattle.recovery.proofs.Lists.{none_in, first_or_later, entries_in}
+use Rattle.recovery_laws.specs.Kept.{Kept, IsOrderly, lasts}
+use Rattle.recovery_laws.proofs.Lists.{none_in, first_or_later, entries_in}
+use Rattle.recovery_laws.proofs.Rising.{last_is}
 use Rattle.log_trucks.specs.Held.{Held, AreHeld}
 use Rattle.log_service.specs.Trucks.{FollowOn, onward}
 
@@ -26,6 +28,23 @@ last_low J r n last = elim last.reached as (λ _. n < 2 ^ 48) [
     | inr logged ↦ subst (λ (m : ℕ). m < 2 ^ 48) logged.3 (entry_low J logged.0 logged.1)
   ]
   | inr none ↦ omega (arith, none)
+]
+
+-- an entry of trucks
+pub held_low : (ts : List Held) (es : List Entry) (e : Entry) → AreHeld ts es → Contains es e → e.number < 2 ^ 48
+held_low [] [] e h is = absurd (none_in e is)
+held_low [] (x ∷ xs) e h is = absurd h
+held_low (t ∷ ts) [] e h is = absurd h
+held_low (t ∷ ts) (x ∷ xs) e h is = elim (first_or_later x xs e is) as (λ _. e.number < 2 ^ 48) [
+  | inl here ↦ subst (λ (d : Entry). d.number < 2 ^ 48) here h.0.entry.number
+  | inr later ↦ held_low ts xs e h.1 later
+]
+
+-- the last sequence id of a region
+pub lasts_low : (k : Kept) (ts : List Held) (r : ℕ) → IsOrderly k → AreHeld ts k.durable → lasts k.first k.durable r < 2 ^ 48
+lasts_low k ts r orderly held = elim (last_is r (k.first r) k.durable) as (λ _. lasts k.first k.durable r < 2 ^ 48) [
+  | inl e ↦ (let low = held_low ts k.durable e.0 held e.1 in omega (arith, e.3, low))
+  | inr same ↦ omega (arith, same, last_low k.base r (k.first r) (orderly.begun r))
 ]
 
 -- an entry of trucks in a row

@@ -8,11 +8,11 @@ use Rattle.cell_model.specs.Order.{Content}
 use Rattle.log_model.specs.Entry.{Entry}
 use Rattle.log_model.specs.Files.{Files}
 use Rattle.log_model.specs.Recovered.{IsRecovered, IsContent, IsLast, entries_of, is_of}
-use Rattle.recovery.specs.Change.{RecoversWith, LastsWith, last_of}
-use Rattle.recovery.specs.Kept.{IsOrderly, lasts}
-use Rattle.recovery.proofs.Likes.{like_recovers, with_both, some_alike}
-use Rattle.recovery.proofs.Lasts.{like_lasts}
-use Rattle.recovery.proofs.Rising.{last_of-append}
+use Rattle.recovery_laws.specs.Change.{RecoversWith, LastsWith, last_of}
+use Rattle.recovery_laws.specs.Kept.{IsOrderly, lasts}
+use Rattle.recovery_laws.proofs.Likes.{like_recovers, with_both, some_alike}
+use Rattle.recovery_laws.proofs.Lasts.{like_lasts}
+use Rattle.recovery_laws.proofs.Rising.{last_of-append}
 use Rattle.disk_images.specs.Crash.{DiskView, IsImageNow, Since}
 use Rattle.disk_images.proofs.Moments.{since_weaker}
 use Rattle.std.specs.Prelude.{Option, Some}
@@ -25,7 +25,7 @@ use Rattle.append_ring.proofs.Places.{each_at}
 use Rattle.log_berth.specs.Words.{NoMore}
 use Rattle.log_service.specs.declared.item.Item.{Item}
 use Rattle.log_service.specs.Items.{region_of, appended}
-use Rattle.log_service.specs.Numbers.{told_numbers}
+use Rattle.log_service.specs.Numbers.{told_numbers, AreStoredSynced}
 use Rattle.log_service.proofs.Numbers.{synced_low, stored_low, closed_low}
 use Rattle.log_trucks.specs.Held.{Held, AreHeld}
 use Rattle.log_ledger.specs.History.{History}
@@ -61,7 +61,8 @@ module _ (found : Files) (first : List ℕ) (r : ℕ) (low : 0 < r) (high : r �
       ap (λ (n : ℕ). last_of r n h.kept.durable) (began.first r low high) ∙ count_last (length first) (base_of first) ts h.kept.durable r (follow_front (length first) (base_of first) ts us follow) held
 
   module _ {D : Type 0} (d : Device D) (disk : DiskView) (popped : List Held) (h : History) (follow : FollowFrom first popped) (c : Content) (pushed : List Entry) (all : AreHeld (of_held r popped) pushed)
-      (content : IsContent (IsRecovered found r) c) (synced stored closed : ℕ) (synced_low : synced ≤ get_or (books_of d).synced r 0) (stored_low : stored ≤ get_or (books_of d).stored r 0) (closed_low : closed ≤ get_or (books_of d).closed r 0) where
+      (content : IsContent (IsRecovered found r) c) (synced stored closed : ℕ) (synced_low : synced ≤ get_or (books_of d).synced r 0) (stored_low : stored ≤ get_or (books_of d).stored r 0) (closed_low : closed ≤ get_or (books_of d).closed r 0)
+      (stored_synced : get_or (books_of d).stored r 0 ≤ get_or (books_of d).synced r 0) where
     pub whole_commits : Stands found first d disk popped h → IsServed (books_of d) r → Commits disk false r (base_of first r) c pushed synced stored closed
     whole_commits s served =
         let orderly = s.whole.keeps.orderly in
@@ -71,11 +72,9 @@ module _ (found : Files) (first : List ℕ) (r : ℕ) (low : 0 < r) (high : r �
         let k : ℕ = length (entries_of r h.kept.durable) in
         let every : k ≡ length pushed = sym (held_length (of_held r popped) (entries_of r h.kept.durable) (held_region r popped h.kept.durable s.all)) ∙ held_length (of_held r popped) pushed all in
         let synced_is = s.whole.counted.synced r served in
-        let stored_is = s.whole.counted.stored r in
-        let flushed_low = orderly.low r [] in
         let left : (J : Files) → IsImageNow disk J → Leaves (books_of d).stored (books_of d).closed J [] J = λ J now.
         let shows = s.whole.keeps.images J now in
-        leaves (books_of d).stored (books_of d).closed h.kept s.whole.file.name h.current J [] J s.whole.keeps.kind s.whole.keeps.region shows (λ q f. omega (arith, s.whole.counted.stored q, s.whole.counted.evenly q f))
+        leaves (books_of d).stored (books_of d).closed h.kept s.whole.file.name h.current J [] J s.whole.keeps.kind s.whole.keeps.region shows s.whole.counted.stored
         (λ e member. s.whole.counted.newer e (Contains-append_left h.current h.kept.staged e member)) (some_alike h.kept J J shows.like shows.like orderly) in
         record {
           images = λ J now.
@@ -83,13 +82,14 @@ module _ (found : Files) (first : List ℕ) (r : ℕ) (low : 0 < r) (high : r �
               let image = image_of found first r c pushed h.kept.durable popped [] J follow_all s.all (subst (λ (l : List Held). AreHeld (of_held r l) pushed) nil all) (last_then h s.began orderly) content shows.like.fit
               (subst (λ (b : Files). RecoversWith b h.kept.durable J) s.began.base (like_recovers h.kept J shows.like))
               (subst (λ (b : Files). LastsWith b h.kept.durable J) s.began.base (like_lasts h.kept J shows.like orderly)) in
-              (k, image, omega (arith, synced_low, synced_is, count), omega (arith, stored_low, stored_is, flushed_low, count), (λ _. every));
+              (k, image, omega (arith, synced_low, synced_is, count), omega (arith, stored_low, stored_synced, synced_is, count), (λ _. every));
           keeps_stored = λ J v p now recovers upto. (left J now).in_stores r v p recovers (omega (arith, upto, stored_low));
           keeps_closed = λ J name es e now last file member of.
               (let below = (left J now).in_last_log name es e last file member in
               let at = ap (λ (q : ℕ). get_or (books_of d).closed q 0) of in
               omega (arith, below, at, closed_low));
-          bound = omega (arith, stored_low, stored_is, flushed_low, count, every);
+          bound = omega (arith, stored_low, stored_synced, synced_is, count, every);
+          bound_synced = omega (arith, synced_low, synced_is, count, every);
         }
 
     pub fell_commits : Fell found first d disk popped h → Commits disk true r (base_of first r) c pushed synced stored closed
@@ -100,8 +100,6 @@ module _ (found : Files) (first : List ℕ) (r : ℕ) (low : 0 < r) (high : r �
         let was_all : was ++ (drop (length h.kept.durable) front ++ drop f.taken popped) ≡ popped = sym (append_assoc was (drop (length h.kept.durable) front) (drop f.taken popped)) ∙ (ap (λ (l : List Held). l ++ drop f.taken popped) (take-append-drop (length h.kept.durable) front) ∙ parted) in
         let count = counted h f.began was (drop (length h.kept.durable) front ++ drop f.taken popped) (subst (FollowFrom first) (sym was_all) follow) (held_take front h.kept.durable h.kept.staged f.all) in
         let synced_is = f.synced r low high in
-        let stored_is = f.stored r in
-        let flushed_low = f.orderly.low r [] in
         record {
           images = λ J now.
               let left = f.left J now in
@@ -119,18 +117,19 @@ module _ (found : Files) (first : List ℕ) (r : ℕ) (low : 0 < r) (high : r �
               (subst (λ (b : Files). RecoversWith b more J) f.began.base with) (subst (λ (b : Files). LastsWith b more J) f.began.base lasts_too) in
               let longer = ap length (filter-append (is_of r) h.kept.durable (take m h.kept.staged)) in
               let sum = length-append (entries_of r h.kept.durable) (entries_of r (take m h.kept.staged)) in
-              (length (entries_of r more), image, omega (arith, synced_low, synced_is, count, longer, sum), omega (arith, stored_low, stored_is, flushed_low, count, longer, sum), (λ broken. absurd (cc broken)));
+              (length (entries_of r more), image, omega (arith, synced_low, synced_is, count, longer, sum), omega (arith, stored_low, stored_synced, synced_is, count, longer, sum), (λ broken. absurd (cc broken)));
           keeps_stored = λ J v p now recovers upto. (f.left J now).in_stores r v p recovers (omega (arith, upto, stored_low));
           keeps_closed = λ J name es e now last file member of.
               (let below = (f.left J now).in_last_log name es e last file member in
               let at = ap (λ (q : ℕ). get_or (books_of d).closed q 0) of in
               omega (arith, below, at, closed_low));
-          bound = bounded was (drop (length h.kept.durable) front ++ drop f.taken popped) was_all (held_take front h.kept.durable h.kept.staged f.all) (omega (arith, stored_low, stored_is, flushed_low, count));
+          bound = bounded stored was (drop (length h.kept.durable) front ++ drop f.taken popped) was_all (held_take front h.kept.durable h.kept.staged f.all) (omega (arith, stored_low, stored_synced, synced_is, count));
+          bound_synced = bounded synced was (drop (length h.kept.durable) front ++ drop f.taken popped) was_all (held_take front h.kept.durable h.kept.staged f.all) (omega (arith, synced_low, synced_is, count));
         }
       where
         -- the durable ones are among those pushed
-        bounded : (ts us : List Held) → ts ++ us ≡ popped → AreHeld ts h.kept.durable → stored ≤ base_of first r + length (entries_of r h.kept.durable) → stored ≤ base_of first r + length pushed
-        bounded ts us parts held le =
+        bounded : (n : ℕ) (ts us : List Held) → ts ++ us ≡ popped → AreHeld ts h.kept.durable → n ≤ base_of first r + length (entries_of r h.kept.durable) → n ≤ base_of first r + length pushed
+        bounded n ts us parts held le =
             let split = of_both ts us in
             let a = held_length (of_held r ts) (entries_of r h.kept.durable) (held_region r ts h.kept.durable held) in
             let b = held_length (of_held r popped) pushed all in
@@ -169,11 +168,11 @@ module _ {D : Type 0} (found : Files) (first : List ℕ) (d : Device D) (disk : 
 
   module _ (r : ℕ) (low : 0 < r) (high : r ≤ length first) (c : Content) (pushed : List Entry) (all : AreHeld (of_held r popped) pushed) (content : IsContent (IsRecovered found r) c) where
     pub either_commits : (broken : Bool) → (broken ≡ true) ↔ IsBroken d → WhereWhole → WhereBroken → IsServed (books_of d) r → (synced stored closed : ℕ) → synced ≤ get_or (books_of d).synced r 0 → stored ≤ get_or (books_of d).stored r 0
-        → closed ≤ get_or (books_of d).closed r 0 → ∥ Commits disk broken r (base_of first r) c pushed synced stored closed ∥₁
-    either_commits true is whole fell served synced stored closed a b e =
-        ∥∥₁_map (fell (is.0 refl)) (λ x. fell_commits found first r low high d disk popped x.0 follow c pushed all content synced stored closed a b e x.1)
-    either_commits false is whole fell served synced stored closed a b e =
-        ∥∥₁_map (whole (λ broken. true≢false (sym (is.1 broken)))) (λ x. whole_commits found first r low high d disk popped x.0 follow c pushed all content synced stored closed a b e x.1 served)
+        → closed ≤ get_or (books_of d).closed r 0 → get_or (books_of d).stored r 0 ≤ get_or (books_of d).synced r 0 → ∥ Commits disk broken r (base_of first r) c pushed synced stored closed ∥₁
+    either_commits true is whole fell served synced stored closed a b e le =
+        ∥∥₁_map (fell (is.0 refl)) (λ x. fell_commits found first r low high d disk popped x.0 follow c pushed all content synced stored closed a b e le x.1)
+    either_commits false is whole fell served synced stored closed a b e le =
+        ∥∥₁_map (whole (λ broken. true≢false (sym (is.1 broken)))) (λ x. whole_commits found first r low high d disk popped x.0 follow c pushed all content synced stored closed a b e le x.1 served)
 
     pub either_since : (broken : Bool) → (broken ≡ true) ↔ IsBroken d → WhereWhole → WhereBroken → (start : ℕ) → ∥ Since start (RecoversHeld found popped) disk ∥₁ → ∥ CommitsSince start disk r (base_of first r) c pushed ∥₁
     either_since true is whole fell start since =
@@ -194,11 +193,11 @@ module _ {D : Type 0} (found : Files) (first : List ℕ) (d : Device D) (disk : 
         ap appended (sym one) ∙ (ap (λ (k : ℕ). appended (of region_of k items)) p.region ∙ (appended_of r items ∙ ap (of_held r) (sym every))) in
         subst (λ (l : List Held). AreHeld l pushed) mine p.entries
 
-    pub region_commits : (words : List ℕ) → NoMore words (told_numbers n (books_of d)) → ((q : ℕ) → 0 < q → q ≤ length first → IsServed (books_of d) q) → ∥ CommitsRegion disk broken n words first r c pushed ∥₁
-    region_commits words low served =
+    pub region_commits : (words : List ℕ) → NoMore words (told_numbers n (books_of d)) → ((q : ℕ) → 0 < q → q ≤ length first → IsServed (books_of d) q) → AreStoredSynced (books_of d) → ∥ CommitsRegion disk broken n words first r c pushed ∥₁
+    region_commits words low served stored =
         either_commits r p.above within c pushed all_held p.content broken is whole fell (served r p.above within) (synced_in words r) (stored_in n words r) (closed_in n words r)
         (synced_low n (books_of d) words r low p.above (omega (arith, within, all_regions))) (stored_low n (books_of d) words r low p.above (omega (arith, within, all_regions)))
-        (closed_low n (books_of d) words r low p.above (omega (arith, within, all_regions)))
+        (closed_low n (books_of d) words r low p.above (omega (arith, within, all_regions))) (stored r)
 
     pub region_since : (start : ℕ) → ∥ Since start (RecoversHeld found popped) disk ∥₁ → ∥ CommitsSince start disk r (base_of first r) c pushed ∥₁
     region_since start since = either_since r p.above within c pushed all_held p.content broken is whole fell start since

@@ -1,5 +1,5 @@
 -- One load more is committed, or the device fails over it.
-use Rattle.std.proofs.Common.{◌≡◌, inl, inr, ℕ, zero, suc, ◌+◌, ◌-◌, ◌<◌, ◌≤◌, ◌==◌, Bool, true, false, List, [], ◌∷◌, ◌++◌, length, take, get_or, refl, sym, ap, ◌∙◌, subst, arith, length-append, le_refl}
+use Rattle.std.proofs.Common.{◌≡◌, inl, inr, ℕ, zero, suc, ◌+◌, ◌-◌, ◌^◌, ◌<◌, ◌≤◌, ◌==◌, Bool, true, false, List, [], ◌∷◌, ◌++◌, length, take, get_or, refl, sym, ap, ◌∙◌, subst, arith, length-append, le_refl}
 use Rattle.std.specs.Prelude.{if◌then◌else◌, OnOk, OnErr, IsErr, Result, Ok, Err}
 use Rattle.std.proofs.Math.Logic.{∥∥₁_map₂}
 use Rattle.std.proofs.lemmas.List.{take_all}
@@ -10,11 +10,11 @@ use Rattle.log_service.specs.Numbers.{told_numbers}
 use Rattle.log_service.proofs.Numbers.{told_synced, told_stored, told_closed, told_past}
 use Rattle.log_model.specs.Entry.{Entry}
 use Rattle.log_model.specs.Files.{Files}
-use Rattle.recovery.specs.Change.{RecoversSome}
-use Rattle.recovery.specs.Kept.{IsLike, IsOrderly}
-use Rattle.recovery.proofs.Likes.{like_recovers}
-use Rattle.recovery.proofs.Lasts.{like_lasts}
-use Rattle.recovery.proofs.Longer.{longer, from_base}
+use Rattle.recovery_laws.specs.Change.{RecoversSome}
+use Rattle.recovery_laws.specs.Kept.{IsLike, IsOrderly}
+use Rattle.recovery_laws.proofs.Likes.{like_recovers}
+use Rattle.recovery_laws.proofs.Lasts.{like_lasts}
+use Rattle.recovery_laws.proofs.Longer.{longer, from_base}
 use Rattle.disk_images.specs.Crash.{DiskView, Throughout, Since}
 use Rattle.disk_images.specs.Calls.{IsTrueDisk, Rose}
 use Rattle.disk_images.proofs.Moments.{since_on, since_weaker, weaker, at_end}
@@ -32,7 +32,7 @@ use Rattle.log_service.specs.Commits.{all_staged_in, AreServed}
 use Rattle.log_service.specs.Halves.{BearsFew, Stands, Fell, RecoversHeld}
 use Rattle.log_service.proofs.Chains.{follow_back}
 use Rattle.log_service.proofs.ItemLaws.{all_with}
-use Rattle.log_service.proofs.Tied.{KeepsFew, logs_up_to}
+use Rattle.log_service.proofs.Tied.{KeepsFew, stores_low, logs_up_to}
 
 pub held_append : (xs ys : List Held) (ds es : List Entry) → AreHeld xs ds → AreHeld ys es → AreHeld (xs ++ ys) (ds ++ es)
 held_append [] ys [] es f g = g
@@ -43,7 +43,7 @@ held_append (x ∷ xs) ys (d ∷ ds) es f g = (f.0, held_append xs ys ds es f.1 
 -- trucks that are spelled have entries
 pub spelled_entries : (ts : List Held) → AreSpelled ts → ∥ ((es : List Entry) × AreHeld ts es) ∥₁
 spelled_entries [] s = ∣ ([], tt) ∣₁
-spelled_entries (t ∷ ts) s = ∥∥₁_map₂ s.0 (spelled_entries ts s.1) (λ e es. (e.0 ∷ es.0, (record { region = sym e.3; number = sym e.4; bytes = e.2; entry = e.1 }, es.1)))
+spelled_entries (t ∷ ts) s = ∥∥₁_map₂ s.0 (spelled_entries ts s.1) (λ e es. (e.0 ∷ es.0, (record { region = sym e.1.region; number = sym e.1.number; bytes = e.1.bytes; entry = e.1.entry }, es.1)))
 
 -- all loads are of region 1
 pub of_all : (ls : List (List Held)) → of (λ (_ : List Held). 1) 1 ls ≡ ls
@@ -91,7 +91,7 @@ module _ (found : Files) (first : List ℕ) (popped load : List Held) (h : Histo
     idle = refl;
     all = all_more s.all s.idle;
     none_may_go = s.none_may_go;
-    few = λ n up. kept n (s.few n up);
+    few = λ n up. kept (n + 2 ^ 48) (s.few n up);
   }
 
   -- the names in each image
@@ -108,7 +108,7 @@ module _ (found : Files) (first : List ℕ) (popped load : List Held) (h : Histo
         let now = length-append h.kept.durable (h.kept.staged ++ es) in
         let more = length-append h.kept.staged es in
         omega (arith, low, was, now, more));
-    stores = λ n up r. let low = s.few n up r in omega (arith, low, s.whole.counted.stored r);
+    stores = λ n up r. let low = stores_low (n + 2 ^ 48) (books_of d) h popped s.whole.counted s.idle s.all (s.few n up) r in omega (arith, low);
   }
 
   pub falls : {D : Type 0} (d e : Device D) (v w : DiskView) → IsTrueDisk v → (s : Stands found first d v popped h) → IsOrderly (all_staged_in h es).kept
@@ -124,7 +124,6 @@ module _ (found : Files) (first : List ℕ) (popped load : List Held) (h : Histo
     within = le_refl (length (popped ++ load));
     all = subst (λ (l : List Held). AreHeld l (h.kept.durable ++ (h.kept.staged ++ es))) (sym (take_all (length (popped ++ load)) (popped ++ load) (omega arith))) (all_more s.all s.idle);
     synced = λ r low high. let was = s.whole.counted.synced r (served r low high) in let now = ap (λ (l : List ℕ). get_or l r 0) synced in omega (arith, was, now);
-    stored = λ r. let now = ap (λ (l : List ℕ). get_or l r 0) stored in omega (arith, s.whole.counted.stored r, now);
     left = λ J now.
         subst (λ (p : List ℕ × List ℕ × List Entry). Leaves p.0 p.1 v.files p.2 J) (λ i. (sym stored i, sym closed i, ap (λ (l : List Entry). l ++ es) (sym s.idle) i))
         (at_end (Leaves (books_of d).stored (books_of d).closed v.files es) 4 v w over J now);
@@ -165,7 +164,6 @@ fell_more found first d disk popped load h f = record {
   within = omega (arith, f.within, length-append popped load);
   all = subst (λ (l : List Held). AreHeld l (h.kept.durable ++ h.kept.staged)) (sym (take_front f.taken popped load f.within)) f.all;
   synced = f.synced;
-  stored = f.stored;
   left = f.left;
   names = f.names;
 }

@@ -5,6 +5,7 @@ use denote.Param.Send.{IsSend, IsSync, sendable, recorded_send, recorded_sync, s
 use denote.Struct.Struct.{Struct}
 use denote.Struct.Declared.{shape}
 use Rattle.std.proofs.Crossing.{crosses}
+use Rattle.seq_accounting.proofs.Crossing.{families_send, accounting_send}
 use Rattle.log_trucks.proofs.truck.Truck.TheLaws.TheKnot as truck
 use Rattle.log_trucks.specs.contracts.truck.Truck as trucks
 use Rattle.log_trucks.specs.contracts.chain.Chain as chain
@@ -16,7 +17,7 @@ use Rattle.append_ring.specs.contracts.pass.ConsumerPass as of_items
 use Rattle.append_ring.specs.contracts.pass.RingPass as of_loads
 use Rattle.append_ring.specs.contracts.passes.RingPasses as idle
 use Rattle.atomic_table.proofs.shared.Seat.TheSendSync as seat
-use Rattle.log_service.specs.declared.name.Naming.{Ghosts}
+use Rattle.log_service.specs.declared.name.ServiceNaming.{Ghosts}
 use Rattle.disk_images.specs.declared.disk.Disk.{Ghosts as DiskGhosts}
 use Rattle.log_service.specs.contracts.consumer.ConsumerHalf as mover
 use Rattle.log_service.specs.contracts.committer.DeviceHalf as committer
@@ -30,7 +31,7 @@ use Rattle.append_ring.proofs.ring.Ring.TheSendSync as ring
 use Rattle.log_berth.proofs.berth.Berth.TheSendSync as berth
 
 truck_send : IsSend trucks.the_row
-truck_send = search (truck.send-Truck, sendable, crosses) depth 20
+truck_send = search (truck.send-Truck, families_send, sendable, crosses) depth 20
 
 chain_send : IsSend chain.the_row
 chain_send = search (truck_send, sendable, crosses) depth 20
@@ -45,7 +46,7 @@ chains_send : IsSend chains.the_row
 chains_send = search (chain_send, sendable, crosses) depth 20
 
 ledger_send : IsSend ledger.the_row
-ledger_send = search (chains_send, sendable, crosses) fits 5000 depth 30
+ledger_send = search (chains_send, accounting_send, sendable, crosses) fits 5000 depth 30
 
 -- as a field of a struct
 items_send : IsSend (of_items.the_field item.the_row item_impl.ghosts).row

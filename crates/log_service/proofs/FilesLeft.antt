@@ -1,5 +1,5 @@
 -- What the files hold besides, once a service is closed.
-use Rattle.std.proofs.Common.{◌≡◌, inl, inr, ℕ, ◌+◌, ◌^◌, ◌<◌, ◌≤◌, Bool, true, false, true≢false, List, [], ◌∷◌, ◌++◌, length, take, drop, Contains, Some, refl, sym, ap, ◌∙◌, subst, arith, take-append-drop}
+use Rattle.std.proofs.Common.{◌≡◌, ◌⊎◌, inl, inr, ℕ, zero, suc, ◌+◌, ◌^◌, ◌<◌, ◌≤◌, Bool, true, false, true≢false, List, [], ◌∷◌, ◌++◌, length, take, drop, Contains, Some, refl, sym, ap, ◌∙◌, subst, arith, take-append-drop}
 use Rattle.std.specs.Prelude.{◌↔◌}
 use Rattle.std.proofs.Math.Logic.{∥∥₁_map, ∥∥₁_map₂}
 use Rattle.std.proofs.lemmas.Bool.{cases_lt}
@@ -7,18 +7,18 @@ use Rattle.std.proofs.lemmas.List.{append-nil}
 use Rattle.std.proofs.lemmas.List.Elements.{Contains-append_left, Contains-append_right, Contains-append_cases}
 use Rattle.log_model.specs.declared.name.Name.{Name}
 use Rattle.log_model.specs.declared.name.NameKind.TheVariants as kinds
+use Rattle.cell_model.specs.Cell.{Cell}
 use Rattle.log_model.specs.Entry.{Entry}
-use Rattle.log_model.specs.LogText.{IsEntryOf, in_version}
-use Rattle.log_model.specs.Files.{Files, content, key_of, IsFit, IsSound, IsPresent, IsLogFile, IsLastLog}
+use Rattle.log_model.specs.Files.{Files, content, IsFit, IsSound, IsPresent, IsLogFile, IsLastLog}
 use Rattle.log_model.specs.Recovered.{IsRecovered, IsLast, IsFlushed, HasFamily, IsWhollyFlushed, RecoversAlike}
-use Rattle.recovery.specs.Change.{RecoversWith, LastsWith, last_of}
-use Rattle.recovery.specs.Kept.{IsOrderly}
-use Rattle.recovery.proofs.Lists.{none_in, first_or_later, is_first, is_later, entries_in, some_family}
-use Rattle.recovery.proofs.Logs.{one_list}
-use Rattle.recovery.proofs.Rising.{last_is, last_of-append}
-use Rattle.recovery.proofs.Numbers.{one_last}
-use Rattle.recovery.proofs.Likes.{like_recovers, with_both}
-use Rattle.recovery.proofs.Lasts.{like_lasts}
+use Rattle.recovery_laws.specs.Change.{RecoversWith, LastsWith, last_of}
+use Rattle.recovery_laws.specs.Kept.{IsOrderly}
+use Rattle.recovery_laws.proofs.Lists.{none_in, first_or_later, is_first, is_later}
+use Rattle.recovery_laws.proofs.Logs.{one_list}
+use Rattle.recovery_laws.proofs.Rising.{last_is, last_of-append}
+use Rattle.recovery_laws.proofs.Numbers.{one_last}
+use Rattle.recovery_laws.proofs.Likes.{like_recovers, with_both}
+use Rattle.recovery_laws.proofs.Lasts.{like_lasts}
 use Rattle.disk_images.specs.Crash.{DiskView, IsImageNow, Since}
 use Rattle.disk_images.proofs.Moments.{since_weaker}
 use Rattle.disk_images.specs.Calls.{IsTrueDisk}
@@ -52,15 +52,31 @@ alike_with found J more r last fit recovers lasts_too was none = record {
     still : (n : ℕ) → last_of r n more ≡ n
     still n = elim (last_is r n more) as (λ _. last_of r n more ≡ n) [ inl e ↦ absurd (none e.0 e.1 e.2) | inr same ↦ same ]
 
--- one of these entries isn't flushed, where not all are
-unflushed : (flushed : ℕ → List ℕ → ℕ) → ((r : ℕ) (f : List ℕ) → flushed r f ≡ flushed r []) → (es : List Entry) → ((e : Entry) → Contains es e → (f : List ℕ) × HasFamily e f) → (IsWhollyFlushed flushed es → ⊥)
-    → (e : Entry) × (f : List ℕ) × Contains es e × HasFamily e f × (flushed e.region f < e.number)
-unflushed flushed evenly [] given some = absurd (some (λ e f has of. absurd (none_in e has)))
-unflushed flushed evenly (x ∷ xs) given some = elim (cases_lt (flushed x.region []) x.number) as (λ _. (e : Entry) × (f : List ℕ) × Contains (x ∷ xs) e × HasFamily e f × (flushed e.region f < e.number)) [
-  | inl above ↦ (let f = given x (is_first x xs) in (x, f.0, is_first x xs, f.1, omega (arith, above, evenly x.region f.0)))
+all_low : (flushed : List ℕ → ℕ) (n : ℕ) (x : Cell) (xs : List Cell) → n ≤ flushed x.family → ((c : Cell) → Contains xs c → n ≤ flushed c.family) → (c : Cell) → Contains (x ∷ xs) c → n ≤ flushed c.family
+all_low flushed n x xs first rest c (zero, lt, is) = subst (λ (d : Cell). n ≤ flushed d.family) is first
+all_low flushed n x xs first rest c (suc k, lt, is) = rest c (k, omega (arith, lt), is)
+
+-- one of these cells is above what is flushed of its family, or none is
+any_above : (flushed : List ℕ → ℕ) (n : ℕ) (cs : List Cell) → ((c : Cell) × Contains cs c × (flushed c.family < n)) ⊎ ((c : Cell) → Contains cs c → n ≤ flushed c.family)
+any_above flushed n [] = inr (λ c has. absurd (omega (arith, has.1)))
+any_above flushed n (x ∷ xs) = elim (cases_lt (flushed x.family) n) as (λ _. ((c : Cell) × Contains (x ∷ xs) c × (flushed c.family < n)) ⊎ ((c : Cell) → Contains (x ∷ xs) c → n ≤ flushed c.family)) [
+  | inl above ↦ inl (x, (0, omega arith, refl), above)
+  | inr low ↦ elim (any_above flushed n xs) as (λ _. ((c : Cell) × Contains (x ∷ xs) c × (flushed c.family < n)) ⊎ ((c : Cell) → Contains (x ∷ xs) c → n ≤ flushed c.family)) [
+    | inl found ↦ inl (found.0, (suc found.1.0, omega (arith, found.1.1), found.1.2), found.2)
+    | inr none ↦ inr (all_low flushed n x xs (omega (arith, low)) none)
+  ]
+]
+
+-- one of these entries has a cell that isn't flushed, where not all are flushed
+unflushed : (flushed : ℕ → List ℕ → ℕ) (es : List Entry) → (IsWhollyFlushed flushed es → ⊥) → (e : Entry) × (f : List ℕ) × Contains es e × HasFamily e f × (flushed e.region f < e.number)
+unflushed flushed [] some = absurd (some (λ e f has of. absurd (none_in e has)))
+unflushed flushed (x ∷ xs) some = elim (any_above (flushed x.region) x.number x.batch.cells) as (λ _. (e : Entry) × (f : List ℕ) × Contains (x ∷ xs) e × HasFamily e f × (flushed e.region f < e.number)) [
+  | inl found ↦ (x, found.0.family, is_first x xs, (found.0, found.1, refl), found.2)
   | inr low ↦
-      let rest = unflushed flushed evenly xs (λ e has. given e (is_later x xs e has)) (λ all. some (λ e f has of. elim (first_or_later x xs e has) as (λ _. e.number ≤ flushed e.region f) [
-        | inl is ↦ subst (λ (d : Entry). d.number ≤ flushed d.region f) is (omega (arith, low, evenly x.region f))
+      let rest = unflushed flushed xs (λ all. some (λ e f has of. elim (first_or_later x xs e has) as (λ _. e.number ≤ flushed e.region f) [
+        | inl is ↦ (let on : HasFamily x f = subst (λ (d : Entry). HasFamily d f) (sym is) of in
+            let at = low on.0 on.1 in
+            subst (λ (d : Entry). d.number ≤ flushed d.region f) is (subst (λ (g : List ℕ). x.number ≤ flushed x.region g) on.2 at))
         | inr later ↦ all e f later of
       ])) in
       (rest.0, rest.1, is_later x xs rest.0 rest.2, rest.3, rest.4)
@@ -73,15 +89,7 @@ module _ {D : Type 0} (found : Files) (first : List ℕ) (few : length first ≤
   sound_still began orderly bears front f held J now fit sound up =
       let many = held_few (length first) (base_of first) front (h.kept.durable ++ h.kept.staged) f held in
       let most = left_most (length first) (base_of first) in
-      sound_by found J bears.next_store bears.last sound (omega (arith, bears.logs (2 ^ 61 + 1) up, many, most, few)) (λ r. omega (arith, bears.stores (2 ^ 61 + 1) up r, flushed_low r)) fit (bears.names J now)
-    where
-      flushed_low : (r : ℕ) → h.kept.flushed r [] < 2 ^ 48
-      flushed_low r = elim (last_is r (h.kept.first r) h.kept.durable) as (λ _. h.kept.flushed r [] < 2 ^ 48) [
-        | inl e ↦
-            let low = held_entry (length first) (base_of first) front (h.kept.durable ++ h.kept.staged) e.0 f held (Contains-append_left h.kept.durable h.kept.staged e.0 e.1) in
-            omega (arith, orderly.low r [], e.3, low.1)
-        | inr same ↦ omega (arith, orderly.low r [], same, last_low h.kept.base r (h.kept.first r) (orderly.begun r))
-      ]
+      sound_by found J bears.next_store bears.last sound (omega (arith, bears.logs (2 ^ 61 + 1) up, many, most, few)) (λ r. omega (arith, bears.stores (2 ^ 61 + 1) up r)) fit (bears.names J now)
 
   -- a region that no truck is of recovers alike
   others_alike : BeganWith found first h → IsOrderly h.kept → (front : List Held) → FollowFrom first front → (es : List Entry) → AreHeld front es → (more : List Entry) → ((e : Entry) → Contains more e → Contains es e)
@@ -139,7 +147,7 @@ module _ {D : Type 0} (found : Files) (first : List ℕ) (few : length first ≤
           let closed = (s.whole.keeps.logs c has).0 in
           let text = ended_has (log_name c.number) c.entries (content disk.files (log_name c.number)) closed.each closed.file.reads in
           let same : c.entries ≡ entries = one_list disk.files (log_name c.number) c.entries entries (inl (Some (length c.entries), text)) (subst (λ (m : Name). IsLogFile disk.files m entries) (sym is) file) in
-          let e = unflushed h.kept.flushed s.whole.counted.evenly c.entries (λ x member. some_family x (entries_in (IsEntryOf (in_version 2 (key_of (log_name c.number)))) c.entries x closed.each member).entry.batch.given) (s.none_may_go c has) in
+          let e = unflushed h.kept.flushed c.entries (s.none_may_go c has) in
           let flushed = (s.whole.keeps.images disk.files true_disk.reads).like.flushed e.0.region e.1 in
           (e.0, e.1, subst (λ (l : List Entry). Contains l e.0) same e.2, e.3, λ n is_flushed. elim is_flushed.reached as (λ _. n < e.0.number) [ inl to ↦ omega (arith, flushed.bound n to, e.4) | inr none ↦ omega (arith, none, e.4) ])
 

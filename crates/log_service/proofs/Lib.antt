@@ -16,3 +16,4 @@ pub mod Popped
 pub mod Bounds
 pub mod FilesLeft
 pub mod Crossing
+pub mod Stored

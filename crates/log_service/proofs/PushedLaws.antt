@@ -8,10 +8,10 @@ use Rattle.log_model.specs.LogText.{opened}
 use Rattle.log_model.proofs.FrameLaws.{same_entry}
 use Rattle.log_model.specs.Files.{Files, IsFit}
 use Rattle.log_model.specs.Recovered.{IsRecovered, IsContent, IsLast, put_entries, entries_of}
-use Rattle.recovery.specs.Change.{RecoversWith, LastsWith, last_of}
-use Rattle.recovery.specs.Kept.{AreRising, raised}
-use Rattle.recovery.proofs.Contents.{content_with, rising_new}
-use Rattle.recovery.proofs.Numbers.{recovered_low}
+use Rattle.recovery_laws.specs.Change.{RecoversWith, LastsWith, last_of}
+use Rattle.recovery_laws.specs.Kept.{AreRising, raised}
+use Rattle.recovery_laws.proofs.Contents.{content_with, rising_new}
+use Rattle.recovery_laws.proofs.Numbers.{recovered_low}
 use Rattle.std.specs.Global.{Box}
 use Rattle.append_ring.specs.Rules.{base_of, of}
 use Rattle.log_trucks.specs.Held.{Held, Haul, IsHeld, AreHeld, held_of}

@@ -1,39 +1,47 @@
 -- What ties a device to the loads popped, over a call on a whole device.
-use Rattle.std.proofs.Common.{◌≡◌, ◌⊎◌, ℕ, ◌+◌, ◌<◌, ◌≤◌, List, [], ◌++◌, length, get_or, Some, refl, sym, ap, ◌∙◌, subst, arith, ⊎_elim, inl, le_refl}
+use Rattle.std.proofs.Common.{◌≡◌, ◌⊎◌, ℕ, ◌+◌, ◌^◌, ◌<◌, ◌≤◌, List, [], ◌++◌, length, get_or, Some, refl, sym, ap, ◌∙◌, subst, arith, ⊎_elim, inl, inr, le_refl}
+use Rattle.std.proofs.lemmas.Bool.{cases_lt}
 use Rattle.std.proofs.lemmas.List.{append-nil, take_all}
 use Rattle.log_model.specs.Entry.{Entry}
 use Rattle.log_model.specs.Files.{Files, IsPresent}
-use Rattle.recovery.specs.Change.{RecoversSome}
-use Rattle.recovery.specs.Kept.{lasts}
-use Rattle.recovery.proofs.Likes.{like_recovers}
-use Rattle.recovery.proofs.Lasts.{like_lasts}
-use Rattle.recovery.proofs.Longer.{from_base}
+use Rattle.recovery_laws.specs.Change.{RecoversSome}
+use Rattle.recovery_laws.specs.Kept.{lasts}
+use Rattle.recovery_laws.proofs.Likes.{like_recovers}
+use Rattle.recovery_laws.proofs.Lasts.{like_lasts}
+use Rattle.recovery_laws.proofs.Longer.{from_base}
 use Rattle.disk_images.specs.Crash.{DiskView, Throughout, Since}
 use Rattle.disk_images.specs.Calls.{IsTrueDisk}
 use Rattle.disk_images.proofs.Moments.{elapses_on, since_on, weaker, at_end}
 use Rattle.log_file.specs.Open.{OpenLog}
 use Rattle.log_trucks.specs.Held.{Held, AreHeld}
 use Rattle.log_ledger.specs.History.{ClosedLog, History, committed_in}
-use Rattle.log_ledger.specs.Books.{Books, IsServed}
-use Rattle.log_ledger.specs.Counted.{NoneMayGo, LogsLeft}
+use Rattle.log_ledger.specs.Books.{Books, IsServed, AreStoresFew}
+use Rattle.log_ledger.specs.Counted.{IsCounted, NoneMayGo, LogsLeft}
+use Rattle.log_ledger.proofs.Few.{few_are_few}
 use Rattle.log_device.specs.declared.device.Device.{Device}
-use Rattle.log_device.specs.Bears.{Bears, IsLogsUpTo, AreStoresFew}
+use Rattle.log_device.specs.Bears.{Bears, IsLogsUpTo}
 use Rattle.log_device.specs.Leaves.{Leaves}
 use Rattle.log_device.specs.Whole.{IsWhole, IsBroken, log_of, books_of}
 use Rattle.log_device.proofs.Bearing.{bears_on}
 use Rattle.log_service.specs.Halves.{BeganWith, AreNumbersUpTo, HasFewStores, BearsFew, Stands, Fell, RecoversHeld}
 use Rattle.log_service.specs.Ties.{KeepsTies}
+use Rattle.log_service.proofs.Bounds.{lasts_low}
 
 -- where the stores' numbers were few they are so still
 abbrev pub KeepsFew : Books → Books → Type 0
 KeepsFew a b = (limit : ℕ) → AreStoresFew limit a → AreStoresFew limit b
 
-pub few_same : (a b : Books) → b.next_store ≡ a.next_store → b.stored ≡ a.stored → KeepsFew a b
-few_same a b next stored limit few r =
-    let before = few r in
-    let next_is = ap (λ (l : List ℕ). get_or l r 0) next in
-    let stored_is = ap (λ (l : List ℕ). get_or l r 0) stored in
-    omega (arith, before, next_is, stored_is)
+-- the number of a region's next store is not far above those found
+pub stores_low : (limit : ℕ) (b : Books) (h : History) (ts : List Held) → IsCounted b h → h.kept.staged ≡ [] → AreHeld ts h.kept.durable → AreStoresFew limit b → (r : ℕ) → get_or b.next_store r 0 ≤ limit + 1 + 2 ^ 58
+stores_low limit b h ts counted idle all few r = elim (cases_lt 0 (get_or b.next_store r 0)) as (λ _. get_or b.next_store r 0 ≤ limit + 1 + 2 ^ 58) [
+  | inl served ↦
+      let drawn = counted.drawn r served in
+      let none : lasts (lasts h.kept.first h.kept.durable) h.kept.staged r ≡ lasts h.kept.first h.kept.durable r = ap (λ (l : List Entry). lasts (lasts h.kept.first h.kept.durable) l r) idle in
+      let low = lasts_low h.kept ts r counted.orderly all in
+      let far = few_are_few limit b r few (omega (arith, drawn, none, low)) in
+      omega (arith, far)
+  | inr none ↦ omega (arith, none)
+]
 
 pub logs_up_to : (found : Files) (first : List ℕ) (h : History) (n : ℕ) → BeganWith found first h → AreNumbersUpTo n found → IsLogsUpTo n h.kept.base
 logs_up_to found first h n began up name kind there = up name (subst (λ (b : Files). IsPresent b name) began.base there)
@@ -60,7 +68,7 @@ module _ {D : Type 0} (found : Files) (first : List ℕ) (d : Device D) (disk : 
     last = s.whole.file.name.number;
     names = λ J now. subst (λ (b : Files). Bears b (books_of d).next_store s.whole.file.name.number J) s.began.base (s.whole.keeps.names J now);
     logs = λ n up. let low = s.whole.keeps.few n (logs_up_to found first h n s.began up) in omega (arith, low);
-    stores = λ n up r. let low = s.few n up r in omega (arith, low, s.whole.counted.stored r);
+    stores = λ n up r. let low = stores_low (n + 2 ^ 48) (books_of d) h popped s.whole.counted s.idle s.all (s.few n up) r in omega (arith, low);
   }
 
 -- the same entries are committed, besides those that were staged, and the store began alike
@@ -80,7 +88,7 @@ module _ {D : Type 0} (found : Files) (first : List ℕ) (popped : List Held) (d
     began = record { base = on.base ∙ t.began.base; first = λ r low high. on.first r ∙ t.began.first r low high };
     idle = on.staged;
     all = subst (AreHeld popped) (sym on.durable) with_staged;
-    few = λ n up. kept n (t.few n up);
+    few = λ n up. kept (n + 2 ^ 48) (t.few n up);
   }
 
   -- the names in each image that a call leaves
@@ -92,7 +100,7 @@ module _ {D : Type 0} (found : Files) (first : List ℕ) (popped : List Held) (d
         subst (λ (b : Files). Bears b (books_of d).next_store (t.whole.file.name.number + 1) J) t.began.base
         (at_end (Bears h.kept.base (books_of d).next_store (t.whole.file.name.number + 1)) n v w names J now);
     logs = λ m up. let low = t.whole.keeps.few m (logs_up_to found first h m t.began up) in omega (arith, low);
-    stores = λ m up r. let low = t.few m up r in omega (arith, low, t.whole.counted.stored r);
+    stores = λ m up r. let low = stores_low (m + 2 ^ 48) (books_of d) h popped t.whole.counted t.idle t.all (t.few m up) r in omega (arith, low);
   }
 
   module _ (sound : IsTrueDisk v) (n : ℕ) (over : Throughout (Leaves (books_of d).stored (books_of d).closed v.files h.kept.staged) n v w) where
@@ -114,7 +122,6 @@ module _ {D : Type 0} (found : Files) (first : List ℕ) (popped : List Held) (d
           let now = ap (λ (l : List ℕ). get_or l r 0) is in
           omega (arith, was, now, none))
           synced;
-      stored = λ r. let now = ap (λ (l : List ℕ). get_or l r 0) stored in omega (arith, t.whole.counted.stored r, now);
       left = λ J now.
           subst (λ (p : List ℕ × List ℕ). Leaves p.0 p.1 v.files h.kept.staged J) (λ i. (sym stored i, sym closed i))
           (at_end (Leaves (books_of d).stored (books_of d).closed v.files h.kept.staged) n v w over J now);
@@ -175,7 +182,7 @@ pub record TellsAlike {D : Type 0} (d e : Device D) : Type 0 where
   pub synced : (books_of e).synced ≡ (books_of d).synced
   pub stored : (books_of e).stored ≡ (books_of d).stored
   pub closed : (books_of e).closed ≡ (books_of d).closed
-  pub next_store : (books_of e).next_store ≡ (books_of d).next_store
+  pub few : KeepsFew (books_of d) (books_of e)
 
 -- a call that goes on, and then the closed logs that are wholly flushed go
 pub ties_archived : {D : Type 0} (d m e : Device D) (v u w : DiskView) → IsTrueDisk v → IsTrueDisk u → EachMoment d v u → ((h : History) → IsWhole d v h → (g : History) × IsWhole m u g × GoesOn h g)
@@ -189,7 +196,7 @@ ties_archived d m e v u w sound sound_then each on served_on few moments names a
       let g : History = record { kept = n.0.kept; logs = a.0; current = n.0.current } in (
         g,
         stands_of base first e w popped g (tied_on base first popped m e u w n.0 n.1 g record { base = refl; first = λ r. refl; durable = sym (ap (λ (l : List Entry). n.0.kept.durable ++ l) n.1.idle ∙ append-nil n.0.kept.durable); staged = n.1.idle } a.2
-            (few_same (books_of m) (books_of e) alike.next_store alike.stored))
+            alike.few)
             (λ c has flushed. ((a.1 c).0 has).1 flushed),
       ));
   fell = λ base first popped h s served broken.

@@ -32,6 +32,7 @@ pub record IsFresh {D : Type 0} (first : List ℕ) (d : Device D) : Type 0 where
   pub served : (r : ℕ) → 0 < r → r ≤ length first → IsServed (books_of d) r
   pub drawn : (r : ℕ) → 0 < r → r ≤ length first → get_or (books_of d).drawn r 0 ≡ base_of first r
   pub synced : (books_of d).synced ≡ (books_of d).drawn
+  pub stored : (books_of d).stored ≡ (books_of d).drawn
 
 -- its history has nothing in it
 pub record BeginsAs {D : Type 0} (found : Files) (first : List ℕ) (d : Device D) (disk : DiskView) (h : History) : Type 0 where
@@ -40,5 +41,5 @@ pub record BeginsAs {D : Type 0} (found : Files) (first : List ℕ) (d : Device 
   pub none_durable : h.kept.durable ≡ []
   pub none_staged : h.kept.staged ≡ []
   pub no_logs : h.logs ≡ []
-  -- the regions' next stores have numbers at most one above those found
+  -- the numbers of the regions' next stores are not far above those found
   pub few : HasFewStores found (books_of d)

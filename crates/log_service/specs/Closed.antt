@@ -27,6 +27,7 @@ pub record Commits (disk : DiskView) (broken : Bool) (r last : ℕ) (c : Content
   pub keeps_stored : (J : Files) (v : VersionKey) (p : Payload) → IsImageNow disk J → IsRecovered J r v p → v.number ≤ stored → IsStored J r v p
   pub keeps_closed : (J : Files) (name : Name) (es : List Entry) (e : Entry) → IsImageNow disk J → IsLastLog J name → IsLogFile J name es → Contains es e → e.region ≡ r → closed < e.number
   pub bound : stored ≤ last + length pushed
+  pub bound_synced : synced ≤ last + length pushed
 
 -- at each moment since the start too, whatever was synced then
 abbrev pub CommitsSince : ℕ → DiskView → ℕ → ℕ → Content → List Entry → Type 0

@@ -1,5 +1,5 @@
 -- How rolls and flushes end, by a device's numbers and its file, and by the words that a seat has seen.
-use Rattle.std.specs.Prelude.{◌≡◌, ℕ, ◌+◌, ◌<◌, ◌≤◌, get_or, Option}
+use Rattle.std.specs.Prelude.{◌≡◌, ℕ, ◌+◌, ◌<◌, ◌≤◌, List, get_or, Option, None}
 use Rattle.log_file.specs.Open.{OpenLog}
 use Rattle.log_berth.specs.declared.known.Known.{Known}
 use Rattle.log_ledger.specs.Books.{Books}
@@ -19,25 +19,27 @@ pub record HasNoEntry (file : OpenLog) (n : ℕ) : Type 0 where
   pub number : n ≡ file.name.number
   pub none : file.entries + file.staged ≡ 0
 
--- region r was flushed up to its last committed entry, whose number is above the stored one of before
-pub record IsFlushedTo (r n : ℕ) (old new : Books) : Type 0 where
+-- A family of region r was flushed up to the region's last committed entry. Where all families were, that is the stored number now, and
+-- above the one of before.
+pub record IsFlushedTo (r : ℕ) (family : Option (List ℕ)) (n : ℕ) (old new : Books) : Type 0 where
   pub last : get_or new.synced r 0 ≡ n
-  pub stored : get_or new.stored r 0 ≡ n
-  pub above : get_or old.stored r 0 < n
+  pub stored : family ≡ None → get_or new.stored r 0 ≡ n
+  pub above : family ≡ None → get_or old.stored r 0 < n
 
--- region r is flushed up to n, and has no committed entry above that
-pub record HasNoneAbove (r n : ℕ) (new : Books) : Type 0 where
-  pub last : get_or new.synced r 0 ≤ n
-  pub stored : get_or new.stored r 0 ≡ n
+-- A family of region r had nothing to flush up to the region's last committed entry. Where all families were asked for, that is the stored
+-- number now.
+pub record HasNoneAbove (r : ℕ) (family : Option (List ℕ)) (n : ℕ) (new : Books) : Type 0 where
+  pub last : get_or new.synced r 0 ≡ n
+  pub stored : family ≡ None → get_or new.stored r 0 ≡ n
 
 -- The same as the seat has seen it. The number is at or above the one asked for.
-pub record HasFlushed (regions region least n : ℕ) (old new : Known) : Type 0 where
+pub record HasFlushed (regions region : ℕ) (family : Option (List ℕ)) (least n : ℕ) (old new : Known) : Type 0 where
   pub upto : least ≤ n
-  pub stored : n ≡ seen_stored regions new region
-  pub above : seen_stored regions old region < n
+  pub stored : family ≡ None → n ≡ seen_stored regions new region
+  pub above : family ≡ None → seen_stored regions old region < n
   pub last : n ≡ seen_synced new region
 
-pub record HadNothing (regions region least n : ℕ) (new : Known) : Type 0 where
+pub record HadNothing (regions region : ℕ) (family : Option (List ℕ)) (least n : ℕ) (new : Known) : Type 0 where
   pub upto : least ≤ n
-  pub stored : n ≡ seen_stored regions new region
-  pub last : seen_synced new region ≤ n
+  pub stored : family ≡ None → n ≡ seen_stored regions new region
+  pub last : n ≡ seen_synced new region

@@ -1,18 +1,18 @@
 -- What the device's half has made of the loads that were popped.
-use Rattle.std.specs.Prelude.{◌≡◌, ℕ, ◌+◌, ◌<◌, ◌≤◌, List, [], ◌++◌, length, take, get_or, Bool, is_none}
+use Rattle.std.specs.Prelude.{◌≡◌, ℕ, ◌+◌, ◌^◌, ◌<◌, ◌≤◌, List, [], ◌++◌, length, take, get_or, Bool, is_none}
 use Rattle.log_model.specs.Entry.{Entry}
 use Rattle.log_model.specs.Files.{Files, IsPresent}
 use Rattle.log_model.specs.declared.name.Name.{Name}
-use Rattle.recovery.specs.Change.{RecoversSome}
-use Rattle.recovery.specs.Kept.{IsLike, IsOrderly, lasts}
+use Rattle.recovery_laws.specs.Change.{RecoversSome}
+use Rattle.recovery_laws.specs.Kept.{IsLike, IsOrderly, lasts}
 use Rattle.disk_images.specs.Crash.{DiskView, IsImageNow}
 use Rattle.append_ring.specs.Rules.{base_of}
 use Rattle.log_trucks.specs.Held.{Held, AreHeld}
 use Rattle.log_ledger.specs.History.{History}
-use Rattle.log_ledger.specs.Books.{Books}
+use Rattle.log_ledger.specs.Books.{Books, AreStoresFew}
 use Rattle.log_ledger.specs.Counted.{NoneMayGo}
 use Rattle.log_device.specs.declared.device.Device.{Device}
-use Rattle.log_device.specs.Bears.{Bears, AreStoresFew}
+use Rattle.log_device.specs.Bears.{Bears}
 use Rattle.log_device.specs.Leaves.{Leaves}
 use Rattle.log_device.specs.Whole.{IsWhole, log_of, books_of}
 
@@ -25,17 +25,18 @@ pub record BeganWith (found : Files) (lasts_then : List ℕ) (h : History) : Typ
 abbrev pub AreNumbersUpTo : ℕ → Files → Type 0
 AreNumbersUpTo n files = (m : Name) → IsPresent files m → m.number ≤ n
 
--- The number of a region's next store is above those of the files found by no more than the region's stored sequence id and one.
+-- The numbers of the regions' next stores are above those of the files found by no more than one, a sequence id that was flushed at the
+-- start, and the flushes that came off since then.
 abbrev pub HasFewStores : Files → Books → Type 0
-HasFewStores found b = (n : ℕ) → AreNumbersUpTo n found → AreStoresFew n b
+HasFewStores found b = (n : ℕ) → AreNumbersUpTo n found → AreStoresFew (n + 2 ^ 48) b
 
--- The names in each image go on from those found. There is at most a log for each entry, and a store for each sequence id that is flushed.
+-- The names in each image go on from those found. There is at most a log for each entry, and no more than 2^59 new stores of a region.
 pub record BearsFew (found : Files) (disk : DiskView) (h : History) : Type 0 where
   pub next_store : List ℕ
   pub last : ℕ
   pub names : (J : Files) → IsImageNow disk J → Bears found next_store last J
   pub logs : (n : ℕ) → AreNumbersUpTo n found → last ≤ n + 2 + length (h.kept.durable ++ h.kept.staged)
-  pub stores : (n : ℕ) → AreNumbersUpTo n found → (r : ℕ) → get_or next_store r 0 ≤ n + 1 + h.kept.flushed r []
+  pub stores : (n : ℕ) → AreNumbersUpTo n found → (r : ℕ) → get_or next_store r 0 ≤ n + 1 + 2 ^ 59
 
 -- a device that isn't broken: all these are committed, and no closed log is wholly flushed
 pub record Stands {D : Type 0} (base : Files) (first : List ℕ) (d : Device D) (disk : DiskView) (popped : List Held) (h : History) : Type 0 where
@@ -56,7 +57,6 @@ pub record Fell {D : Type 0} (base : Files) (first : List ℕ) (d : Device D) (d
   pub within : taken ≤ length popped
   pub all : AreHeld (take taken popped) (h.kept.durable ++ h.kept.staged)
   pub synced : (r : ℕ) → 0 < r → r ≤ length first → get_or (books_of d).synced r 0 ≤ lasts h.kept.first h.kept.durable r
-  pub stored : (r : ℕ) → get_or (books_of d).stored r 0 ≤ h.kept.flushed r []
   pub left : (J : Files) → IsImageNow disk J → Leaves (books_of d).stored (books_of d).closed files h.kept.staged J
   pub names : BearsFew base disk h
 

@@ -8,7 +8,7 @@ use Rattle.append_ring.specs.Rules.{Possible}
 use Rattle.append_ring.specs.Parts.{EachThere, IsDrained}
 use Rattle.log_trucks.specs.Held.{Held}
 use Rattle.log_service.specs.declared.consumer.ConsumerHalf.{ConsumerHalf}
-use Rattle.log_service.specs.declared.name.Naming.{Ghosts}
+use Rattle.log_service.specs.declared.name.ServiceNaming.{Ghosts}
 use Rattle.log_service.specs.declared.item.Item.{Item}
 use Rattle.log_service.specs.declared.item.Item.TheVariants as items
 use Rattle.log_service.specs.Items.{region_of, number_of, IsWholeItem, appended, asks, held_in}

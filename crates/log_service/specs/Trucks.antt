@@ -1,12 +1,16 @@
 -- Trucks in a row: what each keeps, and whether their numbers follow one another.
 use Rattle.std.specs.Prelude.{◌≡◌, ℕ, ◌+◌, ◌≤◌, ◌==◌, if◌then◌else◌, List, [], ◌∷◌, length}
-use Rattle.log_model.specs.Entry.{Entry, IsEntry, entry_frame}
-use Rattle.log_trucks.specs.Held.{Held}
+use Rattle.log_model.specs.Entry.{Entry}
+use Rattle.log_trucks.specs.Held.{Held, Haul, Carries}
 use Rattle.append_ring.specs.Rules.{base_of}
 
--- the bytes spell an entry of the truck's region and number
+-- a truck alone
+abbrev pub alone : Held → Haul
+alone t = record { region = t.region; number = t.number; bytes = t.bytes; families = t.families; behind = [] }
+
+-- the bytes spell an entry of the truck's region and number, with the families of its cells
 abbrev pub IsSpelled : Held → Type 0
-IsSpelled t = ∥ ((e : Entry) × IsEntry e × (t.bytes ≡ entry_frame e) × (e.region ≡ t.region) × (e.number ≡ t.number)) ∥₁
+IsSpelled t = ∥ ((e : Entry) × Carries (alone t) e) ∥₁
 
 abbrev pub AreSpelled : List Held → Type 0
 AreSpelled [] = Unit {0}

@@ -1,5 +1,6 @@
 //! A device's roll and flush, with the closed logs that may go behind them.
-ghost use Rattle.std.specs.Prelude.{◌≡◌, ◌+◌, ◌↔◌, ℕ, Some, Err, IsTrue, IfOk, OnOk, IsErrOf};
+ghost use Rattle.std.specs.Prelude.{◌≡◌, ◌+◌, ◌≤◌, ◌↔◌, ℕ, length, Some, Err, IsTrue, IfOk, IfSome, OnOk, IsErrOf};
+ghost use Rattle.std.specs.Option.{option_map};
 ghost use Rattle.log_file.specs.Open.{OpenLog};
 ghost use Rattle.log_ledger.specs.History.{History};
 ghost use Rattle.log_ledger.specs.Books.{IsServed};
@@ -41,24 +42,26 @@ pub(crate) fn roll_archived<D: Disk>(
     }
 }
 
-/// Flushes a region, and after Ok renames the closed logs that are wholly flushed.
+/// Flushes a family of a region (1 to 127 bytes), or all of them where none is given, and after Ok renames the closed logs that are wholly flushed.
 pub(crate) fn flush_archived<D: Disk>(
     device: &mut Device<D>,
     alloc: Global,
     region: u32,
+    family: Option<&[u8]>,
 ) -> Result<u64, DeviceFlush>
     requires unbroken { IsBroken device.old → ⊥ }
     requires served { IsServed (books_of device.old) region }
+    requires family { IfSome family (λ f. (1 ≤ length f.now) × (length f.now ≤ 127)) }
     requires whole { IsTrue D.told → ∥ ((h : History) × HasHistory D.Disk device.old h) ∥₁ }
 
     ensures ties { IsTrue D.told → KeepsTies device.old device.new (D.view (disk_of device.old)) (D.view (disk_of device.new)) }
     ensures numbers { KeepsNumbers device.old device.new }
-    ensures flushed { IfOk result (λ n. IsFlushedTo region n (books_of device.old) (books_of device.new)) }
-    ensures nothing { (n : ℕ) → result ≡ Err (DeviceFlush.Nothing n) → HasNoneAbove region n (books_of device.new) }
+    ensures flushed { IfOk result (λ n. IsFlushedTo region (option_map (λ f. f.now) family.entry) n (books_of device.old) (books_of device.new)) }
+    ensures nothing { (n : ℕ) → result ≡ Err (DeviceFlush.Nothing n) → HasNoneAbove region (option_map (λ f. f.now) family.entry) n (books_of device.new) }
     ensures broken { IsErrOf result DeviceFlush.WriteFault ↔ IsBroken device.new }
     ensures cause { CausesFault D.Disk device.old device.new (IsErrOf result DeviceFlush.WriteFault) }
 {
-    let number = match device.flush(alloc, region) {
+    let number = match device.flush(alloc, region, family) {
         Ok(number) => number,
         Err(refusal) => return Err(refusal),
     };

@@ -10,7 +10,7 @@ ghost use Rattle.log_service.specs.Closed.{CommitsRegion, CommitsSince, LeavesFi
 ghost use Rattle.log_service.specs.Moments.{GoesOnFrom, OthersSince};
 
 use crate::item::Item;
-use crate::name::Naming;
+use crate::name::ServiceNaming;
 use crate::seats::LogSeats;
 use crate::service::LogService;
 use crate::settling::{settle_items, settle_loads};
@@ -27,7 +27,7 @@ pub struct ServiceClosed<D> {
     pub broken: bool,
 }
 
-impl<D: Disk, N: Naming> LogService<D, N> {
+impl<D: Disk, N: ServiceNaming> LogService<D, N> {
     /// Moves and commits all that is left, unless the log is broken, and gives the disk, once all seats and passes are back. Of a broken
     /// log what is left is let go, and no disk call is made. It takes no memory.
     pub fn close<R: Wait>(
@@ -45,15 +45,15 @@ impl<D: Disk, N: Naming> LogService<D, N> {
         ensures saw { AllSaw seats.devices.seats result.synced result.broken }
         // Each image has each region's content at the start with the first of the entries pushed: all that the words tell of, and all of
         // them where the log isn't broken.
-        ensures commits { IsTrue D.told → (r : ℕ) (c : Content) (pushed : List Entry) → Pushed N.base passes r c pushed
+        ensures commits { IsTrue D.told → (r : ℕ) (c : Content) (pushed : List Entry) → Pushed N.begun passes r c pushed
             → ∥ CommitsRegion (D.view result.disk) result.broken self.regions result.synced N.lasts r c pushed ∥₁ }
         // So it was at each moment since the start.
-        ensures since { IsTrue D.told → (r : ℕ) (c : Content) (pushed : List Entry) → Pushed N.base passes r c pushed
+        ensures since { IsTrue D.told → (r : ℕ) (c : Content) (pushed : List Entry) → Pushed N.begun passes r c pushed
             → ∥ CommitsSince N.start (D.view result.disk) r (base_of N.lasts r) c pushed ∥₁ }
         // The images of the moments up to the start stay, and at each moment since then each other region recovered as it did.
         ensures goes_on { IsTrue D.told → ∥ GoesOnFrom N.start N.past (D.view result.disk) ∥₁ }
-        ensures others_since { IsTrue D.told → ∥ OthersSince N.start N.base self.regions (D.view result.disk) ∥₁ }
-        ensures leaves { IsTrue D.told → ∥ LeavesFiles N.base (D.view result.disk) result.broken self.regions ∥₁ }
+        ensures others_since { IsTrue D.told → ∥ OthersSince N.start N.begun self.regions (D.view result.disk) ∥₁ }
+        ensures leaves { IsTrue D.told → ∥ LeavesFiles N.begun (D.view result.disk) result.broken self.regions ∥₁ }
         ensures faults { N.faults ≤ D.faults result.disk }
         ensures cause { result.broken ≡ true → Rose N.faults (D.faults result.disk) }
     {

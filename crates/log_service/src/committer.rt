@@ -7,13 +7,14 @@ ghost use Rattle.log_ledger.specs.Books.{IsServed};
 ghost use Rattle.log_ledger.specs.History.{History};
 ghost use Rattle.log_device.specs.Whole.{IsBroken, IsIdle, disk_of, log_of, books_of};
 ghost use Rattle.log_service.specs.Loads.{all_trucks};
+ghost use Rattle.log_service.specs.Numbers.{AreStoredSynced};
 ghost use Rattle.append_ring.specs.Rules.{base_of};
 ghost use Rattle.log_service.specs.Trucks.{come_to};
 ghost use Rattle.log_service.specs.Halves.{Stands, Fell, RecoversHeld};
 ghost use Rattle.log_service.specs.Moments.{GoesOnFrom};
 
 use crate::load::Load;
-use crate::name::Naming;
+use crate::name::ServiceNaming;
 use append_ring::ConsumerPass;
 use disk_images::Disk;
 use log_berth::Ware;
@@ -21,7 +22,7 @@ use log_device::Device;
 use std::marker::PhantomData;
 
 /// The device, and the pass that pops loads.
-pub struct DeviceHalf<D: Disk, N: Naming> {
+pub struct DeviceHalf<D: Disk, N: ServiceNaming> {
     pub(crate) device: Device<D>,
     pub(crate) consumer: ConsumerPass<Load>,
     pub(crate) regions: u32,
@@ -34,19 +35,20 @@ pub struct DeviceHalf<D: Disk, N: Naming> {
     ghost drawn: { (IsBroken device → ⊥) → (r : ℕ) → 0 < r → r ≤ length N.lasts
         → get_or (books_of device).drawn r 0 ≡ come_to (base_of N.lasts) (all_trucks (view consumer.pass).popped) r },
     ghost synced: { (IsBroken device → ⊥) → (books_of device).synced ≡ (books_of device).drawn },
+    ghost stored: { AreStoredSynced (books_of device) },
     // While the device isn't broken, all that was popped is committed.
     ghost stands: { IsTrue D.told → (IsBroken device → ⊥)
-        → ∥ ((h : History) × Stands N.base N.lasts device (D.view (disk_of device)) (all_trucks (view consumer.pass).popped) h) ∥₁ },
+        → ∥ ((h : History) × Stands N.begun N.lasts device (D.view (disk_of device)) (all_trucks (view consumer.pass).popped) h) ∥₁ },
     ghost fell: { IsTrue D.told → IsBroken device → ∥ ((h : History)
-        × Fell N.base N.lasts device (D.view (disk_of device)) (all_trucks (view consumer.pass).popped) h) ∥₁ },
+        × Fell N.begun N.lasts device (D.view (disk_of device)) (all_trucks (view consumer.pass).popped) h) ∥₁ },
     // At each moment since the start each image recovers to the base with a beginning of what was popped.
-    ghost since: { IsTrue D.told → ∥ Since N.start (RecoversHeld N.base (all_trucks (view consumer.pass).popped)) (D.view (disk_of device)) ∥₁ },
+    ghost since: { IsTrue D.told → ∥ Since N.start (RecoversHeld N.begun (all_trucks (view consumer.pass).popped)) (D.view (disk_of device)) ∥₁ },
     // The images of the moments up to the start are those that were.
     ghost goes_on: { IsTrue D.told → ∥ GoesOnFrom N.start N.past (D.view (disk_of device)) ∥₁ },
     ghost cause: { ∥ HasCause N.faults (D.faults (disk_of device)) (IsBroken device) ∥₁ },
 }
 
-impl<D: Disk + Drop, N: Naming> Drop for DeviceHalf<D, N> {
+impl<D: Disk + Drop, N: ServiceNaming> Drop for DeviceHalf<D, N> {
     fn drop(self) {
         let DeviceHalf {
             device: _,
@@ -57,7 +59,7 @@ impl<D: Disk + Drop, N: Naming> Drop for DeviceHalf<D, N> {
     }
 }
 
-impl<D: Disk, N: Naming> Ware for DeviceHalf<D, N> {
+impl<D: Disk, N: ServiceNaming> Ware for DeviceHalf<D, N> {
     ghost use Rattle.log_device.specs.Whole.{books_of};
     ghost use Rattle.log_service.specs.Numbers.{told_numbers};
     ghost use Rattle.log_service.specs.Halves.{broken_of};
@@ -84,7 +86,7 @@ impl<D: Disk, N: Naming> Ware for DeviceHalf<D, N> {
     }
 }
 
-impl<D: Disk, N: Naming> DeviceHalf<D, N> {
+impl<D: Disk, N: ServiceNaming> DeviceHalf<D, N> {
     /// The synced number of a region.
     pub(crate) fn synced(&self, region: u32) -> u64
         requires { region ≤ 64 }

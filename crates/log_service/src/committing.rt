@@ -10,7 +10,7 @@ ghost use Rattle.log_service.specs.Moves.{WasFull};
 
 use crate::committer::DeviceHalf;
 use crate::load::Load;
-use crate::name::Naming;
+use crate::name::ServiceNaming;
 use crate::staging::commit_load;
 use append_ring::Ring;
 use disk_images::Disk;
@@ -28,7 +28,7 @@ pub enum Commit {
     WriteFault,
 }
 
-impl<D: Disk, N: Naming> DeviceHalf<D, N> {
+impl<D: Disk, N: ServiceNaming> DeviceHalf<D, N> {
     /// Pops a load, stages it and commits it. The disk's clock rises by four at most, however many entries the load has.
     pub(crate) fn commit_one<R: Wait>(&mut self, rt: &R, hand: &Ring<Load>) -> Commit
         requires hand { hand.now.id ≡ N.hand }

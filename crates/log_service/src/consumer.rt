@@ -11,13 +11,13 @@ ghost use Rattle.log_service.specs.Props.{spelled_prop, follow_prop};
 
 use crate::item::Item;
 use crate::load::Load;
-use crate::name::Naming;
+use crate::name::ServiceNaming;
 use append_ring::{ConsumerPass, RingPass, RingPasses};
 use log_berth::Ware;
 use std::marker::PhantomData;
 
 /// The pass that pops items, the load that their trucks go into, an item that doesn't fit, and the pass that pushes loads.
-pub struct ConsumerHalf<N: Naming> {
+pub struct ConsumerHalf<N: ServiceNaming> {
     pub(crate) consumer: ConsumerPass<Item>,
     pub(crate) load: Load,
     pub(crate) held: Option<Item>,
@@ -40,7 +40,7 @@ pub struct ConsumerHalf<N: Naming> {
     ghost follow: { FollowFrom N.lasts (appended (view consumer.pass).popped) } by { follow_prop (length N.lasts) (base_of N.lasts) (appended (view consumer.pass).popped) },
 }
 
-impl<N: Naming> Drop for ConsumerHalf<N> {
+impl<N: ServiceNaming> Drop for ConsumerHalf<N> {
     fn drop(self) {
         let ConsumerHalf {
             consumer: _,
@@ -55,7 +55,7 @@ impl<N: Naming> Drop for ConsumerHalf<N> {
     }
 }
 
-impl<N: Naming> Ware for ConsumerHalf<N> {
+impl<N: ServiceNaming> Ware for ConsumerHalf<N> {
     ghost use Rattle.std.specs.Prelude.{[], false};
 
     ghost numbers = { λ _. [] };
@@ -72,7 +72,7 @@ impl<N: Naming> Ware for ConsumerHalf<N> {
     }
 }
 
-impl<N: Naming> ConsumerHalf<N> {
+impl<N: ServiceNaming> ConsumerHalf<N> {
     /// Its passes. What it has besides is let go.
     pub(crate) fn into_passes(self) -> (ConsumerPass<Item>, RingPass<Load>, RingPasses<Load>)
         ensures { (result.0 ≡ self.consumer) × (result.1 ≡ self.hand) × (result.2 ≡ self.idle) }

@@ -11,7 +11,7 @@ use crate::consumer::ConsumerHalf;
 use crate::item::Item;
 use crate::load::Load;
 use crate::moving::Moves;
-use crate::name::Naming;
+use crate::name::ServiceNaming;
 use append_ring::Ring;
 use disk_images::Disk;
 use std::sync::Wait;
@@ -20,7 +20,7 @@ use std::thread;
 /// How many items a roll and a flush move at least, where there are so many.
 const MOST: u64 = 1024;
 
-impl<N: Naming> ConsumerHalf<N> {
+impl<N: ServiceNaming> ConsumerHalf<N> {
     /// Moves items until the ring was empty at one moment, or 1,024 were moved. A load that they don't fit is committed, and the moves go
     /// on. True where the device broke.
     pub(crate) fn move_all<D: Disk, R: Wait>(

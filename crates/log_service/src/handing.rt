@@ -8,7 +8,7 @@ use crate::consumer::ConsumerHalf;
 use crate::item::Item;
 use crate::load::Load;
 use crate::moving::{MOST, Moves};
-use crate::name::Naming;
+use crate::name::ServiceNaming;
 use crate::service::LogService;
 use append_ring::{Full, Ring};
 use disk_images::Disk;
@@ -22,7 +22,7 @@ const TRIES: u32 = 1000;
 /// In how many moves of 64 items the ring is emptied.
 const MOVES: u64 = 16;
 
-impl<N: Naming> ConsumerHalf<N> {
+impl<N: ServiceNaming> ConsumerHalf<N> {
     /// Pushes the load into the ring of loads, unless it has no truck or that ring is full. It takes no memory.
     pub(crate) fn push_load<R: Wait>(&mut self, rt: &R, hand: &Ring<Load>)
         requires hand { hand.now.id ≡ N.hand }
@@ -72,7 +72,7 @@ impl<N: Naming> ConsumerHalf<N> {
     }
 }
 
-impl<D: Disk, N: Naming> LogService<D, N> {
+impl<D: Disk, N: ServiceNaming> LogService<D, N> {
     /// Hands the load over where a sync request was moved since the last time or an item is held. False where another seat has the consumer's
     /// turn at each of many tries: it has it for a moment only, unless it has lost its processor.
     pub(crate) fn hand_load<R: Wait>(&self, rt: &R, seat: &mut BerthSeat, moves: bool) -> bool

@@ -2,7 +2,7 @@
 ghost use Rattle.std.specs.Prelude.{◌≡◌, ◌⊎◌, true};
 ghost use Rattle.log_service.specs.Places.{IsSeatOf, IsLaterSeat, FoundTaken, HadTurn, LastFoundTaken, LastHadTurn};
 
-use crate::name::Naming;
+use crate::name::ServiceNaming;
 use crate::seats::LogSeat;
 use crate::service::LogService;
 use crate::turning::{ConsumerTurn, SyncTurn};
@@ -20,7 +20,7 @@ pub enum Helped {
     Nothing,
 }
 
-impl<D: Disk, N: Naming> LogService<D, N> {
+impl<D: Disk, N: ServiceNaming> LogService<D, N> {
     /// Helps the log once: a consumer turn and a sync turn. Busy only where its last exchange on one of the two turn words found the word
     /// taken, Nothing only where both were found free or the log is broken, and Something only where it had one of the two turns.
     #[tactic(auto, using(crate::proofs::SeatLaws::later_trans))]

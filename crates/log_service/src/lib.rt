@@ -42,7 +42,7 @@ pub use helping::Helped;
 pub use item::Item;
 pub use load::Load;
 pub use moving::Moves;
-pub use name::Naming;
+pub use name::ServiceNaming;
 pub use seats::{LogSeat, LogSeats};
 pub use service::LogService;
 pub use starting::{Rings, ServiceParts, ServiceRefusal};

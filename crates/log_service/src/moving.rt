@@ -8,7 +8,7 @@ ghost use Rattle.log_service.specs.Moves.{bench_of, HasMoved, IsTooLong, WasEmpt
 use crate::consumer::ConsumerHalf;
 use crate::item::Item;
 use crate::load::{Load, len_of};
-use crate::name::Naming;
+use crate::name::ServiceNaming;
 use append_ring::Ring;
 use std::sync::Wait;
 
@@ -26,7 +26,7 @@ pub enum Moves {
     StageFull,
 }
 
-impl<N: Naming> ConsumerHalf<N> {
+impl<N: ServiceNaming> ConsumerHalf<N> {
     /// Takes an item out of the ring, where none is held. False where the ring was empty.
     fn refill<R: Wait>(&mut self, rt: &R, ring: &Ring<Item>) -> bool
         requires { ring.now.id ≡ N.ring }

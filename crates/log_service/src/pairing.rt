@@ -9,7 +9,7 @@ ghost use Rattle.log_service.specs.Places.{IsSeatOf, IsLaterSeat};
 
 use crate::committer::DeviceHalf;
 use crate::consumer::ConsumerHalf;
-use crate::name::Naming;
+use crate::name::ServiceNaming;
 use crate::raising::tell_all;
 use crate::seats::LogSeat;
 use crate::service::LogService;
@@ -18,7 +18,7 @@ use log_berth::Turn;
 use std::sync::Wait;
 use std::thread;
 
-impl<D: Disk, N: Naming> LogService<D, N> {
+impl<D: Disk, N: ServiceNaming> LogService<D, N> {
     /// Takes both turns, the consumer's first, which it gives back where the device's is taken. Then it sleeps until that turn has ended.
     #[tactic(auto, using(crate::proofs::SeatLaws::later_trans))]
     pub(crate) fn take_both<R: Wait>(

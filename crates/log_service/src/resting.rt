@@ -7,13 +7,13 @@ ghost use Rattle.log_service.specs.Halves.{broken_of};
 ghost use Rattle.log_service.specs.Numbers.{told_numbers};
 
 use crate::committer::DeviceHalf;
-use crate::name::Naming;
+use crate::name::ServiceNaming;
 use crate::service::LogService;
 use disk_images::Disk;
 use log_berth::{LogSeat as BerthSeat, Turn, Ware};
 use std::sync::Wait;
 
-impl<D: Disk, N: Naming> LogService<D, N> {
+impl<D: Disk, N: ServiceNaming> LogService<D, N> {
     /// How many turns of the device have ended, modulo 2^64.
     pub fn turns(&self) -> u64 {
         self.turns.now()

@@ -15,7 +15,7 @@ use crate::committer::DeviceHalf;
 use crate::consumer::ConsumerHalf;
 use crate::item::Item;
 use crate::load::Load;
-use crate::name::Naming;
+use crate::name::ServiceNaming;
 use crate::seats::LogSeat;
 use crate::service::LogService;
 use append_ring::Ring;
@@ -25,7 +25,7 @@ use log_device::{RollRefusal, Rolled};
 use std::alloc::Global;
 use std::sync::Wait;
 
-impl<D: Disk, N: Naming> DeviceHalf<D, N> {
+impl<D: Disk, N: ServiceNaming> DeviceHalf<D, N> {
     /// Rolls, and after Ok renames the closed logs that are wholly flushed.
     fn roll(&mut self, alloc: Global) -> Result<Rolled, RollRefusal>
         requires unbroken { IsBroken self.old.device → ⊥ }
@@ -45,7 +45,7 @@ impl<D: Disk, N: Naming> DeviceHalf<D, N> {
     }
 }
 
-impl<N: Naming> ConsumerHalf<N> {
+impl<N: ServiceNaming> ConsumerHalf<N> {
     /// Moves until the ring was empty at one moment or 1,024 items were moved, commits all that was moved, and rolls.
     fn roll<D: Disk, R: Wait>(
         &mut self,
@@ -80,7 +80,7 @@ impl<N: Naming> ConsumerHalf<N> {
     }
 }
 
-impl<D: Disk, N: Naming> LogService<D, N> {
+impl<D: Disk, N: ServiceNaming> LogService<D, N> {
     /// Takes both turns, moves what was pushed, up to 1,024 items, commits all that was moved, rolls, and after Ok renames the closed logs that
     /// are wholly flushed. After Ok, and where there is nothing to roll, the seat has seen each closed word at or above the synced words that it
     /// had seen before. `WriteFault` exactly where the seat has then seen the fault.

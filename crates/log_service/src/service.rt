@@ -12,7 +12,7 @@ use crate::consumer::ConsumerHalf;
 use crate::counting::{EventCount, Shows};
 use crate::item::Item;
 use crate::load::Load;
-use crate::name::Naming;
+use crate::name::ServiceNaming;
 use append_ring::{Full, Ring, RingPass};
 use disk_images::Disk;
 use log_berth::Berth;
@@ -21,7 +21,7 @@ use std::sync::Wait;
 
 /// The ring of items and that of loads, a berth for each half, and the count on which threads sleep. Contracts see which rings and berths
 /// they are.
-pub struct LogService<D: Disk, N: Naming> {
+pub struct LogService<D: Disk, N: ServiceNaming> {
     pub(crate) ring: Ring<Item>,
     pub(crate) hand: Ring<Load>,
     pub(crate) consumer: Berth<ConsumerHalf<N>>,
@@ -36,7 +36,7 @@ pub struct LogService<D: Disk, N: Naming> {
     pub(crate) shows: Shows,
 }
 
-impl<D: Disk, N: Naming> Model for LogService<D, N> {
+impl<D: Disk, N: ServiceNaming> Model for LogService<D, N> {
     ghost use Rattle.std.specs.Prelude.{◌≡◌, ◌*◌, ◌≤◌, length};
     ghost use Rattle.log_service.specs.Places.{Place};
 
@@ -56,7 +56,7 @@ impl<D: Disk, N: Naming> Model for LogService<D, N> {
         × (s.consumer.seats ≡ s.device.seats) };
 }
 
-impl<D: Disk, N: Naming> LogService<D, N> {
+impl<D: Disk, N: ServiceNaming> LogService<D, N> {
     /// Pushes an item under the pass of its region. An entry's number has to be one above the last one pushed under the pass. The item
     /// comes back only where the ring held 1,024 items at one moment of the call. It takes no memory.
     pub fn push<R: Wait>(

@@ -10,12 +10,12 @@ use crate::committer::DeviceHalf;
 use crate::consumer::ConsumerHalf;
 use crate::item::Item;
 use crate::load::Load;
-use crate::name::Naming;
+use crate::name::ServiceNaming;
 use append_ring::{Ring, RingPasses};
 use disk_images::Disk;
 use std::sync::Wait;
 
-impl<N: Naming> ConsumerHalf<N> {
+impl<N: ServiceNaming> ConsumerHalf<N> {
     /// Whether all that was pushed under these passes was popped and handed over.
     fn is_done(&self, ring: &Ring<Item>, passes: &RingPasses<Item>) -> bool
         requires there { EachThere (λ p. p.pass.table_id ≡ ring.now.id) passes.now }
@@ -29,7 +29,7 @@ impl<N: Naming> ConsumerHalf<N> {
     }
 }
 
-impl<D: Disk, N: Naming> DeviceHalf<D, N> {
+impl<D: Disk, N: ServiceNaming> DeviceHalf<D, N> {
     /// Whether all that was pushed under these passes was popped.
     fn is_done(&self, hand: &Ring<Load>, passes: &RingPasses<Load>) -> bool
         requires there { EachThere (λ p. p.pass.table_id ≡ hand.now.id) passes.now }
@@ -67,7 +67,7 @@ impl<D: Disk, N: Naming> DeviceHalf<D, N> {
 }
 
 /// Moves and hands over all items, and settles loads meanwhile.
-pub(crate) fn settle_items<D: Disk, N: Naming, R: Wait>(
+pub(crate) fn settle_items<D: Disk, N: ServiceNaming, R: Wait>(
     rt: &R,
     ring: &Ring<Item>,
     passes: &RingPasses<Item>,
@@ -95,7 +95,7 @@ pub(crate) fn settle_items<D: Disk, N: Naming, R: Wait>(
 }
 
 /// Settles all loads.
-pub(crate) fn settle_loads<D: Disk, N: Naming, R: Wait>(
+pub(crate) fn settle_loads<D: Disk, N: ServiceNaming, R: Wait>(
     rt: &R,
     hand: &Ring<Load>,
     passes: &RingPasses<Load>,

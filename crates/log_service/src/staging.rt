@@ -1,9 +1,10 @@
 //! A load is staged and committed.
-ghost use Rattle.std.specs.Prelude.{◌≡◌, ◌≤◌, ◌+◌, ◌↔◌, ℕ, List, [], length, Some, IsTrue, IfOk, OnOk, OnErr, IsErr};
+ghost use Rattle.std.specs.Prelude.{◌≡◌, ◌≤◌, ◌+◌, ◌↔◌, ℕ, List, [], length, get_or, Some, IsTrue, IfOk, OnOk, OnErr, IsErr};
 ghost use Rattle.log_model.specs.Entry.{Entry};
-ghost use Rattle.recovery.specs.Kept.{IsOrderly};
+ghost use Rattle.recovery_laws.specs.Kept.{IsOrderly};
 ghost use Rattle.log_file.specs.Open.{OpenLog};
 ghost use Rattle.log_trucks.specs.Held.{AreHeld};
+ghost use Rattle.log_ledger.specs.Books.{AreStoresFew};
 ghost use Rattle.log_ledger.specs.History.{History, committed_in};
 ghost use Rattle.log_device.specs.Bears.{Bears};
 ghost use Rattle.log_device.specs.Whole.{IsBroken, IsIdle, disk_of, log_of, books_of, HasHistory, EachImage, LeavesAt, CausesFault};
@@ -64,6 +65,8 @@ pub(crate) fn commit_load<D: Disk>(device: &mut Device<D>, load: Load) -> Result
     ensures drawn { (r : ℕ) → drawn_in (books_of device.new) r ≡ come_to (drawn_in (books_of device.old)) load r }
     ensures synced { OnOk result ((books_of device.new).synced ≡ (books_of device.new).drawn) }
     ensures faulty { OnErr result ((books_of device.new).synced ≡ (books_of device.old).synced) }
+    ensures few { (limit : ℕ) → AreStoresFew limit (books_of device.old) → AreStoresFew limit (books_of device.new) }
+    ensures rises { (r : ℕ) → get_or (books_of device.old).synced r 0 ≤ get_or (books_of device.new).synced r 0 }
     ensures told { ((books_of device.new).stored ≡ (books_of device.old).stored)
         × ((books_of device.new).closed ≡ (books_of device.old).closed) × ((books_of device.new).next_store ≡ (books_of device.old).next_store) }
     ensures broken { IsErr result ↔ IsBroken device.new }

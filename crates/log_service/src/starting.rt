@@ -16,7 +16,7 @@ use crate::consumer::ConsumerHalf;
 use crate::counting::{EventCount, Shows};
 use crate::item::Item;
 use crate::load::Load;
-use crate::name::Naming;
+use crate::name::ServiceNaming;
 use crate::seats::LogSeats;
 use crate::service::LogService;
 use append_ring::{ConsumerPass, NoMemory, Ring, RingParts, RingPass, RingPasses};
@@ -37,7 +37,7 @@ pub struct Rings {
 }
 
 /// A service, the passes of its regions and its seats.
-pub struct ServiceParts<D: Disk, N: Naming> {
+pub struct ServiceParts<D: Disk, N: ServiceNaming> {
     pub service: LogService<D, N>,
     pub passes: RingPasses<Item>,
     pub seats: LogSeats,
@@ -66,7 +66,7 @@ impl Rings {
 }
 
 /// The consumer's half at the start.
-fn first_half<N: Naming>(
+fn first_half<N: ServiceNaming>(
     consumer: ConsumerPass<Item>,
     hand: RingPass<Load>,
     idle: RingPasses<Load>,
@@ -89,7 +89,7 @@ fn first_half<N: Naming>(
 }
 
 /// The device's half at the start.
-fn second_half<D: Disk, N: Naming>(
+fn second_half<D: Disk, N: ServiceNaming>(
     device: Device<D>,
     consumer: ConsumerPass<Load>,
     regions: u32,
@@ -98,7 +98,7 @@ fn second_half<D: Disk, N: Naming>(
     requires hand { consumer.pass.table_id ≡ N.hand }
     requires consumer { ((view consumer.pass).lasts ≡ N.lasts) × ((view consumer.pass).popped ≡ []) }
     requires device { IsFresh N.lasts device }
-    requires whole { IsTrue D.told → ∥ ((h : History) × BeginsAs N.base N.lasts device (D.view (disk_of device)) h) ∥₁ }
+    requires whole { IsTrue D.told → ∥ ((h : History) × BeginsAs N.begun N.lasts device (D.view (disk_of device)) h) ∥₁ }
     requires start { IsTrue D.told → N.start ≡ (D.view (disk_of device)).clock }
     requires past { IsTrue D.told → (t : ℕ) (J : Files) → t ≤ N.start
         → ((D.view (disk_of device)).image t J → N.past t J) × (N.past t J → (D.view (disk_of device)).image t J) }
@@ -113,7 +113,7 @@ fn second_half<D: Disk, N: Naming>(
     }
 }
 
-impl<D: Disk, N: Naming> LogService<D, N> {
+impl<D: Disk, N: ServiceNaming> LogService<D, N> {
     /// The second part of a start, over a device into which nothing was staged since it was started with the regions 1 to `regions`,
     /// whose numbers are those of the rings. Each seat has seen what the device tells. It refuses where it is out of memory.
     pub fn start(
@@ -130,7 +130,7 @@ impl<D: Disk, N: Naming> LogService<D, N> {
         requires loads { (rings.loads.ring.capacity ≡ 2)
             × AreParts N.hand N.lasts rings.loads.ring.id rings.loads.consumer.pass.table_id (view rings.loads.consumer.pass) rings.loads.passes }
         requires device { IsFresh N.lasts device }
-        requires whole { IsTrue D.told → ∥ ((h : History) × BeginsAs N.base N.lasts device (D.view (disk_of device)) h) ∥₁ }
+        requires whole { IsTrue D.told → ∥ ((h : History) × BeginsAs N.begun N.lasts device (D.view (disk_of device)) h) ∥₁ }
         requires start { IsTrue D.told → N.start ≡ (D.view (disk_of device)).clock }
         requires past { IsTrue D.told → (t : ℕ) (J : Files) → t ≤ N.start
             → ((D.view (disk_of device)).image t J → N.past t J) × (N.past t J → (D.view (disk_of device)).image t J) }

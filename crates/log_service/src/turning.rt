@@ -15,7 +15,7 @@ ghost use Rattle.log_service.specs.Turns.{HasMovedItems, FoundEmpty, FoundTooLon
 use crate::committer::DeviceHalf;
 use crate::committing::Commit;
 use crate::moving::Moves;
-use crate::name::Naming;
+use crate::name::ServiceNaming;
 use crate::raising::raise_all;
 use crate::seats::LogSeat;
 use crate::service::LogService;
@@ -53,7 +53,7 @@ pub enum SyncTurn {
     Broken,
 }
 
-impl<D: Disk, N: Naming> LogService<D, N> {
+impl<D: Disk, N: ServiceNaming> LogService<D, N> {
     /// Moves up to 64 items: first the held one, then popped ones in the ring's order. Each append goes into the load, and each sync
     /// request is noted. `Moved` says how many. Where the next item doesn't fit the load it is kept, and the answer is `StageFull` if none was
     /// moved. Broken exactly where the fault word was found set. It takes no memory.

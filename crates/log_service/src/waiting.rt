@@ -3,7 +3,7 @@ ghost use Rattle.std.specs.Prelude.{◌≡◌, ◌≤◌, ◌<◌, ◌-◌, true
 ghost use Rattle.log_service.specs.Numbers.{seen_synced};
 ghost use Rattle.log_service.specs.Places.{IsSeatOf, IsLaterSeat};
 
-use crate::name::Naming;
+use crate::name::ServiceNaming;
 use crate::seats::LogSeat;
 use crate::service::LogService;
 use crate::turning::SyncTurn;
@@ -20,7 +20,7 @@ pub enum Waited {
     Broken,
 }
 
-impl<D: Disk, N: Naming> LogService<D, N> {
+impl<D: Disk, N: ServiceNaming> LogService<D, N> {
     /// Loads the fault word, and then the region's synced word.
     fn look(&self, seat: &mut LogSeat, region: u32) -> (bool, u64)
         requires seat { IsSeatOf self.now seat.old }

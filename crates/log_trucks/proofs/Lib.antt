@@ -1,1 +1,3 @@
-pub mod TakenCells
+mod TakenCells
+mod KeptTrucks
+mod Walked

@@ -1,13 +1,18 @@
 //! A chain of trucks.
 
-ghost use Rattle.std.specs.Prelude.{◌≡◌, ◌++◌, [], ◌∷◌, ◌↔◌, List, reverse, IsTrue, IfOk, IfSome, MatchOption, OnOk};
-ghost use Rattle.std.specs.List.{flat_map};
+ghost use Rattle.std.specs.Prelude.{◌≡◌, ◌≤◌, ◌++◌, ◌&&◌, [], ◌∷◌, ◌↔◌, List, filter, reverse, IsTrue, IfOk, IfSome, MatchOption, OnOk};
+ghost use Rattle.std.specs.List.{flat_map, list_any};
 ghost use Rattle.cell_model.specs.Merge.{at_number};
 ghost use Rattle.log_model.specs.Entry.{Entry};
-ghost use Rattle.log_trucks.specs.Held.{AreHeld, held_of};
+ghost use Rattle.log_model.specs.Frame.{StartsCells};
+ghost use Rattle.entry_frame.specs.Body.{form_of_kind};
+ghost use Rattle.seq_accounting.specs.Accounts.{is_for};
+ghost use Rattle.log_trucks.specs.Held.{AreHeld, IsHeld, held_of};
+ghost use Rattle.log_trucks.specs.Unflushed.{is_unflushed, has_unflushed, unflushed_cells};
 
 use crate::truck::Truck;
-use kv_cell::{Cell, NoMemory, NumberedCells};
+use kv_cell::{Cell, Form, NoMemory, NumberedCells, decode_in};
+use seq_accounting::Accounting;
 use std::alloc::Global;
 use std::marker::Model;
 
@@ -83,27 +88,119 @@ impl Chain {
         self.first = None;
     }
 
-    /// The cells of the trucks, each with its truck's number, in the order of the chain.
-    pub fn cells(&self, alloc: Global) -> Result<NumberedCells, NoMemory>
-        ensures { (es : List Entry) → AreHeld self.now es → IfOk result (λ cells. cells ≡ flat_map (λ e. at_number e.number e.batch.cells) es) }
+    /// The cells of the trucks that aren't flushed, each with its truck's number, in the order of the chain: those of one
+    /// family, or all where it is empty. The accounting says what is flushed of each family of the region.
+    pub fn cells(
+        &self,
+        alloc: Global,
+        accounting: &Accounting,
+        region: u32,
+        family: &[u8],
+    ) -> Result<NumberedCells, NoMemory>
+        requires { region ≤ 64 }
+        ensures { (es : List Entry) → AreHeld self.now es → IfOk result
+            (λ cells. cells ≡ flat_map (λ e. at_number e.number (unflushed_cells accounting.now region family.now e)) es) }
     {
         let mut cells = NumberedCells::new(alloc);
         let mut link = &self.first;
         while let Some(truck) = link {
             let batch = truck.bytes.to_batch(alloc)?;
-            append(&mut cells, truck.number, batch.into_vec())?;
+            append(
+                &mut cells,
+                accounting,
+                region,
+                family,
+                truck.number,
+                batch.into_vec(),
+            )?;
             link = &truck.next;
         }
         Ok(cells)
     }
+
+    /// Lets the trucks go of which each cell is flushed; the others stay, in order. It takes no memory.
+    pub fn keep_unflushed(&mut self, accounting: &Accounting, region: u32)
+        requires { region ≤ 64 }
+        ensures { (es : List Entry) → AreHeld self.old es → AreHeld self.new (filter (has_unflushed accounting.now region) es) }
+    {
+        let mut kept = Chain::new();
+        while let Some(truck) = self.pop() {
+            if is_left(&truck, accounting, region) {
+                kept.push(truck);
+            }
+        }
+        *self = kept.reversed();
+    }
 }
 
-/// Appends the cells of one edit.
-fn append(all: &mut NumberedCells, number: u64, cells: Vec<Cell>) -> Result<(), NoMemory>
-    ensures { OnOk result (all.new ≡ all.old ++ at_number number cells.items) }
+/// Appends the cells of one edit that aren't flushed.
+fn append(
+    all: &mut NumberedCells,
+    accounting: &Accounting,
+    region: u32,
+    family: &[u8],
+    number: u64,
+    cells: Vec<Cell>,
+) -> Result<(), NoMemory>
+    requires { region ≤ 64 }
+    ensures { OnOk result (all.new ≡ all.old ++ at_number number
+        (filter (λ c. is_for family.now c.family && is_unflushed accounting.now region number c) cells.items)) }
 {
     for cell in cells {
-        all.push(number, cell)?;
+        let is_for = family.is_empty() || family == cell.family.as_slice();
+        if is_for && number > accounting.flushed(region, cell.family.as_slice()) {
+            all.push(number, cell)?;
+        }
     }
     Ok(())
+}
+
+/// Whether a cell of the truck's entry isn't flushed. It takes no memory.
+fn is_left(truck: &Truck, accounting: &Accounting, region: u32) -> bool
+    requires { region ≤ 64 }
+    ensures { (e : Entry) → IsHeld (held_of truck.now) e → result ≡ has_unflushed accounting.now region e }
+{
+    let entry = truck.bytes.entry();
+    let form = form_of(entry.kind);
+    any_left(
+        accounting,
+        region,
+        truck.number,
+        form,
+        entry.cells,
+        entry.count,
+    )
+}
+
+/// Whether one of as many cells as stand in the bytes, of an entry of this number, isn't flushed.
+fn any_left(
+    accounting: &Accounting,
+    region: u32,
+    number: u64,
+    form: Form,
+    bytes: &[u8],
+    count: u32,
+) -> bool
+    requires region { region ≤ 64 }
+    requires cells { StartsCells form bytes.now count [] }
+    ensures { (s : StartsCells form bytes.now count []) → result ≡ list_any (is_unflushed accounting.now region number) s.cells }
+{
+    let mut rest = bytes;
+    for _ in 0..count {
+        let Ok((cell, len)) = decode_in(form, rest) else {
+            unreachable!();
+        };
+        if number > accounting.flushed(region, cell.family) {
+            return true;
+        }
+        rest = &rest[len..];
+    }
+    false
+}
+
+/// How the cells of an entry in a frame of this kind are spelled.
+fn form_of(kind: u8) -> Form
+    ensures { result ≡ form_of_kind kind }
+{
+    if kind == 3 { Form::Tagged } else { Form::Plain }
 }

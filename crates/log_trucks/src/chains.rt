@@ -1,14 +1,16 @@
 //! A chain of trucks for each region.
 
-ghost use Rattle.std.specs.Prelude.{◌≡◌, ◌≤◌, [], ◌∷◌, ◌↔◌, List, IsTrue, IfOk, replicate, slice_index_or, slice_set, length};
+ghost use Rattle.std.specs.Prelude.{◌≡◌, ◌≤◌, [], ◌∷◌, ◌↔◌, List, IsTrue, IfOk, filter, replicate, slice_index_or, slice_set, length};
 ghost use Rattle.std.specs.List.{flat_map};
 ghost use Rattle.cell_model.specs.Merge.{at_number};
 ghost use Rattle.log_model.specs.Entry.{Entry};
-ghost use Rattle.log_trucks.specs.Held.{Held, AreHeld, held_of};
+ghost use Rattle.log_trucks.specs.Held.{Held, AreHeld, IsSetTo, held_of};
+ghost use Rattle.log_trucks.specs.Unflushed.{has_unflushed, unflushed_cells};
 
 use crate::chain::Chain;
 use crate::truck::Truck;
 use kv_cell::{NoMemory, NumberedCells};
+use seq_accounting::Accounting;
 use std::alloc::Global;
 use std::marker::Model;
 
@@ -66,16 +68,31 @@ impl Chains {
         }
     }
 
-    /// The cells of the region's trucks, newest truck first and each truck's cells in the order of its batch, each with
-    /// its truck's number.
-    pub fn cells(&self, alloc: Global, region: u32) -> Result<NumberedCells, NoMemory>
-        ensures { (es : List Entry) → AreHeld (slice_index_or self.now region []) es
-            → IfOk result (λ cells. cells ≡ flat_map (λ e. at_number e.number e.batch.cells) es) }
+    /// The cells of the region's trucks that aren't flushed, newest truck first and each truck's cells in the order of its
+    /// batch, each with its truck's number: those of one family, or all where it is empty. The accounting says what is
+    /// flushed of each family of the region.
+    pub fn cells(
+        &self,
+        alloc: Global,
+        accounting: &Accounting,
+        region: u32,
+        family: &[u8],
+    ) -> Result<NumberedCells, NoMemory>
+        requires { region ≤ 64 }
+        ensures { (es : List Entry) → AreHeld (slice_index_or self.now region []) es → IfOk result
+            (λ cells. cells ≡ flat_map (λ e. at_number e.number (unflushed_cells accounting.now region family.now e)) es) }
     {
-        match self.chains.get(region as usize) {
-            Some(chain) => chain.cells(alloc),
-            None => Ok(NumberedCells::new(alloc)),
-        }
+        self.chains[region as usize].cells(alloc, accounting, region, family)
+    }
+
+    /// Lets the region's trucks go of which each cell is flushed; the others stay, in order. It takes no memory.
+    pub fn keep_unflushed(&mut self, accounting: &Accounting, region: u32)
+        requires { region ≤ 64 }
+        ensures kept { IsSetTo self.old self.new region (λ held. (es : List Entry) → AreHeld (slice_index_or self.old region []) es
+            → AreHeld held (filter (has_unflushed accounting.now region) es)) }
+        ensures places { length self.new ≡ 65 }
+    {
+        self.chains[region as usize].keep_unflushed(accounting, region);
     }
 
     /// Lets the region's trucks go, one after the other.

@@ -1,11 +1,14 @@
 //! A truck.
 
+ghost use Rattle.std.specs.Prelude.{◌≡◌, []};
+
 use entry_frame::EntryBytes;
+use seq_accounting::FamilyMarks;
 use std::fmt;
 use std::marker::Model;
 
-/// An entry on its way: its region, its number there, its bytes, and the next truck of a chain. Contracts see region,
-/// number and bytes, and the list of what stands behind it.
+/// An entry on its way: its region, its number there, its bytes, the memory for noting the families of its cells, and the
+/// next truck of a chain. Contracts see region, number, bytes and families, and the list of what stands behind it.
 ///
 /// A truck is let go by a loop, which takes those behind it one after the other: it may stand before a million others.
 pub struct Truck {
@@ -14,6 +17,8 @@ pub struct Truck {
     /// 1 to 2^48-1.
     pub number: u64,
     pub bytes: EntryBytes,
+    /// The families of its cells, until the entry is noted; then none.
+    pub marks: FamilyMarks,
     pub next: Option<Box<Truck>>,
 }
 
@@ -26,11 +31,21 @@ impl Model for Truck {
 
     ghost use Rattle.log_trucks.specs.Links.{linked};
 
-    ghost view = { λ t. record { region = t.region; number = t.number; bytes = t.bytes; behind = linked t.next } };
+    ghost view = { λ t. record { region = t.region; number = t.number; bytes = t.bytes; families = t.marks; behind = linked t.next } };
 
     ghost size = { λ t. length t.behind };
 
     ghost size_decreases = { λ a h. Prim.grind arith };
+}
+
+impl Truck {
+    /// Its marks, which are gone from it.
+    pub fn take_marks(&mut self) -> FamilyMarks
+        ensures taken { result ≡ self.old.families }
+        ensures left { self.new ≡ record self.old { families = [] } }
+    {
+        std::mem::replace(&mut self.marks, FamilyMarks::none())
+    }
 }
 
 impl Drop for Truck {
@@ -40,6 +55,7 @@ impl Drop for Truck {
                 region: _,
                 number: _,
                 bytes: _,
+                marks: _,
                 next,
             } = self;
             match next {

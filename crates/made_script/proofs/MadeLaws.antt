@@ -19,7 +19,7 @@ unfolding made_call
 made_among n h i x some =
     let w = within n (x / 2 ^ 33) some in
     either_call (IsAmong n) (i % 8 == 0) _ _ w
-    (either_call (IsAmong n) (i % 64 == 31) _ _ w
+    (either_call (IsAmong n) (i % 64 == 31) _ _ (w.0, w.1, tt)
     (either_call (IsAmong n) ((h == 1) && (i % 256 == 129)) _ _ tt w))
 
 calls_among : (n h k i x : ℕ) → 1 ≤ n → AllByRecursion (IsAmong n) (made_calls n h k i x)

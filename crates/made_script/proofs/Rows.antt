@@ -1,5 +1,5 @@
 -- The numbers of a load from 0, its first two calls, and the kinds of a handler's calls.
-use Rattle.std.proofs.Common.{◌≡◌, true, [], ◌∷◌, refl}
+use Rattle.std.proofs.Common.{◌≡◌, true, [], ◌∷◌, None, refl}
 use Rattle.cell_model.specs.Batch.{batch_of}
 use Rattle.region_model.specs.Calls.{Put, Scan, Raw, Flush, Roll}
 use Rattle.made_script.specs.declared.options.LoadOptions.{LoadOptions}
@@ -46,7 +46,7 @@ unfolding made_call
 last_byte_scans = refl
 
 -- of each 64 calls the 31st flushes, and of each 256 the 129th of handler 1 rolls
-thirty_first_flushes : made_call 3 2 95 18446744073709551615 ≡ Flush 2
+thirty_first_flushes : made_call 3 2 95 18446744073709551615 ≡ Flush 2 None
 unfolding made_call
 thirty_first_flushes = refl
 

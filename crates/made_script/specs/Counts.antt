@@ -16,7 +16,7 @@ is_scan (Scan view region from to) = true
 is_scan _ = false
 
 abbrev pub is_flush : Call → Bool
-is_flush (Flush region) = true
+is_flush (Flush region family) = true
 is_flush _ = false
 
 abbrev pub is_roll : Call → Bool

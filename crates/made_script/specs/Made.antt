@@ -1,5 +1,5 @@
 -- The script that a load is made of, from a number.
-use Rattle.std.specs.Prelude.{ℕ, zero, suc, ◌+◌, ◌-◌, ◌*◌, ◌/◌, ◌%◌, ◌^◌, ◌≤◌, ◌<◌, ◌==◌, ◌&&◌, if◌then◌else◌, replicate, true, List, [], ◌∷◌}
+use Rattle.std.specs.Prelude.{ℕ, zero, suc, ◌+◌, ◌-◌, ◌*◌, ◌/◌, ◌%◌, ◌^◌, ◌≤◌, ◌<◌, ◌==◌, ◌&&◌, if◌then◌else◌, replicate, true, List, [], ◌∷◌, None}
 use Rattle.byteorder.specs.Endian.{big_bytes}
 use Rattle.cell_model.specs.Batch.{batch_of}
 use Rattle.cell_model.specs.Cell.{Cell}
@@ -41,7 +41,7 @@ made_cell i x = record { row = big_bytes 8 x; family = 102 ∷ []; qualifier = 1
 unfoldable pub made_call : (regions h i x : ℕ) → Call
 made_call regions h i x =
     if i % 8 == 0 then Scan Raw (region_for regions x) (from_row x) (to_row x)
-    else (if i % 64 == 31 then Flush (region_for regions x)
+    else (if i % 64 == 31 then Flush (region_for regions x) None
     else (if (h == 1) && (i % 256 == 129) then Roll
     else Put (region_for regions x) true (batch_of (made_cell i x ∷ []))))
 

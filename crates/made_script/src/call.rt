@@ -28,7 +28,10 @@ pub fn make_call(
         return make_scan(alloc, region, x);
     }
     if call % 64 == 31 {
-        return Ok(Call::Flush { region });
+        return Ok(Call::Flush {
+            region,
+            family: None,
+        });
     }
     if handler == 1 && call % 256 == 129 {
         return Ok(Call::Roll);

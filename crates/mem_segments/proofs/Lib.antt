@@ -7,3 +7,4 @@ pub mod WalkSteps
 pub mod Ranges
 pub mod Resuming
 pub mod Permuting
+pub mod Prefixes

@@ -1,4 +1,5 @@
 pub mod Codes
 pub mod Draft
 pub mod Layers
+pub mod Prefix
 pub mod Walk

@@ -4,6 +4,7 @@ ghost use Rattle.std.specs.Prelude.{◌≡◌, IfOk};
 ghost use Rattle.std.specs.Ordering.{is_le};
 ghost use Rattle.cell_model.specs.Cell.{IsCell};
 ghost use Rattle.cell_model.specs.Order.{numbered_cmp};
+ghost use Rattle.mem_segments.specs.Prefix.{IsPrefix};
 ghost use Rattle.mem_segments.specs.Walk.{is_before};
 
 use kv_cell::{Cell, NoMemory, compare_numbered};
@@ -13,19 +14,24 @@ use std::marker::Model;
 use std::sync::Arc;
 
 /// A cell with the number of its edit. Contracts see the pair, number first.
+// The word tells most rows apart without a look at a cell.
 #[derive(Debug, Drop)]
 pub struct Row {
     number: u64,
+    pub(crate) prefix: u64,
     pub(crate) cell: Arc<Cell, Global>,
 }
 
 impl Model for Row {
     ghost use Rattle.std.specs.Arc.{arc_value};
     ghost use Rattle.cell_model.specs.Order.{NumberedCell};
+    ghost use Rattle.mem_segments.specs.Prefix.{IsPrefix};
 
     ghost Value = { NumberedCell };
 
     ghost view = { λ r. (r.number, arc_value r.cell) };
+
+    ghost invariant = { λ r. IsPrefix r.prefix (arc_value r.cell).row };
 }
 
 impl Row {
@@ -34,9 +40,10 @@ impl Row {
         ensures row { IfOk result (λ row. row ≡ (number, cell)) }
         ensures within { IsCell cell }
     {
-        let _within = &cell.row;
+        let prefix = prefix_of(cell.row.as_slice());
         Ok(Row {
             number,
+            prefix,
             cell: Arc::new(alloc, cell)?,
         })
     }
@@ -47,6 +54,7 @@ impl Row {
     {
         Ok(Row {
             number: self.number,
+            prefix: self.prefix,
             cell: Arc::try_clone(&self.cell)?,
         })
     }
@@ -76,7 +84,15 @@ impl Row {
     pub fn compare(&self, other: &Row) -> Ordering
         ensures { result ≡ numbered_cmp self.now other.now }
     {
-        compare_numbered(self.cell(), self.number(), other.cell(), other.number())
+        match self.prefix.cmp(&other.prefix) {
+            Ordering::Equal => compare_numbered(
+                self.cell(),
+                self.number(),
+                other.cell(),
+                other.number(),
+            ),
+            decided => decided,
+        }
     }
 
     /// Whether it comes before the other one, or ties with it.
@@ -92,4 +108,16 @@ impl Row {
     {
         self.cell().row.as_slice().cmp(bound).is_lt()
     }
+}
+
+/// The first eight bytes as a number, with zeros behind the last where there are fewer.
+fn prefix_of(row: &[u8]) -> u64
+    ensures { IsPrefix result row.now }
+{
+    let mut word: u64 = 0;
+    for place in 0..8usize {
+        let byte = row.get(place).copied().unwrap_or(0);
+        word = word * 256 + u64::from(byte);
+    }
+    word
 }

@@ -42,7 +42,7 @@ fn sort_keys<'a>(alloc: Global, rows: &'a [Row]) -> Result<Vec<SortKey<'a>>, NoM
     let mut keys = Vec::with_capacity(alloc, rows.len())?;
     for row in rows {
         keys.push(SortKey {
-            prefix: prefix_of(row.cell().row.as_slice()),
+            prefix: row.prefix,
             row,
         })?;
     }
@@ -58,13 +58,4 @@ fn share_keyed(alloc: Global, keys: &[SortKey<'_>]) -> Result<Vec<Row>, NoMemory
         rows.push(key.row.share()?)?;
     }
     Ok(rows)
-}
-
-/// The first eight bytes as a number, with zeros behind the last where there are fewer.
-fn prefix_of(row: &[u8]) -> u64 {
-    let mut bytes = [0u8; 8];
-    for (place, byte) in bytes.iter_mut().zip(row) {
-        *place = *byte;
-    }
-    u64::from_be_bytes(bytes)
 }

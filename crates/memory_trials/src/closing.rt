@@ -1,7 +1,7 @@
 //! A server whose close may be refused memory.
 
 use crate::bench::{Streams, empty_disk, recover};
-use command_ends::read_script;
+use command_base::read_script;
 use disk_fakes::{SafeDisk, SafeSource};
 use kv_cell::NoMemory;
 use load_run::Gate;

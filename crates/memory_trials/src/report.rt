@@ -1,6 +1,6 @@
 //! A plain judge of the reports of one script, of which calls may have been refused memory.
 
-/// Handler 1 puts two cells into region 1, scans and flushes it; handler 2 puts one into region 2, rolls, and scans and gets that.
+/// Handler 1 puts two cells into region 1, scans it and flushes their family; handler 2 puts one into region 2, rolls, and scans and gets that.
 pub(crate) const SCRIPT: &str = "time 1700000000000
 regions 2
 handlers 2
@@ -10,7 +10,7 @@ cell user1 info mail now put ann@x
 put 2 2 sync 1
 cell k1 f q 5 put v
 scan 1 1 - -
-flush 1 1
+flush 1 1 info
 roll 2
 scan 2 2 k1 k2
 get 2 2 k1 1

@@ -5,15 +5,15 @@ use Rattle.log_model.specs.declared.name.NameKind.TheVariants as kinds
 use Rattle.log_model.specs.Files.{Files, content, IsSound}
 use Rattle.disk_images.specs.Crash.{DiskView, IsImageNow}
 use Rattle.disk_images.proofs.Moments.{at_end}
-use Rattle.recovery.specs.Alike.{AllAlike, SameButOld}
-use Rattle.recovery.proofs.Turns.{but_old, in_turn}
+use Rattle.recovery_laws.specs.Alike.{AllAlike, SameButOld}
+use Rattle.recovery_laws.proofs.Turns.{but_old, in_turn}
 use Rattle.wal_split.specs.Moments.{During, WasOrAlike}
 use Rattle.region_replay.specs.Cleared.{IsReady}
 use Rattle.region_replay.specs.Ready.{Found}
 use Rattle.region_replay.specs.Opened.{AreOf}
 use Rattle.recover_command.specs.Lines.{lines_from}
 use Rattle.script_model.specs.Outputs.{recover_text}
-use Rattle.command_ends.specs.Invocation.{invocation}
+use Rattle.command_base.specs.Invocation.{invocation}
 use Rattle.recover_command.specs.Recovered.{AreRecoveredLines, RecoverDone}
 
 -- ---- images

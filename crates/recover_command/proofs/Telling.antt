@@ -7,15 +7,15 @@ use Rattle.disk_images.specs.Crash.{DiskView}
 use Rattle.found_files.specs.declared.refusal.SplitRefusal.{SplitRefusal}
 use Rattle.found_files.specs.declared.refusal.SplitRefusal.TheVariants as refusals
 use Rattle.script_model.specs.Outputs.{refused_memory, refused_disk}
-use Rattle.command_ends.specs.Invocation.{invocation}
-use Rattle.command_ends.specs.Prints.{Prints}
+use Rattle.command_base.specs.Invocation.{invocation}
+use Rattle.command_base.specs.Prints.{Prints}
 use Rattle.found_files.specs.Refusal.{IfDamage}
 use Rattle.region_replay.specs.Ready.{Found}
-use Rattle.command_ends.specs.Status.{refusal_line, IfDamaged, IsDamageOf, IsPrintEnd, IsReadingEnd, IsOrEarlier}
-use Rattle.command_ends.specs.Ends.{Done}
-use Rattle.command_ends.specs.declared.status.Status.{Status}
-use Rattle.command_ends.specs.declared.status.Status.TheVariants as ends
-use Rattle.command_ends.proofs.Endings.{taken_whole, taken_begins, refused_so}
+use Rattle.command_base.specs.Status.{refusal_line, IfDamaged, IsDamageOf, IsPrintEnd, IsReadingEnd, IsOrEarlier}
+use Rattle.command_base.specs.Ends.{Done}
+use Rattle.command_base.specs.declared.status.Status.{Status}
+use Rattle.command_base.specs.declared.status.Status.TheVariants as ends
+use Rattle.command_base.proofs.Endings.{taken_whole, taken_begins, refused_so}
 use Rattle.recover_command.specs.Recovered.{RecoverDone, MayOpenAgain, EndsRecover}
 use Rattle.recover_command.specs.Refusals.{refused_as}
 use Rattle.recover_command.proofs.OneDamage.{one_told}
@@ -40,6 +40,7 @@ printed_ends (ends.Script line why) text script had has v w rose cut may done ag
 printed_ends ends.SourceFault text script had has v w rose cut may done again printed refused = absurd may
 printed_ends (ends.NumbersSpent region last) text script had has v w rose cut may done again printed refused = absurd may
 printed_ends (ends.NotEmpty name) text script had has v w rose cut may done again printed refused = absurd may
+printed_ends (ends.NoPosition number entries) text script had has v w rose cut may done again printed refused = absurd may
 
 -- ---- what a refusal says
 
@@ -82,3 +83,4 @@ print_leaves (ends.Script line why) Q may = absurd may
 print_leaves ends.SourceFault Q may = absurd may
 print_leaves (ends.NumbersSpent region last) Q may = absurd may
 print_leaves (ends.NotEmpty name) Q may = absurd may
+print_leaves (ends.NoPosition number entries) Q may = absurd may

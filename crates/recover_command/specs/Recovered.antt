@@ -7,13 +7,13 @@ use Rattle.log_model.specs.Files.{Files, IsSound}
 use Rattle.log_model.specs.Damage.{IsDamage}
 use Rattle.log_model.specs.Recovered.{IsLast, IsRecovered, IsContent}
 use Rattle.disk_images.specs.Crash.{IsImageNow}
-use Rattle.recovery.specs.Alike.{AllAlike}
-use Rattle.recovery.specs.Kept.{HasNoLogs}
+use Rattle.recovery_laws.specs.Alike.{AllAlike}
+use Rattle.recovery_laws.specs.Kept.{HasNoLogs}
 use Rattle.wal_split.specs.Moments.{WasOrAlike}
 use Rattle.script_model.specs.Outputs.{RecoveredLine, recover_text}
-use Rattle.command_ends.specs.Invocation.{Invocation}
-use Rattle.command_ends.specs.Ends.{Effects, EndsAs}
-use Rattle.command_ends.specs.declared.status.Status.{Status}
+use Rattle.command_base.specs.Invocation.{Invocation}
+use Rattle.command_base.specs.Ends.{Effects, EndsAs}
+use Rattle.command_base.specs.declared.status.Status.{Status}
 
 -- What is told of a region: the greatest sequence id that the files have of it, and how many cells they recover to.
 pub record IsRecoveredLine (files : Files) (r : ℕ) (x : RecoveredLine) : Type 0 where

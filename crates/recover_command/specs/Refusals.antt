@@ -1,8 +1,8 @@
 -- How the opening of a store is refused.
 use Rattle.found_files.specs.declared.refusal.SplitRefusal.{SplitRefusal}
 use Rattle.found_files.specs.declared.refusal.SplitRefusal.TheVariants as refusals
-use Rattle.command_ends.specs.declared.status.Status.{Status}
-use Rattle.command_ends.specs.declared.status.Status.TheVariants as ends
+use Rattle.command_base.specs.declared.status.Status.{Status}
+use Rattle.command_base.specs.declared.status.Status.TheVariants as ends
 
 abbrev pub refused_as : SplitRefusal → Status
 refused_as refusals.Memory = ends.Memory

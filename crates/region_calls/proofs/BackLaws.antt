@@ -7,7 +7,7 @@ use Rattle.log_service.specs.Closed.{synced_in, stored_in, closed_in}
 use Rattle.log_service.specs.Places.{Place}
 use Rattle.region_model.specs.Lines.{Line, edits_in}
 use Rattle.region_lock.specs.declared.pass.RegionPass.{RegionPass}
-use Rattle.region_lock.specs.declared.naming.Naming.{Ghosts}
+use Rattle.region_lock.specs.declared.naming.LockNaming.{Ghosts}
 use Rattle.region_lock.specs.Parts.{AreCalledBelow}
 use Rattle.region_lock.specs.Passes.{known_of}
 use Rattle.region_lock.proofs.Lists.{get_set, length_set}

@@ -1,25 +1,25 @@
 -- A store that was recovered, on which a device is started.
-use Rattle.std.proofs.Common.{◌≡◌, ◌≢◌, ◌↔◌, ◌⊎◌, inl, inr, ℕ, zero, suc, ◌+◌, ◌-◌, ◌<◌, ◌≤◌, List, [], ◌∷◌, length, map, take, get_or, Contains, refl, sym, ap, ◌∙◌, subst, arith}
+use Rattle.std.proofs.Common.{◌≡◌, ◌≢◌, ◌↔◌, ◌⊎◌, inl, inr, ℕ, zero, suc, ◌+◌, ◌-◌, ◌^◌, ◌<◌, ◌≤◌, List, [], ◌∷◌, length, map, take, get_or, Contains, refl, sym, ap, ◌∙◌, subst, arith}
 use Rattle.std.proofs.lemmas.Bool.{cases_lt}
 use Rattle.std.proofs.lemmas.Option.{slice_get_within}
 use Rattle.log_model.specs.Entry.{Entry}
 use Rattle.log_model.specs.Files.{Files, IsLogged}
 use Rattle.log_model.specs.Recovered.{IsGreatest, IsSeen, IsFlushed, IsLast, IsRecovered}
-use Rattle.recovery.specs.Alike.{AllAlike}
-use Rattle.recovery.specs.Change.{RecoversSome, PutBy}
-use Rattle.recovery.proofs.Turns.{in_turn}
+use Rattle.recovery_laws.specs.Alike.{AllAlike}
+use Rattle.recovery_laws.specs.Change.{RecoversSome, PutBy}
+use Rattle.recovery_laws.proofs.Turns.{in_turn}
 use Rattle.disk_images.specs.Crash.{DiskView, Throughout}
 use Rattle.disk_images.proofs.Moments.{joined, weaker}
 use Rattle.wal_split.specs.Moments.{During, WasOrAlike}
 use Rattle.log_ledger.specs.declared.base.RegionBase.{RegionBase}
-use Rattle.log_ledger.specs.Bases.{IsAmong, AreNumbersOf}
+use Rattle.log_ledger.specs.Bases.{AreRegions, IsAmong, AreNumbersOf}
 use Rattle.append_ring.specs.Rules.{base_of}
 use Rattle.log_ledger.specs.Books.{IsServed}
 use Rattle.log_ledger.specs.History.{started_in}
 use Rattle.log_device.specs.declared.device.Device.{Device}
 use Rattle.log_device.specs.Whole.{IsWhole, IsBroken, IsIdle, log_of, books_of}
 use Rattle.log_service.specs.Begun.{IsFresh, BeginsAs}
-use Rattle.log_service.specs.Halves.{HasFewStores}
+use Rattle.log_service.specs.Halves.{AreNumbersUpTo, HasFewStores}
 use Rattle.log_device.specs.Opened.{IsOpened}
 use Rattle.region_replay.specs.Ready.{Found}
 use Rattle.region_replay.specs.Opened.{AreOf}
@@ -112,7 +112,7 @@ module _ (disk : DiskView) (F : Files) (xs : List Found) (ready : IsReady disk) 
       nothing zero e (k, low, is) = omega (arith, low)
       nothing (suc count) e (k, low, is) = omega (arith, low)
 
-      none_more : (count m : ℕ) → Rattle.recovery.specs.Change.last_of r m (take count []) ≡ m
+      none_more : (count m : ℕ) → Rattle.recovery_laws.specs.Change.last_of r m (take count []) ≡ m
       none_more zero m = refl
       none_more (suc count) m = refl
 
@@ -150,46 +150,25 @@ marked n xs ms first is e (suc k) low high =
     }
 
 pub is_fresh : {D : Type 0} (n : ℕ) (xs : List Found) (ms : List RegionBase) (first : List ℕ) (d : Device D) → ms ≡ marks_from 1 (take n xs) → first ≡ flushed_of ms
-    → (IsBroken d → ⊥) → IsIdle (log_of d) → ((r : ℕ) → IsServed (books_of d) r ↔ IsAmong ms r) → AreNumbersOf (λ m. m.flushed) ms (books_of d).drawn → (books_of d).synced ≡ (books_of d).drawn → IsFresh first d
-is_fresh n xs ms first d is e unbroken idle served drawn synced = record {
+    → (IsBroken d → ⊥) → IsIdle (log_of d) → ((r : ℕ) → IsServed (books_of d) r ↔ IsAmong ms r) → AreNumbersOf (λ m. m.flushed) ms (books_of d).drawn → (books_of d).synced ≡ (books_of d).drawn → (books_of d).stored ≡ (books_of d).drawn → IsFresh first d
+is_fresh n xs ms first d is e unbroken idle served drawn synced stored = record {
   unbroken = unbroken;
   idle = idle;
   served = λ r low high. (served r).1 (marked n xs ms first is e r low high).among;
   drawn = λ r low high. (marked n xs ms first is e r low high).drawn (books_of d).drawn drawn;
   synced = synced;
+  stored = stored;
 }
 
--- the regions' next stores have numbers at most one above those of the files, by what was recovered
-pub few_stores : {D : Type 0} (n : ℕ) (xs : List Found) (ms : List RegionBase) (d : Device D) (old files : Files) → ms ≡ marks_from 1 (take n xs) → AreOf old files 1 xs
-    → AreNumbersOf (λ m. m.next_store) ms (books_of d).next_store → AreNumbersOf (λ m. m.flushed) ms (books_of d).stored → HasFewStores files (books_of d)
-few_stores n xs ms d old files is of next stored limit bound r = go r
-  where
-    ys : List Found
-    ys = take n xs
-
-    none : (r : ℕ) → ((m : RegionBase) → Contains ms m → m.region ≢ r) → get_or (books_of d).next_store r 0 ≤ limit + 1 + get_or (books_of d).stored r 0
-    none r other = (let zero_next = next.others r other in omega (arith, zero_next))
-
-    found : (m : RegionBase) → Contains ms m → IsMark 1 ys m
-    found m has = mark_in 1 ys m (subst (λ (l : List RegionBase). Contains l m) is has)
-
-    go : (r : ℕ) → get_or (books_of d).next_store r 0 ≤ limit + 1 + get_or (books_of d).stored r 0
-    go zero = none 0 (λ m has region. (let q = found m has in let at : m.region ≡ 1 + q.k = ap (λ (b : RegionBase). b.region) q.is in omega (arith, region, at)))
-    go (suc k) = elim (cases_lt k (length ys)) as (λ _. get_or (books_of d).next_store (suc k) 0 ≤ limit + 1 + get_or (books_of d).stored (suc k) 0) [
-      | inl low ↦ (
-          let x = some_at ys k low in
-          let has = subst (λ (l : List RegionBase). Contains l (mark (1 + k) x.0)) (sym is) (mark_at 1 ys k x.0 x.1) in
-          let same : suc k ≡ 1 + k = omega arith in
-          let few = (of_at old files 1 xs of k x.0 (get_take n xs k x.0 x.1)).few limit (λ m store region here. bound m here) in
-          let a : get_or (books_of d).next_store (suc k) 0 ≡ x.0.next_store = ap (λ (i : ℕ). get_or (books_of d).next_store i 0) same ∙ next.named (mark (1 + k) x.0) has in
-          let b : get_or (books_of d).stored (suc k) 0 ≡ x.0.flushed = ap (λ (i : ℕ). get_or (books_of d).stored i 0) same ∙ stored.named (mark (1 + k) x.0) has in
-          omega (arith, few, a, b))
-      | inr high ↦ none (suc k) (λ m has region. (
-          let q = found m has in
-          let at : m.region ≡ 1 + q.k = ap (λ (b : RegionBase). b.region) q.is in
-          let low = slice_get_within ys q.k q.x q.at in
-          omega (arith, region, at, low, high)))
-    ]
+-- the regions' next stores have numbers above those of the files by no more than one and a sequence id, by what was recovered
+pub few_marks : (n : ℕ) (xs : List Found) (ms : List RegionBase) (old files : Files) (limit : ℕ) → ms ≡ marks_from 1 (take n xs) → AreOf old files 1 xs → AreRegions ms → AreNumbersUpTo limit files
+    → (m : RegionBase) → Contains ms m → m.next_store ≤ limit + 2 ^ 48 + 1
+few_marks n xs ms old files limit is of regions bound m has =
+    let q = mark_in 1 (take n xs) m (subst (λ (l : List RegionBase). Contains l m) is has) in
+    let few = (of_at old files 1 xs of q.k q.x (get_take n xs q.k q.x q.at)).few limit (λ m store region here. bound m here) in
+    let at : m.next_store ≡ q.x.next_store = ap (λ (b : RegionBase). b.next_store) q.is in
+    let flushed : m.flushed ≡ q.x.flushed = ap (λ (b : RegionBase). b.flushed) q.is in
+    omega (arith, few, at, flushed, (regions.each m has).flushed)
 
 pub begins_as : {D : Type 0} (n : ℕ) (xs : List Found) (ms : List RegionBase) (first : List ℕ) (d : Device D) (F : Files) (v : DiskView) → ms ≡ marks_from 1 (take n xs) → first ≡ flushed_of ms
     → HasFewStores F (books_of d) → IsWhole d v (started_in F (flushed_in xs)) → BeginsAs F first d v (started_in F (flushed_in xs))

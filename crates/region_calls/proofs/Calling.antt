@@ -10,7 +10,7 @@ use Rattle.region_model.specs.Lines.{edits_in}
 use Rattle.server_model.specs.Pass.{Known, Naming}
 use Rattle.server_model.specs.Steps.{Puts, Scans, Flushes, drawn}
 use Rattle.region_lock.specs.declared.pass.RegionPass.{RegionPass}
-use Rattle.region_lock.specs.declared.naming.Naming.{Ghosts}
+use Rattle.region_lock.specs.declared.naming.LockNaming.{Ghosts}
 use Rattle.region_lock.specs.Calls.{PutsAt, ScansAt, FlushesAt}
 use Rattle.region_lock.specs.Passes.{known_of, SamePass}
 use Rattle.region_lock.proofs.Lifts.{puts_from, scans_from, flushes_from}
@@ -36,14 +36,14 @@ module _ {N : Type 0} {g : Ghosts N} where
       (subst (λ (w : Known). PutsAt (name.bases (suc k)) time (suc k) sync batch caller answer (known_of (length ps) p seat) w seat.device.knows.broken seat'.device.knows.broken) (sym (known_here ps k p' seat' low)) puts))
       (λ s other. others_later ps k p' seat seat' later.words s other) refl le refl
 
-  pub flushes_all : (name : Naming) (k : ℕ) (caller : Caller) (answer : Answer) (h calls : ℕ) (ps : List (RegionPass N g)) (p p' : RegionPass N g) (seat seat' : LogSeat)
+  pub flushes_all : (name : Naming) (k : ℕ) (family : Option (List ℕ)) (caller : Caller) (answer : Answer) (h calls : ℕ) (ps : List (RegionPass N g)) (p p' : RegionPass N g) (seat seat' : LogSeat)
       → slice_get ps k ≡ Some p → k < length ps → IsTrue (is_flush answer)
-      → FlushesAt (name.bases (suc k)) (name.flushes (suc k)) caller answer (known_of (length ps) p seat) (known_of (length ps) p' seat') seat.device.knows.broken seat'.device.knows.broken
-      → IsLaterSeat seat seat' → calls ≤ caller.call → Flushes name (suc k) caller answer (pass_of h calls ps seat) (pass_of h caller.call (set ps k p') seat')
-  flushes_all name k caller answer h calls ps p p' seat seat' at low answered flushes later le =
-      flushes_from name (suc k) caller answer (pass_of h calls ps seat) (pass_of h caller.call (set ps k p') seat') answered
-      (subst (λ (w : Known). FlushesAt (name.bases (suc k)) (name.flushes (suc k)) caller answer w (known_in (set ps k p') seat' (suc k)) seat.device.knows.broken seat'.device.knows.broken) (sym (was_here ps k p seat at))
-      (subst (λ (w : Known). FlushesAt (name.bases (suc k)) (name.flushes (suc k)) caller answer (known_of (length ps) p seat) w seat.device.knows.broken seat'.device.knows.broken) (sym (known_here ps k p' seat' low)) flushes))
+      → FlushesAt (name.bases (suc k)) (name.flushes (suc k)) family caller answer (known_of (length ps) p seat) (known_of (length ps) p' seat') seat.device.knows.broken seat'.device.knows.broken
+      → IsLaterSeat seat seat' → calls ≤ caller.call → Flushes name (suc k) family caller answer (pass_of h calls ps seat) (pass_of h caller.call (set ps k p') seat')
+  flushes_all name k family caller answer h calls ps p p' seat seat' at low answered flushes later le =
+      flushes_from name (suc k) family caller answer (pass_of h calls ps seat) (pass_of h caller.call (set ps k p') seat') answered
+      (subst (λ (w : Known). FlushesAt (name.bases (suc k)) (name.flushes (suc k)) family caller answer w (known_in (set ps k p') seat' (suc k)) seat.device.knows.broken seat'.device.knows.broken) (sym (was_here ps k p seat at))
+      (subst (λ (w : Known). FlushesAt (name.bases (suc k)) (name.flushes (suc k)) family caller answer (known_of (length ps) p seat) w seat.device.knows.broken seat'.device.knows.broken) (sym (known_here ps k p' seat' low)) flushes))
       (λ s other. others_later ps k p' seat seat' later.words s other) refl le refl
 
   pub scans_all : (name : Naming) (k : ℕ) (from to : List ℕ) (answer : Answer) (h calls : ℕ) (ps : List (RegionPass N g)) (p p' : RegionPass N g) (seat : LogSeat)

@@ -20,7 +20,7 @@ use Rattle.server_model.specs.Service.{Commits}
 use Rattle.server_model.proofs.ServiceLaw.{survives_from, cut_is_take}
 use Rattle.region_lock.specs.Parts.{AreOwned, entries_in}
 use Rattle.region_lock.proofs.Knowns.{last_same}
-use Rattle.region_calls.specs.Closes.{HasMet, worded, IsStoredIn, HasSurvived}
+use Rattle.region_calls.specs.Closes.{HasMet, worded, AreWordsIn, HasSurvived}
 
 -- each edit of lines of n handlers is of one of them
 pub owned_edits : (n r : ℕ) (xs : List Line) → AreOwned n xs → (e : Edit) → Contains (edits_in r xs) e → (1 ≤ e.caller.handler) × (e.caller.handler ≤ n)
@@ -34,7 +34,7 @@ pub seen_in_words : (n r : ℕ) (seat : LogSeat) (words : List ℕ) (broken : Bo
 seen_in_words n r seat words broken saw = (saw.seen (r - 1), saw.seen (n + r - 1), saw.seen (n + n + r - 1))
 
 -- A region whose passes all met in its journal, and whose words are at or above what each of their seats had seen, is closed.
-pub closed_region : (name : Naming) (handlers n r : ℕ) (passes : List Pass) (words : List ℕ) (base : Base) (xs : List Line) → HasMet name.bases handlers passes r base xs → IsStoredIn (stored_in n words r) base xs
+pub closed_region : (name : Naming) (handlers n r : ℕ) (passes : List Pass) (words : List ℕ) (base : Base) (xs : List Line) → HasMet name.bases handlers passes r base xs → AreWordsIn (synced_in words r) (stored_in n words r) base xs
     → ((h : ℕ) → 1 ≤ h → h ≤ handlers → (p : Pass) × Contains passes p × (p.handler ≡ h))
     → ((p : Pass) → Contains passes p → ((p.known r).synced ≤ synced_in words r) × ((p.known r).stored ≤ stored_in n words r) × ((p.known r).closed ≤ closed_in n words r))
     → IsClosedRegion name r passes (worded n words r base xs)
@@ -48,6 +48,7 @@ closed_region name handlers n r passes words base xs met within all seen = recor
   synced_seen = λ p c. (seen p c).0;
   stored_seen = λ p c. (seen p c).1;
   closed_seen = λ p c. (seen p c).2;
+  synced = subst (λ (k : ℕ). synced_in words r ≤ k) (sym (last_same base r xs)) within.synced_most;
   stored = subst (λ (k : ℕ). stored_in n words r ≤ k) (sym (last_same base r xs)) within.most;
   stored_least = within.least;
   spent = λ p k c. (met.each p c).spent k;

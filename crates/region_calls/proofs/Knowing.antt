@@ -8,7 +8,7 @@ use Rattle.region_model.specs.Lines.{Line, edit_in, edits_in}
 use Rattle.server_model.specs.Pass.{Known, IsLaterOf, IsQuiet}
 use Rattle.server_model.proofs.JournalLaws.{prefix_here}
 use Rattle.region_lock.specs.declared.pass.RegionPass.{RegionPass}
-use Rattle.region_lock.specs.declared.naming.Naming.{Ghosts}
+use Rattle.region_lock.specs.declared.naming.LockNaming.{Ghosts}
 use Rattle.region_lock.specs.Parts.{AreCalledBelow}
 use Rattle.region_lock.specs.Passes.{known_of}
 use Rattle.region_calls.specs.Passes.{known_at, known_in, IsHandOf, AreHandsOf}

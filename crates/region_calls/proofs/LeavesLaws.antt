@@ -3,7 +3,7 @@ use Rattle.std.proofs.Common.{inl, inr, ℕ, ◌≤◌, ◌^◌, Bool, arith}
 use Rattle.log_model.specs.declared.name.Name.{Name}
 use Rattle.log_model.specs.Files.{Files, IsSound, IsFit, IsPresent}
 use Rattle.log_model.specs.Recovered.{RecoversAlike}
-use Rattle.recovery.specs.Alike.{AllAlike}
+use Rattle.recovery_laws.specs.Alike.{AllAlike}
 use Rattle.disk_images.specs.Crash.{DiskView}
 use Rattle.log_service.specs.Closed.{LeavesFiles}
 use Rattle.log_service.specs.Moments.{GoesOnFrom, OthersSince}

@@ -9,7 +9,7 @@ use Rattle.log_service.specs.declared.seats.LogSeat.{LogSeat}
 use Rattle.log_service.specs.Places.{Place, IsSeatOf}
 use Rattle.region_model.specs.Lines.{Line}
 use Rattle.region_lock.specs.declared.pass.RegionPass.{RegionPass}
-use Rattle.region_lock.specs.declared.naming.Naming.{Ghosts}
+use Rattle.region_lock.specs.declared.naming.LockNaming.{Ghosts}
 use Rattle.region_lock.specs.Parts.{AreCalledBelow}
 use Rattle.region_calls.specs.declared.pass.Pass.{Pass}
 use Rattle.region_calls.specs.Hands.{Deal, deal_of, AreDeals}

@@ -179,7 +179,7 @@ module _ (bases : ℕ → Base) (handlers : ℕ) (ring : TableId) (passes : List
         let many : length (entries_in r xs) ≡ length xs = length-map xs (λ (x : Line). (edit_in r x).entry) in
         ∥∥₁_map₂ (commits r base.content (entries_in r xs) pushed) (since r base.content (entries_in r xs) pushed) (λ c past. (
           worded n words r base xs,
-          closed_region name handlers n r passes words base xs (subst (λ (b : ℕ → Base). HasMet b handlers passes r base xs) (sym named) t.met) (record { least = least; most = omega (arith, c.bound, same, many) }) all (seen r (omega arith) (omega (arith, low))),
+          closed_region name handlers n r passes words base xs (subst (λ (b : ℕ → Base). HasMet b handlers passes r base xs) (sym named) t.met) (record { synced_most = omega (arith, c.bound_synced, same, many); least = least; most = omega (arith, c.bound, same, many) }) all (seen r (omega arith) (omega (arith, low))),
           survives_broken disk broken r (worded n words r base xs) (survives_of disk broken n r (last_before lasts r) words base xs t.met.journal same c),
           survived_of start disk n r (last_before lasts r) words base xs t.met.journal same past,
         ))

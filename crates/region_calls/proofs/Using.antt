@@ -22,7 +22,7 @@ use Rattle.region_lock.specs.declared.answers.FlushRefusal.{FlushRefusal}
 use Rattle.region_lock.specs.declared.answers.FlushRefusal.TheVariants as flush
 use Rattle.region_lock.specs.declared.scan.ScanReply.{ScanReply}
 use Rattle.region_lock.specs.declared.pass.RegionPass.{RegionPass}
-use Rattle.region_lock.specs.declared.naming.Naming.{Ghosts}
+use Rattle.region_lock.specs.declared.naming.LockNaming.{Ghosts}
 use Rattle.region_lock.specs.Answers.{put_answer, scan_answer, flush_answer, roll_answer}
 use Rattle.region_lock.specs.Calls.{PutsAt, ScansAt, FlushesAt, RollsAt}
 use Rattle.region_lock.specs.Parts.{AreCalledBelow}
@@ -91,19 +91,19 @@ module _ {N : Type 0} {g : Ghosts N} where
       subst (λ (s : ℕ). Puts name time s sync batch caller answer (pass_of h calls ps seat) (pass_of h caller.call (set ps k p') seat')) u.next
       (puts_all name time k sync batch caller answer h calls ps p p' seat seat' u.at u.low answered all later (omega (arith, low)))
 
-  pub flushes_used : (name : Naming) (bases : ℕ → Base) (lists : ℕ → List Caller) (r k : ℕ) (caller : Caller) (answer : Answer) (h calls n : ℕ) (ps : List (RegionPass N g)) (p p' : RegionPass N g) (seat seat' : LogSeat)
+  pub flushes_used : (name : Naming) (bases : ℕ → Base) (lists : ℕ → List Caller) (r k : ℕ) (family : Option (List ℕ)) (caller : Caller) (answer : Answer) (h calls n : ℕ) (ps : List (RegionPass N g)) (p p' : RegionPass N g) (seat seat' : LogSeat)
       → IsUsed h calls r k ps p → name.bases ≡ bases → name.flushes ≡ lists → length ps ≡ n → IsTrue (is_flush answer)
-      → FlushesAt (bases p.viewer.region) (lists p.viewer.region) caller answer (known_of n p seat) (known_of n p' seat') seat.device.knows.broken seat'.device.knows.broken
-      → IsLaterSeat seat seat' → calls < caller.call → Flushes name r caller answer (pass_of h calls ps seat) (pass_of h caller.call (set ps k p') seat')
-  flushes_used name bases lists r k caller answer h calls n ps p p' seat seat' u named listed count answered flushes later low =
+      → FlushesAt (bases p.viewer.region) (lists p.viewer.region) family caller answer (known_of n p seat) (known_of n p' seat') seat.device.knows.broken seat'.device.knows.broken
+      → IsLaterSeat seat seat' → calls < caller.call → Flushes name r family caller answer (pass_of h calls ps seat) (pass_of h caller.call (set ps k p') seat')
+  flushes_used name bases lists r k family caller answer h calls n ps p p' seat seat' u named listed count answered flushes later low =
       let was = seat.device.knows.broken in
       let is = seat'.device.knows.broken in
-      let one = subst (λ (f : ℕ → Base). FlushesAt (f p.viewer.region) (lists p.viewer.region) caller answer (known_of n p seat) (known_of n p' seat') was is) (sym named) flushes in
-      let two = subst (λ (f : ℕ → List Caller). FlushesAt (name.bases p.viewer.region) (f p.viewer.region) caller answer (known_of n p seat) (known_of n p' seat') was is) (sym listed) one in
-      let three = subst (λ (m : ℕ). FlushesAt (name.bases p.viewer.region) (name.flushes p.viewer.region) caller answer (known_of m p seat) (known_of m p' seat') was is) (sym count) two in
-      let all = subst (λ (s : ℕ). FlushesAt (name.bases s) (name.flushes s) caller answer (known_of (length ps) p seat) (known_of (length ps) p' seat') was is) u.region three in
-      subst (λ (s : ℕ). Flushes name s caller answer (pass_of h calls ps seat) (pass_of h caller.call (set ps k p') seat')) u.next
-      (flushes_all name k caller answer h calls ps p p' seat seat' u.at u.low answered all later (omega (arith, low)))
+      let one = subst (λ (f : ℕ → Base). FlushesAt (f p.viewer.region) (lists p.viewer.region) family caller answer (known_of n p seat) (known_of n p' seat') was is) (sym named) flushes in
+      let two = subst (λ (f : ℕ → List Caller). FlushesAt (name.bases p.viewer.region) (f p.viewer.region) family caller answer (known_of n p seat) (known_of n p' seat') was is) (sym listed) one in
+      let three = subst (λ (m : ℕ). FlushesAt (name.bases p.viewer.region) (name.flushes p.viewer.region) family caller answer (known_of m p seat) (known_of m p' seat') was is) (sym count) two in
+      let all = subst (λ (s : ℕ). FlushesAt (name.bases s) (name.flushes s) family caller answer (known_of (length ps) p seat) (known_of (length ps) p' seat') was is) u.region three in
+      subst (λ (s : ℕ). Flushes name s family caller answer (pass_of h calls ps seat) (pass_of h caller.call (set ps k p') seat')) u.next
+      (flushes_all name k family caller answer h calls ps p p' seat seat' u.at u.low answered all later (omega (arith, low)))
 
   pub scans_used : (name : Naming) (bases : ℕ → Base) (r k : ℕ) (from to : List ℕ) (answer : Answer) (h calls : ℕ) (ps : List (RegionPass N g)) (p p' : RegionPass N g) (seat : LogSeat)
       → IsUsed h calls r k ps p → name.bases ≡ bases → IsTrue (is_scan answer)
@@ -134,9 +134,9 @@ module _ {N : Type 0} {g : Ghosts N} where
       (closed_all answer h calls ps before after all here) refl refl refl refl
 
   -- a hand that a flush used
-  pub flush_hand : (base : Base) (flushes : List Caller) (r n h calls : ℕ) (caller : Caller) (answer : Answer) (p p' : RegionPass N g) (seat seat' : LogSeat) (was is : Bool)
-      → IsHandOf h calls r p → SamePass p p' → calls < caller.call → FlushesAt base flushes caller answer (known_of n p seat) (known_of n p' seat') was is → IsHandOf h caller.call r p'
-  flush_hand base flushes r n h calls caller answer p p' seat seat' was is old same low flushed =
+  pub flush_hand : (base : Base) (flushes : List Caller) (r n h calls : ℕ) (family : Option (List ℕ)) (caller : Caller) (answer : Answer) (p p' : RegionPass N g) (seat seat' : LogSeat) (was is : Bool)
+      → IsHandOf h calls r p → SamePass p p' → calls < caller.call → FlushesAt base flushes family caller answer (known_of n p seat) (known_of n p' seat') was is → IsHandOf h caller.call r p'
+  flush_hand base flushes r n h calls family caller answer p p' seat seat' was is old same low flushed =
       let own : edits_in p.viewer.region p'.hand.record.list ≡ edits_in p.viewer.region p.hand.record.list ++ [] =
       ap (λ q. edits_in q p'.hand.record.list) (sym same.0) ∙ flushed.own.own ∙ sym (append-nil (edits_in p.viewer.region p.hand.record.list)) in
       record {

@@ -37,8 +37,9 @@ pub record IsTaken (bases : ℕ → Base) (handlers : ℕ) (ring : TableId) (pas
 abbrev pub worded : ℕ → List ℕ → ℕ → Base → List Line → Region
 worded n words r base xs = record { base = base; edits = edits_in r xs; synced = synced_in words r; stored = stored_in n words r; closed = closed_in n words r }
 
--- the stored word lies in the journal
-pub record IsStoredIn (stored : ℕ) (base : Base) (xs : List Line) : Type 0 where
+-- the synced word and the stored one lie in the journal
+pub record AreWordsIn (synced stored : ℕ) (base : Base) (xs : List Line) : Type 0 where
+  pub synced_most : synced ≤ last_in base xs
   pub least : base.last ≤ stored
   pub most : stored ≤ last_in base xs
 

@@ -5,7 +5,7 @@ use Rattle.log_berth.specs.Standing.{AreBack}
 use Rattle.log_service.specs.declared.seats.LogSeat.{LogSeat}
 use Rattle.log_service.specs.Places.{Place, IsSeatOf}
 use Rattle.region_lock.specs.declared.pass.RegionPass.{RegionPass}
-use Rattle.region_lock.specs.declared.naming.Naming.{Ghosts}
+use Rattle.region_lock.specs.declared.naming.LockNaming.{Ghosts}
 use Rattle.server_model.specs.Pass.{Pass as ThePass}
 use Rattle.region_calls.specs.declared.pass.Pass.{Pass}
 use Rattle.region_calls.specs.declared.passes.Passes.{Passes}

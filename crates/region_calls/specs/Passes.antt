@@ -5,7 +5,7 @@ use Rattle.log_service.specs.declared.seats.LogSeat.{LogSeat}
 use Rattle.log_service.specs.Places.{Place, IsSeatOf}
 use Rattle.server_model.specs.Pass.{Known, Pass as ThePass}
 use Rattle.region_lock.specs.declared.pass.RegionPass.{RegionPass}
-use Rattle.region_lock.specs.declared.naming.Naming.{Ghosts}
+use Rattle.region_lock.specs.declared.naming.LockNaming.{Ghosts}
 use Rattle.region_lock.specs.Parts.{AreCalledBelow}
 use Rattle.region_lock.specs.Passes.{known_of}
 use Rattle.region_calls.specs.declared.pass.Pass.{Pass}

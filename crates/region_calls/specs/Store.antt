@@ -4,7 +4,7 @@ use Rattle.atomic_table.specs.Seated.{TableId}
 use Rattle.logbook.specs.Pages.{Book}
 use Rattle.crossbeam_queue.specs.Passes.{view}
 use Rattle.region_model.specs.Journal.{Base}
-use Rattle.recovery.specs.Alike.{AllAlike}
+use Rattle.recovery_laws.specs.Alike.{AllAlike}
 use Rattle.disk_images.specs.declared.disk.Disk.{Ghosts}
 use Rattle.log_ledger.specs.History.{History}
 use Rattle.log_device.specs.Whole.{disk_of}

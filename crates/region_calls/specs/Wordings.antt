@@ -4,7 +4,7 @@ use Rattle.region_model.specs.Journal.{Base}
 use Rattle.region_model.specs.Lines.{Line, edits_in}
 use Rattle.log_service.specs.Closed.{synced_in, stored_in, closed_in}
 use Rattle.server_model.specs.Closing.{Region}
-use Rattle.region_calls.specs.Closes.{IsStoredIn}
+use Rattle.region_calls.specs.Closes.{AreWordsIn}
 use Rattle.region_calls.specs.declared.closed.ClosedRegion.{ClosedRegion}
 
 -- the region as the law sees it
@@ -19,4 +19,4 @@ pub record IsWorded (n : ℕ) (words : List ℕ) (place : ℕ) (base : Base) (xs
   pub synced : c.synced ≡ synced_in words (place + 1)
   pub stored : c.stored ≡ stored_in n words (place + 1)
   pub closed : c.closed ≡ closed_in n words (place + 1)
-  pub within : IsStoredIn (stored_in n words (place + 1)) base xs
+  pub within : AreWordsIn (synced_in words (place + 1)) (stored_in n words (place + 1)) base xs

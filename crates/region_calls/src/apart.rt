@@ -46,7 +46,7 @@ pub(crate) fn sure<S: Wait>(rt: &S, holds: bool)
 
 /// Takes a region apart, in whose journal all passes meet, and puts its pass of the ring back.
 fn take_region<
-    N: region_lock::Naming + log_service::Naming + region_versions::Naming,
+    N: region_lock::LockNaming + log_service::ServiceNaming + region_versions::VersionsNaming,
     R: Wait + Drop,
     S: Wait,
 >(
@@ -60,7 +60,7 @@ fn take_region<
     requires passes { (the : Place) × AllOf the passes.old.items × (place < the.regions) }
     ensures knows { map knows passes.new.items ≡ map knows passes.old.items }
     ensures of { (the : Place) → AllOf the passes.old.items → AllOf the passes.new.items }
-    ensures taken { IsTaken N.Naming-3.base N.handlers N.ring (map knows passes.old.items) places.new place result.base result.lines.items }
+    ensures taken { IsTaken N.region_base N.handlers N.ring (map knows passes.old.items) places.new place result.base result.lines.items }
     ensures others { (j : ℕ) → j ≢ place → slice_get places.new j ≡ slice_get places.old j }
     ensures count { length places.new ≡ length places.old }
 {
@@ -76,7 +76,7 @@ fn take_region<
 
 /// Takes all regions apart, in the room for them.
 pub(crate) fn take_all<
-    N: region_lock::Naming + log_service::Naming + region_versions::Naming,
+    N: region_lock::LockNaming + log_service::ServiceNaming + region_versions::VersionsNaming,
     R: Wait + Drop,
     S: Wait,
 >(
@@ -92,7 +92,7 @@ pub(crate) fn take_all<
     ensures knows { map knows passes.new.items ≡ map knows passes.old.items }
     ensures of { (the : Place) → AllOf the passes.old.items → AllOf the passes.new.items }
     ensures taken { (k : ℕ) (t : Taken) → slice_get result.items k ≡ Some t
-        → IsTaken N.Naming-3.base N.handlers N.ring (map knows passes.old.items) places.new k t.base t.lines.items }
+        → IsTaken N.region_base N.handlers N.ring (map knows passes.old.items) places.new k t.base t.lines.items }
     ensures count { (length result.items ≡ length regions.items) × (length places.new ≡ length regions.items) }
 {
     let mut taken = room;
@@ -115,7 +115,7 @@ fn note(lasts: &mut [u64], place: usize, last: u64)
 
 /// Takes all regions apart, and lets go what they leave but their bases' last numbers, for which there is room.
 pub(crate) fn let_all_go<
-    N: region_lock::Naming + log_service::Naming + region_versions::Naming,
+    N: region_lock::LockNaming + log_service::ServiceNaming + region_versions::VersionsNaming,
     R: Wait + Drop,
     S: Wait,
 >(
@@ -132,7 +132,7 @@ pub(crate) fn let_all_go<
     ensures of { (the : Place) → AllOf the passes.old.items → AllOf the passes.new.items }
     ensures taken { (k : ℕ) → k < length regions.items
         → (base : TheBase) × (lines : List TheLine)
-        × IsTaken N.Naming-3.base N.handlers N.ring (map knows passes.old.items) places.new k base lines × (slice_index lasts.new k ≡ base.last) }
+        × IsTaken N.region_base N.handlers N.ring (map knows passes.old.items) places.new k base lines × (slice_index lasts.new k ≡ base.last) }
     ensures count { (length places.new ≡ length regions.items) × (length lasts.new ≡ length lasts.old) }
 {
     let mut place: u32 = 0;

@@ -1,6 +1,7 @@
 //! A server's calls, each on one region.
 
-ghost use Rattle.std.specs.Prelude.{◌≡◌, ◌-◌, ◌≤◌, ◌<◌, ◌^◌, ◌⊎◌, Contains, true};
+ghost use Rattle.std.specs.Prelude.{◌≡◌, ◌-◌, ◌≤◌, ◌<◌, ◌^◌, ◌⊎◌, length, IfSome, Contains, true};
+ghost use Rattle.std.specs.Option.{option_map};
 ghost use Rattle.log_service.specs.Places.{IsSeatOf, IsLaterSeat, FoundTaken, HadTurn, LastFoundTaken, LastHadTurn};
 ghost use Rattle.server_model.specs.Pass.{IsLater};
 ghost use Rattle.region_model.specs.Calls.{Raw};
@@ -9,7 +10,7 @@ ghost use Rattle.region_lock.specs.Puts.{IsFaultExact};
 ghost use Rattle.region_calls.specs.Answers.{is_sync, put_answer, scan_answer, begun_answer, point_seen, flush_answer, roll_answer};
 ghost use Rattle.region_calls.specs.Passes.{knows, IsPassOf};
 
-use crate::naming::Naming;
+use crate::naming::ServerNaming;
 use crate::pass::Pass;
 use crate::putting::put_at;
 use crate::reading::scanner_in;
@@ -29,7 +30,10 @@ use std::sync::Wait;
 impl<
     'a,
     D: Disk,
-    N: Naming + region_lock::Naming + log_service::Naming + region_versions::Naming,
+    N: ServerNaming
+        + region_lock::LockNaming
+        + log_service::ServiceNaming
+        + region_versions::VersionsNaming,
     R: Wait,
 > Server<'a, D, N, R> {
     /// Where a region of the server's stands in its lists.
@@ -37,7 +41,7 @@ impl<
         requires region { (1 ≤ region) × (region ≤ N.name.regions) }
         ensures place { result ≡ region - 1 }
         ensures few { region ≤ self.now.regions }
-        ensures bases { N.name.bases ≡ N.Naming-4.base }
+        ensures bases { N.name.bases ≡ N.region_base }
         ensures flushes { N.name.flushes ≡ N.flushes }
     {
         let _ = &self.service;
@@ -144,8 +148,8 @@ impl<
         point_in(&mut pass.regions[place])
     }
 
-    /// Writes what is logged of a region to a store file, and answers up to which number: it is at or above each one of the region that the
-    /// pass has seen. Where a flush of the region by another handler was under way at the look under the region's lock, it answers that one.
+    /// Writes what is logged of a family of a region (1 to 127 bytes), or of all where none is given, to a store file, and answers up to which
+    /// number: it is at or above each one of the region that the pass has seen. Where a flush of the region by another handler was under way at the look under the region's lock, it answers that one.
     pub fn flush<S: Wait>(
         &self,
         rt: &S,
@@ -153,12 +157,15 @@ impl<
         pass: &mut Pass<N>,
         region: u32,
         call: u32,
+        family: Option<&[u8]>,
     ) -> Result<u64, FlushRefusal>
+        requires family { IfSome family (λ f. (1 ≤ length f.now) × (length f.now ≤ 127)) }
         requires of { IsPassOf self.now pass.old }
         requires region { (1 ≤ region) × (region ≤ N.name.regions) }
         requires call { (knows pass.old).calls < call }
         requires listed { Contains (N.name.flushes region) (record { handler = (knows pass.old).handler; call = call }) }
-        ensures flushes { Flushes N.name region (record { handler = (knows pass.old).handler; call = call }) (flush_answer result)
+        ensures flushes { Flushes N.name region (option_map (λ f. f.now) family.entry)
+            (record { handler = (knows pass.old).handler; call = call }) (flush_answer result)
             (knows pass.old) (knows pass.new) }
         ensures of { IsPassOf self.now pass.new }
     {
@@ -175,6 +182,7 @@ impl<
             &mut pass.regions[place],
             &mut pass.seat,
             by,
+            family,
         );
         pass.calls = call;
         answer

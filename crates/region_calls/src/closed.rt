@@ -1,7 +1,7 @@
 //! What a closed server hands on.
 
 use crate::helpers::Helpers;
-use crate::naming::Naming;
+use crate::naming::ServerNaming;
 use crate::passes::Passes;
 use crate::server::Server;
 use disk_images::Disk;
@@ -32,7 +32,10 @@ pub struct ClosedServer<D> {
 pub struct CloseRefusal<
     'a,
     D: Disk,
-    N: Naming + region_lock::Naming + log_service::Naming + region_versions::Naming,
+    N: ServerNaming
+        + region_lock::LockNaming
+        + log_service::ServiceNaming
+        + region_versions::VersionsNaming,
     R: Wait,
 > {
     pub server: Server<'a, D, N, R>,

@@ -23,7 +23,7 @@ use crate::closed::{CloseRefusal, ClosedRegion, ClosedServer};
 use crate::giving::{give_passes, give_seats};
 use crate::helpers::Helpers;
 use crate::meeting::are_all;
-use crate::naming::Naming;
+use crate::naming::ServerNaming;
 use crate::pass::Pass;
 use crate::passes::Passes;
 use crate::server::Server;
@@ -53,7 +53,11 @@ fn make_room(alloc: Global, regions: usize) -> Result<Room, NoMemory>
 }
 
 /// Gives all seats back, and closes the log.
-fn shut<D: Disk, N: region_lock::Naming + log_service::Naming + region_versions::Naming, S: Wait>(
+fn shut<
+    D: Disk,
+    N: region_lock::LockNaming + log_service::ServiceNaming + region_versions::VersionsNaming,
+    S: Wait,
+>(
     rt: &S,
     service: LogService<D, N>,
     seats: LogSeats,
@@ -67,13 +71,13 @@ fn shut<D: Disk, N: region_lock::Naming + log_service::Naming + region_versions:
     requires passes { EachThere (λ p. p.pass.table_id ≡ service.ring) places × (length places ≡ service.regions) }
     ensures words { length result.synced ≡ 3 * service.regions }
     ensures saw { AllSaw (device_seats (seats_of back.items)) result.synced result.broken }
-    ensures commits { IsTrue D.told → (r : ℕ) (c : Content) (pushed : List Entry) → Pushed N.Naming-2.base places r c pushed
+    ensures commits { IsTrue D.told → (r : ℕ) (c : Content) (pushed : List Entry) → Pushed N.begun places r c pushed
         → ∥ CommitsRegion (D.view result.disk) result.broken service.regions result.synced N.lasts r c pushed ∥₁ }
-    ensures since { IsTrue D.told → (r : ℕ) (c : Content) (pushed : List Entry) → Pushed N.Naming-2.base places r c pushed
+    ensures since { IsTrue D.told → (r : ℕ) (c : Content) (pushed : List Entry) → Pushed N.begun places r c pushed
         → ∥ CommitsSince N.start (D.view result.disk) r (base_of N.lasts r) c pushed ∥₁ }
     ensures goes_on { IsTrue D.told → ∥ GoesOnFrom N.start N.past (D.view result.disk) ∥₁ }
-    ensures others_since { IsTrue D.told → ∥ OthersSince N.start N.Naming-2.base service.regions (D.view result.disk) ∥₁ }
-    ensures leaves { IsTrue D.told → ∥ LeavesFiles N.Naming-2.base (D.view result.disk) result.broken service.regions ∥₁ }
+    ensures others_since { IsTrue D.told → ∥ OthersSince N.start N.begun service.regions (D.view result.disk) ∥₁ }
+    ensures leaves { IsTrue D.told → ∥ LeavesFiles N.begun (D.view result.disk) result.broken service.regions ∥₁ }
     ensures faults { N.faults ≤ D.faults result.disk }
     ensures cause { result.broken ≡ true → Rose N.faults (D.faults result.disk) }
 {
@@ -88,7 +92,10 @@ fn shut<D: Disk, N: region_lock::Naming + log_service::Naming + region_versions:
 fn finish<
     'a,
     D: Disk,
-    N: Naming + region_lock::Naming + log_service::Naming + region_versions::Naming,
+    N: ServerNaming
+        + region_lock::LockNaming
+        + log_service::ServiceNaming
+        + region_versions::VersionsNaming,
     R: Wait,
     S: Wait,
 >(
@@ -144,7 +151,10 @@ fn finish<
 impl<
     'a,
     D: Disk,
-    N: Naming + region_lock::Naming + log_service::Naming + region_versions::Naming,
+    N: ServerNaming
+        + region_lock::LockNaming
+        + log_service::ServiceNaming
+        + region_versions::VersionsNaming,
     R: Wait,
 > Server<'a, D, N, R> {
     /// Closes the server, once all passes and seats are back: commits what is left, unless the log is broken, and gives the disk, and each
@@ -197,7 +207,10 @@ impl<
 impl<
     'a,
     D: Disk,
-    N: Naming + region_lock::Naming + log_service::Naming + region_versions::Naming,
+    N: ServerNaming
+        + region_lock::LockNaming
+        + log_service::ServiceNaming
+        + region_versions::VersionsNaming,
     R: Wait,
 > CloseRefusal<'a, D, N, R> {
     /// Closes the log and gives the disk. It takes no memory. Where what a pass knows doesn't meet in a region, which no run shows, it does

@@ -8,7 +8,7 @@ use crate::hands::RegionHands;
 use region_lock::RegionPass;
 
 /// The next handler's hands of all regions, into the room for them.
-pub(crate) fn deal<N: region_lock::Naming + region_versions::Naming>(
+pub(crate) fn deal<N: region_lock::LockNaming + region_versions::VersionsNaming>(
     regions: &mut Vec<RegionHands<N>>,
     room: Vec<RegionPass<N>>,
     handler: u32,

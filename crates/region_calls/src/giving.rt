@@ -9,7 +9,7 @@ use crate::pass::Pass;
 use log_service::{LogSeat, LogSeats};
 
 /// The seats of passes.
-pub(crate) fn give_passes<N: region_lock::Naming + region_versions::Naming>(
+pub(crate) fn give_passes<N: region_lock::LockNaming + region_versions::VersionsNaming>(
     seats: &mut LogSeats,
     passes: Vec<Pass<N>>,
     more: u32,

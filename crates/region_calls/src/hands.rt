@@ -13,7 +13,7 @@ use std::marker::Model;
 /// The hands of a region's two desks, and its viewers, handler after handler. Contracts see the region, the next handler and how many are
 /// left.
 #[derive(Drop)]
-pub(crate) struct RegionHands<N: region_lock::Naming + region_versions::Naming> {
+pub(crate) struct RegionHands<N: region_lock::LockNaming + region_versions::VersionsNaming> {
     pub(crate) region: u32,
     pub(crate) next: u32,
     pub(crate) left: u32,
@@ -22,7 +22,7 @@ pub(crate) struct RegionHands<N: region_lock::Naming + region_versions::Naming> 
     pub(crate) viewers: ViewerList<N>,
 }
 
-impl<N: region_lock::Naming + region_versions::Naming> Model for RegionHands<N> {
+impl<N: region_lock::LockNaming + region_versions::VersionsNaming> Model for RegionHands<N> {
     ghost use Rattle.region_calls.specs.Hands.{Deal, deal_of, AreLeft};
 
     ghost Value = { Deal };
@@ -32,7 +32,7 @@ impl<N: region_lock::Naming + region_versions::Naming> Model for RegionHands<N> 
     ghost invariant = { λ h. AreLeft (N.desk h.region) (N.spent h.region) (deal_of h.region h.next h.left) h.ours h.theirs h.viewers.viewers.items };
 }
 
-impl<N: region_lock::Naming + region_versions::Naming> RegionHands<N> {
+impl<N: region_lock::LockNaming + region_versions::VersionsNaming> RegionHands<N> {
     /// The next handler's.
     pub(crate) fn next(&mut self) -> RegionPass<N>
         requires { 0 < self.old.left }

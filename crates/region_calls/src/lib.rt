@@ -33,7 +33,7 @@ pub use helpers::Helpers;
 pub use log_device::{RollRefusal, Rolled};
 pub use log_service::{Helped, LogSeat};
 pub use mem_segments::Page;
-pub use naming::Naming;
+pub use naming::ServerNaming;
 pub use opening::open;
 pub use pass::Pass;
 pub use passes::Passes;

@@ -14,11 +14,10 @@ use region_lock::Locked;
 use std::sync::Wait;
 
 /// A pass meets a region. False where it viewed more than was shown, which no run shows.
-fn meet_one<N: region_lock::Naming + log_service::Naming + region_versions::Naming, R: Wait + Drop>(
-    locked: &mut Locked<N, R>,
-    pass: &mut Pass<N>,
-    place: usize,
-) -> bool
+fn meet_one<
+    N: region_lock::LockNaming + log_service::ServiceNaming + region_versions::VersionsNaming,
+    R: Wait + Drop,
+>(locked: &mut Locked<N, R>, pass: &mut Pass<N>, place: usize) -> bool
     requires region { locked.old.state.region ≡ place + 1 }
     requires pass { (the : Place) × IsPassOf the pass.old × (place < the.regions) }
     ensures same { locked.new ≡ locked.old }
@@ -32,7 +31,7 @@ fn meet_one<N: region_lock::Naming + log_service::Naming + region_versions::Nami
 
 /// All passes meet a region. False where one viewed more than was shown, which no run shows.
 pub(crate) fn meet_all<
-    N: region_lock::Naming + log_service::Naming + region_versions::Naming,
+    N: region_lock::LockNaming + log_service::ServiceNaming + region_versions::VersionsNaming,
     R: Wait + Drop,
 >(locked: &mut Locked<N, R>, passes: &mut Vec<Pass<N>>, place: usize) -> bool
     requires region { locked.old.state.region ≡ place + 1 }
@@ -52,7 +51,7 @@ pub(crate) fn meet_all<
 }
 
 /// One of these passes is the handler's.
-fn is_among<N: region_lock::Naming + region_versions::Naming>(
+fn is_among<N: region_lock::LockNaming + region_versions::VersionsNaming>(
     passes: &[Pass<N>],
     handler: u32,
 ) -> bool
@@ -67,7 +66,7 @@ fn is_among<N: region_lock::Naming + region_versions::Naming>(
 }
 
 /// For each handler one of these passes is its.
-pub(crate) fn are_all<N: region_lock::Naming + region_versions::Naming>(
+pub(crate) fn are_all<N: region_lock::LockNaming + region_versions::VersionsNaming>(
     passes: &[Pass<N>],
     handlers: u32,
 ) -> bool

@@ -4,7 +4,7 @@ ghost use Rattle.std.specs.Prelude.{◌≡◌, ◌≤◌, ℕ, length, take, IsT
 ghost use Rattle.log_model.specs.Files.{IsSound};
 ghost use Rattle.log_model.specs.Damage.{IsDamage};
 ghost use Rattle.disk_images.specs.Calls.{HasCause};
-ghost use Rattle.recovery.specs.Alike.{AllAlike};
+ghost use Rattle.recovery_laws.specs.Alike.{AllAlike};
 ghost use Rattle.wal_split.specs.Moments.{During, WasOrAlike};
 ghost use Rattle.region_replay.specs.Cleared.{IsReady};
 ghost use Rattle.region_replay.specs.Opened.{AreOf, AtMostOneHigher};

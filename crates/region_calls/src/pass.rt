@@ -8,7 +8,7 @@ use region_lock::RegionPass;
 
 /// What a handler calls its server by: its seat at the log, and of each region its hands and its viewer.
 #[derive(Drop)]
-pub struct Pass<N: region_lock::Naming + region_versions::Naming> {
+pub struct Pass<N: region_lock::LockNaming + region_versions::VersionsNaming> {
     pub(crate) handler: u32,
     pub(crate) calls: u32,
     pub(crate) seat: LogSeat,
@@ -16,7 +16,7 @@ pub struct Pass<N: region_lock::Naming + region_versions::Naming> {
     pub(crate) regions: Vec<RegionPass<N>>,
 }
 
-impl<N: region_lock::Naming + region_versions::Naming> Pass<N> {
+impl<N: region_lock::LockNaming + region_versions::VersionsNaming> Pass<N> {
     /// The handler's number, from 1 on.
     pub fn handler(&self) -> u32
         ensures { result ≡ (knows self.now).handler }

@@ -18,7 +18,7 @@ use std::sync::{Mutex, Wait};
 
 /// Takes the memory of an edit, and puts it in.
 pub(crate) fn put_at<
-    N: region_lock::Naming + log_service::Naming + region_versions::Naming,
+    N: region_lock::LockNaming + log_service::ServiceNaming + region_versions::VersionsNaming,
     D: Disk,
     R: Wait + Drop,
     G: Gate,
@@ -39,7 +39,7 @@ pub(crate) fn put_at<
     requires service { IsAtService N.ring service.now at.old.viewer.region seat.old × (at.old.viewer.region ≤ 64) }
     requires time { time < 2 ^ 63 }
     requires caller { (caller.handler ≡ at.old.hand.number) × AreCalledBelow caller.call at.old.hand.record.list }
-    ensures puts { PutsAt (N.Naming-3.base at.old.viewer.region) time at.old.viewer.region (is_sync durability) batch caller (put_answer result)
+    ensures puts { PutsAt (N.region_base at.old.viewer.region) time at.old.viewer.region (is_sync durability) batch caller (put_answer result)
         (known_of service.now.regions at.old seat.old) (known_of service.now.regions at.new seat.new)
         seat.old.device.knows.broken seat.new.device.knows.broken }
     ensures same { SamePass at.old at.new }

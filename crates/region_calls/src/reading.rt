@@ -13,14 +13,14 @@ use region_lock::{RegionPass, view_in};
 use std::alloc::Global;
 
 /// The scan of the last version shown of the region, which is not before one that the pass has seen. The pass has then seen it.
-pub(crate) fn scanner_in<N: region_lock::Naming + region_versions::Naming>(
+pub(crate) fn scanner_in<N: region_lock::LockNaming + region_versions::VersionsNaming>(
     alloc: Global,
     at: &mut RegionPass<N>,
     from: &[u8],
     to: &[u8],
 ) -> Result<Scanner, NoMemory>
-    ensures scans { (n : ℕ) (seat : LogSeat) → ScansAt (N.Naming-2.base at.old.viewer.region) from.now to.now
-        (begun_answer (last_in (N.Naming-2.base at.old.viewer.region) at.new.viewer.lines) result) (known_of n at.old seat) (known_of n at.new seat) }
+    ensures scans { (n : ℕ) (seat : LogSeat) → ScansAt (N.region_base at.old.viewer.region) from.now to.now
+        (begun_answer (last_in (N.region_base at.old.viewer.region) at.new.viewer.lines) result) (known_of n at.old seat) (known_of n at.new seat) }
     ensures region { at.new.viewer.region ≡ at.old.viewer.region }
     ensures hand { (at.new.hand ≡ at.old.hand) × (at.new.told ≡ at.old.told) }
 {

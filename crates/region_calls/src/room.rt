@@ -17,7 +17,7 @@ use std::sync::Wait;
 /// All regions under their name, and the hands of their handlers.
 #[derive(Drop)]
 pub(crate) struct NamedRegions<
-    N: region_lock::Naming + log_service::Naming + region_versions::Naming,
+    N: region_lock::LockNaming + log_service::ServiceNaming + region_versions::VersionsNaming,
     R: Wait + Drop,
 > {
     pub(crate) unlocked: Vec<Unlocked<N, R>>,
@@ -27,7 +27,7 @@ pub(crate) struct NamedRegions<
 /// Gives all regions their name.
 pub(crate) fn name_regions<
     'a,
-    N: region_lock::Naming + log_service::Naming + region_versions::Naming,
+    N: region_lock::LockNaming + log_service::ServiceNaming + region_versions::VersionsNaming,
     R: Wait,
 >(
     rt: &'a R,
@@ -37,7 +37,7 @@ pub(crate) fn name_regions<
 ) -> Result<NamedRegions<N, &'a R>, NoMemory>
     requires seeds { AreSeeds handlers 1 seeds.items }
     requires handlers { (1 ≤ handlers) × (handlers ≤ 16) × (handlers ≡ N.handlers) }
-    requires named { AreNamedSeeds N.desk N.spent N.book N.Naming-3.base N.lasts seeds.items }
+    requires named { AreNamedSeeds N.desk N.spent N.book N.region_base N.lasts seeds.items }
     ensures unlocked { IfOk result (λ n. AreFrom 1 n.unlocked.items × (length n.unlocked.items ≡ length seeds.items)) }
     ensures hands { IfOk result (λ n. AreDeals 1 handlers n.hands.items × (length n.hands.items ≡ length seeds.items)) }
 {
@@ -56,7 +56,7 @@ pub(crate) fn name_regions<
 }
 
 /// For each handler room for its hands of all regions.
-pub(crate) fn make_rooms<N: region_lock::Naming + region_versions::Naming>(
+pub(crate) fn make_rooms<N: region_lock::LockNaming + region_versions::VersionsNaming>(
     alloc: Global,
     regions: usize,
     handlers: u32,

@@ -2,7 +2,7 @@
 
 ghost use Rattle.std.specs.Prelude.{◌≡◌};
 
-use crate::naming::Naming;
+use crate::naming::ServerNaming;
 use append_ring::RingPasses;
 use disk_images::Disk;
 use log_service::{Item, LogService};
@@ -15,7 +15,10 @@ use std::sync::{Mutex, Wait};
 pub struct Server<
     'a,
     D: Disk,
-    N: Naming + region_lock::Naming + log_service::Naming + region_versions::Naming,
+    N: ServerNaming
+        + region_lock::LockNaming
+        + log_service::ServiceNaming
+        + region_versions::VersionsNaming,
     R: Wait,
 > {
     pub(crate) service: LogService<D, N>,
@@ -30,7 +33,10 @@ pub struct Server<
 impl<
     'a,
     D: Disk,
-    N: Naming + region_lock::Naming + log_service::Naming + region_versions::Naming,
+    N: ServerNaming
+        + region_lock::LockNaming
+        + log_service::ServiceNaming
+        + region_versions::VersionsNaming,
     R: Wait,
 > Model for Server<'a, D, N, R> {
     ghost use Rattle.std.specs.Prelude.{length};
@@ -41,5 +47,5 @@ impl<
 
     ghost view = { λ s. s.service };
 
-    ghost invariant = { λ s. IsBegun D.told N.name N.found N.handlers N.flushes N.ring N.lasts ⟦<N as log_service::Naming>⟧.base ⟦<N as region_versions::Naming>⟧.base s.service × AreLocked s.service (length s.regions.items) s.places };
+    ghost invariant = { λ s. IsBegun D.told N.name N.found N.handlers N.flushes N.ring N.lasts N.begun N.region_base s.service × AreLocked s.service (length s.regions.items) s.places };
 }

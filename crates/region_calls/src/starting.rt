@@ -14,7 +14,7 @@ ghost use Rattle.region_calls.specs.Store.{IsStore, disk_now, disk_found, disk_b
 
 use crate::hands::RegionHands;
 use crate::helpers::Helpers;
-use crate::naming::Naming;
+use crate::naming::ServerNaming;
 use crate::pass::Pass;
 use crate::passes::Passes;
 use crate::refusal::{StartRefusal, StartWhy};
@@ -35,7 +35,10 @@ use std::sync::{Mutex, Wait};
 pub struct Started<
     'a,
     D: Disk,
-    N: Naming + region_lock::Naming + log_service::Naming + region_versions::Naming,
+    N: ServerNaming
+        + region_lock::LockNaming
+        + log_service::ServiceNaming
+        + region_versions::VersionsNaming,
     R: Wait,
 > {
     pub server: Server<'a, D, N, R>,
@@ -47,7 +50,10 @@ pub struct Started<
 #[derive(Drop)]
 struct Room<
     'a,
-    N: Naming + region_lock::Naming + log_service::Naming + region_versions::Naming,
+    N: ServerNaming
+        + region_lock::LockNaming
+        + log_service::ServiceNaming
+        + region_versions::VersionsNaming,
     R: Wait,
 > {
     unlocked: Vec<Unlocked<N, &'a R>>,
@@ -61,7 +67,10 @@ struct Room<
 /// Takes the memory.
 fn make_room<
     'a,
-    N: Naming + region_lock::Naming + log_service::Naming + region_versions::Naming,
+    N: ServerNaming
+        + region_lock::LockNaming
+        + log_service::ServiceNaming
+        + region_versions::VersionsNaming,
     R: Wait,
 >(
     rt: &'a R,
@@ -71,7 +80,7 @@ fn make_room<
 ) -> Result<Room<'a, N, R>, NoMemory>
     requires seeds { AreSeeds handlers 1 seeds.items }
     requires handlers { (1 ≤ handlers) × (handlers ≤ 16) × (handlers ≡ N.handlers) }
-    requires named { AreNamedSeeds N.desk N.spent N.book N.Naming-4.base N.lasts seeds.items }
+    requires named { AreNamedSeeds N.desk N.spent N.book N.region_base N.lasts seeds.items }
     ensures regions { IfOk result
         (λ r. AreFrom 1 r.unlocked.items × (length r.unlocked.items ≡ length seeds.items) × AreDeals 1 handlers r.hands.items
         × (length r.hands.items ≡ length seeds.items)) }
@@ -97,7 +106,10 @@ fn make_room<
 }
 
 /// Puts each region behind its lock, with its pass of the ring.
-fn lock_all<N: region_lock::Naming + log_service::Naming + region_versions::Naming, R: Wait + Drop>(
+fn lock_all<
+    N: region_lock::LockNaming + log_service::ServiceNaming + region_versions::VersionsNaming,
+    R: Wait + Drop,
+>(
     passes: &mut RingPasses<Item>,
     unlocked: Vec<Unlocked<N, R>>,
     locks: Vec<Mutex<Locked<N, R>>>,
@@ -122,11 +134,14 @@ fn lock_all<N: region_lock::Naming + log_service::Naming + region_versions::Nami
 fn join<
     'a,
     D: Disk,
-    N: Naming + region_lock::Naming + log_service::Naming + region_versions::Naming,
+    N: ServerNaming
+        + region_lock::LockNaming
+        + log_service::ServiceNaming
+        + region_versions::VersionsNaming,
     R: Wait,
 >(rt: &'a R, parts: ServiceParts<D, N>, room: Room<'a, N, R>, handlers: u32) -> Started<'a, D, N, R>
     requires handlers { (1 ≤ handlers) × (handlers ≤ 16) × (handlers ≡ N.handlers) }
-    requires served { IsBegun D.told N.name N.found N.handlers N.flushes N.ring N.lasts N.Naming-3.base N.Naming-4.base parts.service }
+    requires served { IsBegun D.told N.name N.found N.handlers N.flushes N.ring N.lasts N.begun N.region_base parts.service }
     requires passes { AreNew N.ring N.lasts 0 parts.passes × (length parts.passes ≡ parts.service.regions) }
     requires seats { AreNewSeats parts.service (handlers + 2) parts.seats }
     requires regions { AreFrom 1 room.unlocked.items × (length room.unlocked.items ≡ parts.service.regions)
@@ -185,16 +200,19 @@ impl<D: Disk> Opened<D> {
     /// disk back. The server keeps the handle `rt`, since its drop waits for those that view a region.
     pub fn named<
         'a,
-        N: Naming + region_lock::Naming + log_service::Naming + region_versions::Naming,
+        N: ServerNaming
+            + region_lock::LockNaming
+            + log_service::ServiceNaming
+            + region_versions::VersionsNaming,
         R: Wait,
     >(self, rt: &'a R, alloc: Global) -> Result<Started<'a, D, N, R>, StartRefusal<D>>
-        requires name { N.name ≡ name_of (length N.lasts) N.handlers N.Naming-4.base N.flushes }
+        requires name { N.name ≡ name_of (length N.lasts) N.handlers N.region_base N.flushes }
         requires store { IsStore D.Disk self }
         requires handlers { N.handlers ≡ handlers_of self }
         requires lasts { N.lasts ≡ lasts_of (bases_of self) }
         requires rings { (N.ring ≡ ring_of self) × (N.hand ≡ hand_of self) }
-        requires regions { (r : ℕ) → 1 ≤ r → r ≤ regions_of self → AreTablesOf N.desk N.spent N.book N.Naming-4.base self r }
-        requires begun { (N.Naming-3.base ≡ (D.view (disk_begun self)).files) × (N.start ≡ (D.view (disk_now self)).clock)
+        requires regions { (r : ℕ) → 1 ≤ r → r ≤ regions_of self → AreTablesOf N.desk N.spent N.book N.region_base self r }
+        requires begun { (N.begun ≡ (D.view (disk_begun self)).files) × (N.start ≡ (D.view (disk_now self)).clock)
             × (N.faults ≡ D.faults (disk_now self)) }
         requires past { (t : ℕ) (J : Files) → t ≤ N.start
             → ((D.view (disk_now self)).image t J → N.past t J) × (N.past t J → (D.view (disk_now self)).image t J) }

@@ -10,7 +10,7 @@ use crate::dealing::deal;
 use crate::pass::Pass;
 use crate::passes::Passes;
 
-impl<N: region_lock::Naming + region_versions::Naming> Passes<N> {
+impl<N: region_lock::LockNaming + region_versions::VersionsNaming> Passes<N> {
     /// The pass of the next handler, from 1 on, and None exactly after the last. It takes no memory.
     pub fn next(&mut self) -> Option<Pass<N>>
         requires of { (place : Place) × ArePassesOf place N.handlers self.old }

@@ -22,7 +22,7 @@ use std::sync::Wait;
 /// All that lies under a region's lock, but its pass of the ring. Contracts see the region.
 #[derive(Drop)]
 pub(crate) struct Unlocked<
-    N: region_lock::Naming + log_service::Naming + region_versions::Naming,
+    N: region_lock::LockNaming + log_service::ServiceNaming + region_versions::VersionsNaming,
     R: Wait + Drop,
 > {
     state: RegionState,
@@ -32,8 +32,10 @@ pub(crate) struct Unlocked<
     shower: Shower<N, R>,
 }
 
-impl<N: region_lock::Naming + log_service::Naming + region_versions::Naming, R: Wait + Drop> Model
-    for Unlocked<N, R> {
+impl<
+    N: region_lock::LockNaming + log_service::ServiceNaming + region_versions::VersionsNaming,
+    R: Wait + Drop,
+> Model for Unlocked<N, R> {
     ghost use Rattle.std.specs.Prelude.{ℕ};
     ghost use Rattle.region_calls.specs.Named.{IsUnlocked};
 
@@ -41,13 +43,13 @@ impl<N: region_lock::Naming + log_service::Naming + region_versions::Naming, R: 
 
     ghost view = { λ u. u.state.region };
 
-    ghost invariant = { λ u. IsUnlocked (N.desk u.state.region) (N.spent u.state.region) (⟦<N as region_versions::Naming>⟧.base u.state.region) N.lasts N.handlers u.state u.desk u.spent u.history u.shower.shown };
+    ghost invariant = { λ u. IsUnlocked (N.desk u.state.region) (N.spent u.state.region) (N.region_base u.state.region) N.lasts N.handlers u.state u.desk u.spent u.history u.shower.shown };
 }
 
 /// The region, and the hands of its handlers.
 #[derive(Drop)]
 pub(crate) struct NamedRegion<
-    N: region_lock::Naming + log_service::Naming + region_versions::Naming,
+    N: region_lock::LockNaming + log_service::ServiceNaming + region_versions::VersionsNaming,
     R: Wait + Drop,
 > {
     pub(crate) unlocked: Unlocked<N, R>,
@@ -55,7 +57,7 @@ pub(crate) struct NamedRegion<
 }
 
 impl<
-    N: region_lock::Naming + log_service::Naming + region_versions::Naming,
+    N: region_lock::LockNaming + log_service::ServiceNaming + region_versions::VersionsNaming,
     R: Wait + Drop,
 > NamedRegion<N, R> {
     /// Gives a region's parts their name. It keeps the handle `rt`, since its drop waits for those that view it.
@@ -67,7 +69,7 @@ impl<
     ) -> Result<NamedRegion<N, R>, NoMemory>
         requires seed { IsSeed handlers seeds.state.region seeds }
         requires handlers { (1 ≤ handlers) × (handlers ≤ 16) × (handlers ≡ N.handlers) }
-        requires named { IsNamedSeed N.desk N.spent N.book N.Naming-3.base N.lasts seeds }
+        requires named { IsNamedSeed N.desk N.spent N.book N.region_base N.lasts seeds }
         ensures region { IfOk result (λ n. n.unlocked ≡ seeds.state.region) }
         ensures hands { IfOk result (λ n. n.hands ≡ deal_of seeds.state.region 1 handlers) }
     {
@@ -110,7 +112,7 @@ impl<
 }
 
 impl<
-    N: region_lock::Naming + log_service::Naming + region_versions::Naming,
+    N: region_lock::LockNaming + log_service::ServiceNaming + region_versions::VersionsNaming,
     R: Wait + Drop,
 > Unlocked<N, R> {
     /// The value of the region's lock, with its pass, under which nothing was pushed.

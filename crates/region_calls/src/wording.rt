@@ -2,28 +2,30 @@
 
 ghost use Rattle.std.specs.Prelude.{◌≡◌, ◌≤◌, ◌<◌, ◌*◌, ◌+◌, ◌^◌, ℕ, [], length, Some, slice_get, slice_index, vec_capacity};
 ghost use Rattle.log_service.specs.Closed.{synced_in, stored_in, closed_in};
-ghost use Rattle.region_calls.specs.Closes.{IsStoredIn};
+ghost use Rattle.region_calls.specs.Closes.{AreWordsIn};
 ghost use Rattle.region_calls.specs.Wordings.{IsWorded};
 
 use crate::apart::{Taken, sure};
 use crate::closed::ClosedRegion;
 use std::sync::Wait;
 
-/// A region with its words, of those of a log of so many regions. The stored word lies in the journal: where it doesn't, which no run
-/// shows, it does not return.
+/// A region with its words, of those of a log of so many regions. The synced word and the stored one lie in the journal: where one doesn't,
+/// which no run shows, it does not return.
 fn word<S: Wait>(rt: &S, taken: Taken, words: &[u64], regions: usize, place: usize) -> ClosedRegion
     requires words { (length words.now ≡ 3 * regions) × (place < regions) × (regions ≤ 64) }
     ensures { IsWorded regions words.now place taken.base taken.lines.items result }
 {
     let Taken { base, lines } = taken;
+    let synced = words[place];
     let stored = words[regions + place];
-    let within = base.last <= stored && stored - base.last <= lines.len() as u64;
-    sure(rt, within);
+    let count = lines.len() as u64;
+    let within = base.last <= stored && stored - base.last <= count;
+    sure(rt, within && synced.saturating_sub(base.last) <= count);
     ClosedRegion {
         region: place as u32 + 1,
         base,
         lines,
-        synced: words[place],
+        synced,
         stored,
         closed: words[regions + regions + place],
     }

@@ -1,5 +1,5 @@
 -- What a flush's steps come to.
-use Rattle.std.proofs.Common.{◌≡◌, ℕ, ◌+◌, ◌≤◌, true, List, Some, Result, Ok, Err, refl, sym, subst, arith}
+use Rattle.std.proofs.Common.{◌≡◌, ℕ, ◌+◌, ◌≤◌, true, List, Option, Some, None, Result, Ok, Err, refl, sym, subst, arith}
 use mathlib.Core.List.{IsPrefix}
 use Rattle.region_model.specs.Journal.{Base, Caller}
 use Rattle.region_model.specs.Calls.{Answer, FlushOk, FlushNothing, FlushBusy, FlushFault, FlushMemory}
@@ -21,39 +21,39 @@ use Rattle.region_lock.specs.Parts.{Part, AreBelow}
 use Rattle.region_lock.proofs.Knowns.{at_region, later_at, quiet_at, last_same, below_edits}
 
 -- a flush that found no other one under way
-pub flush_at : (n : ℕ) (base : Base) (flushes : List Caller) (caller : Caller) (answer : Answer) (r r' : ℕ) (own own' shown shown' : List Line) (told told' : List ℕ) (seat seat' : LogSeat) (upto : ℕ)
+pub flush_at : (n : ℕ) (base : Base) (flushes : List Caller) (family : Option (List ℕ)) (caller : Caller) (answer : Answer) (r r' : ℕ) (own own' shown shown' : List Line) (told told' : List ℕ) (seat seat' : LogSeat) (upto : ℕ)
     → r' ≡ r → own' ≡ own → told' ≡ told → IsPrefix shown shown' → IsLaterSeat seat seat' → last_in base shown ≤ upto → AreBelow (upto + 1) own
-    → ((m : ℕ) → flushed_of answer ≡ Some m → (upto ≤ m) × (m ≤ seen_stored n seat'.device.knows r)) → ((h c : ℕ) → answer ≡ FlushBusy h c → ⊥) → (answer ≡ FlushFault → seat'.device.knows.broken ≡ true)
-    → ((m : ℕ) → answer ≡ FlushOk m → HasFlushed n r upto m seat.device.knows seat'.device.knows) → ((m : ℕ) → answer ≡ FlushNothing m → HadNothing n r upto m seat'.device.knows)
-    → FlushesAt base flushes caller answer (at_region n r own shown told seat) (at_region n r' own' shown' told' seat') seat.device.knows.broken seat'.device.knows.broken
-flush_at n base flushes caller answer r r' own own' shown shown' told told' seat seat' upto same mine spent later words above below number busy fault ok nothing = record {
+    → ((m : ℕ) → flushed_of answer ≡ Some m → (upto ≤ m) × (family ≡ None → m ≤ seen_stored n seat'.device.knows r)) → ((h c : ℕ) → answer ≡ FlushBusy h c → ⊥) → (answer ≡ FlushFault → seat'.device.knows.broken ≡ true)
+    → ((m : ℕ) → answer ≡ FlushOk m → HasFlushed n r family upto m seat.device.knows seat'.device.knows) → ((m : ℕ) → answer ≡ FlushNothing m → HadNothing n r family upto m seat'.device.knows)
+    → FlushesAt base flushes family caller answer (at_region n r own shown told seat) (at_region n r' own' shown' told' seat') seat.device.knows.broken seat'.device.knows.broken
+flush_at n base flushes family caller answer r r' own own' shown shown' told told' seat seat' upto same mine spent later words above below number busy fault ok nothing = record {
   later = later_at n r r' own own' shown shown' told told' seat seat' same later words;
   own = quiet_at n r r' own own' shown shown' told told' seat seat' same mine spent;
   above = λ m some. let l = last_same base r shown in let u = (number m some).0 in omega (arith, l, above, u);
   above_own = λ m e some c. let u = (number m some).0 in let lt = below_edits r (upto + 1) own below e c in omega (arith, u, lt);
-  stored = λ m some. subst (λ (k : ℕ). m ≤ seen_stored n seat'.device.knows k) (sym same) (number m some).1;
+  stored = λ m all some. subst (λ (k : ℕ). m ≤ seen_stored n seat'.device.knows k) (sym same) ((number m some).1 all);
   busy = λ h c is. absurd (busy h c is);
   fault = fault;
   stays = λ b. (words.fault b).0;
-  flushed = λ m is. subst (λ (k : ℕ). IsFlushedTo m (at_region n r own shown told seat) (at_region n k own' shown' told' seat')) (sym same) (let h = ok m is in record { stored = h.stored; synced = h.last; more = h.above });
-  nothing = λ m is. subst (λ (k : ℕ). IsNothingAbove m (at_region n k own' shown' told' seat')) (sym same) (let h = nothing m is in record { stored = h.stored; synced = h.last });
+  flushed = λ m is. subst (λ (k : ℕ). IsFlushedTo family m (at_region n r own shown told seat) (at_region n k own' shown' told' seat')) (sym same) (let h = ok m is in record { stored = h.stored; synced = h.last; more = h.above });
+  nothing = λ m is. subst (λ (k : ℕ). IsNothingAbove family m (at_region n k own' shown' told' seat')) (sym same) (let h = nothing m is in record { stored = h.stored; synced = h.last });
 }
 
 -- a flush that the log refused
-pub refused_at : (n : ℕ) (base : Base) (flushes : List Caller) (caller : Caller) (refusal : DeviceFlush) (r r' : ℕ) (own own' shown shown' : List Line) (told told' : List ℕ) (seat seat' : LogSeat) (upto : ℕ)
+pub refused_at : (n : ℕ) (base : Base) (flushes : List Caller) (family : Option (List ℕ)) (caller : Caller) (refusal : DeviceFlush) (r r' : ℕ) (own own' shown shown' : List Line) (told told' : List ℕ) (seat seat' : LogSeat) (upto : ℕ)
     → r' ≡ r → own' ≡ own → told' ≡ told → IsPrefix shown shown' → IsLaterSeat seat seat' → last_in base shown ≤ upto → AreBelow (upto + 1) own
-    → ((m : ℕ) → refusal ≡ DeviceFlush.Nothing m → HadNothing n r upto m seat'.device.knows) → (refusal ≡ DeviceFlush.WriteFault → seat'.device.knows.broken ≡ true)
-    → FlushesAt base flushes caller (refused_flush refusal) (at_region n r own shown told seat) (at_region n r' own' shown' told' seat') seat.device.knows.broken seat'.device.knows.broken
-refused_at n base flushes caller device.Memory r r' own own' shown shown' told told' seat seat' upto same mine spent later words above below number fault =
-    flush_at n base flushes caller FlushMemory r r' own own' shown shown' told told' seat seat' upto same mine spent later words above below (λ m some. absurd (cc some)) (λ h c is. absurd (cc is)) (λ is. absurd (cc is))
+    → ((m : ℕ) → refusal ≡ DeviceFlush.Nothing m → HadNothing n r family upto m seat'.device.knows) → (refusal ≡ DeviceFlush.WriteFault → seat'.device.knows.broken ≡ true)
+    → FlushesAt base flushes family caller (refused_flush refusal) (at_region n r own shown told seat) (at_region n r' own' shown' told' seat') seat.device.knows.broken seat'.device.knows.broken
+refused_at n base flushes family caller device.Memory r r' own own' shown shown' told told' seat seat' upto same mine spent later words above below number fault =
+    flush_at n base flushes family caller FlushMemory r r' own own' shown shown' told told' seat seat' upto same mine spent later words above below (λ m some. absurd (cc some)) (λ h c is. absurd (cc is)) (λ is. absurd (cc is))
     (λ m is. absurd (cc is)) (λ m is. absurd (cc is))
-refused_at n base flushes caller device.WriteFault r r' own own' shown shown' told told' seat seat' upto same mine spent later words above below number fault =
-    flush_at n base flushes caller FlushFault r r' own own' shown shown' told told' seat seat' upto same mine spent later words above below (λ m some. absurd (cc some)) (λ h c is. absurd (cc is)) (λ is. fault refl)
+refused_at n base flushes family caller device.WriteFault r r' own own' shown shown' told told' seat seat' upto same mine spent later words above below number fault =
+    flush_at n base flushes family caller FlushFault r r' own own' shown shown' told told' seat seat' upto same mine spent later words above below (λ m some. absurd (cc some)) (λ h c is. absurd (cc is)) (λ is. fault refl)
     (λ m is. absurd (cc is)) (λ m is. absurd (cc is))
-refused_at n base flushes caller (device.Nothing k) r r' own own' shown shown' told told' seat seat' upto same mine spent later words above below number fault =
-    flush_at n base flushes caller (FlushNothing k) r r' own own' shown shown' told told' seat seat' upto same mine spent later words above below
-    (λ m some. subst (λ (j : ℕ). (upto ≤ j) × (j ≤ seen_stored n seat'.device.knows r)) (cc some) (let h = number k refl in (h.upto, omega (arith, h.stored)))) (λ h c is. absurd (cc is)) (λ is. absurd (cc is))
-    (λ m is. absurd (cc is)) (λ m is. subst (λ (j : ℕ). HadNothing n r upto j seat'.device.knows) (cc is) (number k refl))
+refused_at n base flushes family caller (device.Nothing k) r r' own own' shown shown' told told' seat seat' upto same mine spent later words above below number fault =
+    flush_at n base flushes family caller (FlushNothing k) r r' own own' shown shown' told told' seat seat' upto same mine spent later words above below
+    (λ m some. subst (λ (j : ℕ). (upto ≤ j) × (family ≡ None → j ≤ seen_stored n seat'.device.knows r)) (cc some) (let h = number k refl in (h.upto, λ all. omega (arith, h.stored all)))) (λ h c is. absurd (cc is)) (λ is. absurd (cc is))
+    (λ m is. absurd (cc is)) (λ m is. subst (λ (j : ℕ). HadNothing n r family upto j seat'.device.knows) (cc is) (number k refl))
 
 -- what a look under the lock answers, of a pass that had seen no more than the write point
 pub look_at : (seen : ℕ) (flushes : List Caller) (by : Caller) (old new : Part) (mine mine' : Record Line) (result : Result ℕ Caller) → IsLooked flushes by old mine result new mine' → seen ≤ write_point old.state

@@ -1,6 +1,6 @@
 -- One call of a pass, from what it does to what is known of its region.
 use Rattle.std.proofs.lemmas.Bool.{cases_eq}
-use Rattle.std.proofs.Common.{◌≡◌, ◌≢◌, ℕ, ◌≤◌, Bool, IsTrue, List, sym, ◌∙◌, subst, inl, inr, arith}
+use Rattle.std.proofs.Common.{◌≡◌, ◌≢◌, ℕ, ◌≤◌, Bool, IsTrue, List, Option, sym, ◌∙◌, subst, inl, inr, arith}
 use Rattle.cell_model.specs.Batch.{Batch}
 use Rattle.region_model.specs.Journal.{Caller}
 use Rattle.region_model.specs.Calls.{Answer, Raw, is_put, is_scan, is_flush, is_roll}
@@ -51,10 +51,10 @@ scans_from name r from to answer old new answered p others handler used broken =
 }
 
 -- One flush of a pass.
-pub flushes_from : (name : Naming) (r : ℕ) (caller : Caller) (answer : Answer) (old new : Pass) → IsTrue (is_flush answer)
-    → FlushesAt (name.bases r) (name.flushes r) caller answer (old.known r) (new.known r) old.broken new.broken → ((s : ℕ) → s ≢ r → IsLaterOf (old.known s) (new.known s) × IsQuiet (old.known s) (new.known s))
-    → new.handler ≡ old.handler → old.calls ≤ caller.call → new.calls ≡ caller.call → Flushes name r caller answer old new
-flushes_from name r caller answer old new answered p others handler calls used = record {
+pub flushes_from : (name : Naming) (r : ℕ) (family : Option (List ℕ)) (caller : Caller) (answer : Answer) (old new : Pass) → IsTrue (is_flush answer)
+    → FlushesAt (name.bases r) (name.flushes r) family caller answer (old.known r) (new.known r) old.broken new.broken → ((s : ℕ) → s ≢ r → IsLaterOf (old.known s) (new.known s) × IsQuiet (old.known s) (new.known s))
+    → new.handler ≡ old.handler → old.calls ≤ caller.call → new.calls ≡ caller.call → Flushes name r family caller answer old new
+flushes_from name r family caller answer old new answered p others handler calls used = record {
   answered = answered;
   later = record { handler = handler; calls = omega (arith, used, calls); known = later_of_all r old new p.later (λ s other. (others s other).0); broken = p.stays };
   own = quiet_of_all r old new p.own (λ s other. (others s other).1);

@@ -10,7 +10,9 @@ use Rattle.append_ring.specs.declared.pass.RingPass.{RingPass}
 use Rattle.append_ring.specs.Rules.{HasPushed, base_of, end_of, next_or}
 use Rattle.append_ring.specs.Parts.{last_pushed}
 use Rattle.log_model.specs.Entry.{Entry, IsEntry, entry_frame}
-use Rattle.log_trucks.specs.Held.{Held, Haul, held_of, AreHeld, IsHeld}
+use Rattle.seq_accounting.specs.Accounts.{AreFamiliesOf}
+use Rattle.log_trucks.specs.Held.{Held, Haul, held_of, AreHeld, IsHeld, Carries}
+use Rattle.std.specs.Arc.{arc_value}
 use Rattle.region_model.specs.Journal.{Base, Caller, Outcome, Follows}
 use Rattle.region_model.specs.Lines.{Line, edit_in, edits_in, last_in, handled_lines, with_outcome}
 use Rattle.region_model.proofs.LineLaws.{length-with_outcome}
@@ -18,7 +20,7 @@ use Rattle.append_ring.specs.declared.ring.Full.{Full}
 use Rattle.log_service.specs.declared.item.Item.{Item}
 use Rattle.log_service.specs.declared.item.Item.TheVariants as items
 use Rattle.log_service.specs.Items.{appended, number_of}
-use Rattle.log_service.specs.Trucks.{IsSpelled}
+use Rattle.log_service.specs.Trucks.{IsSpelled, alone}
 use Rattle.log_service.specs.Moves.{HadItems}
 use Rattle.log_service.proofs.Committed.{held_append}
 use Rattle.region_lock.specs.declared.job.Job.{Job}
@@ -135,32 +137,33 @@ entry_numbered e n is least most = record { region_given = is.region_given; regi
 
 -- its entry under the number that it gets
 pub job_entry : (r n : ℕ) (j : Job) → IsJob r j → 1 ≤ n → n < 2 ^ 48 → IsEntry (entry_under r n j)
-job_entry r n j is least most = entry_numbered (entry_under r is.number j) n is.entry least most
+job_entry r n j is least most = entry_numbered (entry_under r is.number j) n is.carries.entry least most
 
--- a truck that got a number spells the entry under it
+-- a truck that got a number has the entry under it
+pub carried : (r n : ℕ) (j : Job) (old new : Haul) → IsJob r j → old ≡ j.truck.value → new ≡ record old { number = n; bytes = new.bytes } → ((e : Entry) → old.bytes ≡ entry_frame e → new.bytes ≡ entry_frame (record e { number = n }))
+    → 1 ≤ n → n < 2 ^ 48 → Carries new (entry_under r n j)
+carried r n j old new is was now bytes least most = record {
+  entry = job_entry r n j is least most;
+  bytes = bytes (entry_under r is.number j) (ap (λ (h : Haul). h.bytes) was ∙ is.carries.bytes);
+  region = is.carries.region ∙ sym (ap (λ (h : Haul). h.region) now ∙ ap (λ (h : Haul). h.region) was);
+  number = sym (ap (λ (h : Haul). h.number) now);
+  families = subst (AreFamiliesOf (arc_value j.batch).cells) (sym (ap (λ (h : Haul). h.families) now ∙ ap (λ (h : Haul). h.families) was)) is.carries.families;
+}
+
 pub spelled : (r n : ℕ) (j : Job) (old new : Haul) → IsJob r j → old ≡ j.truck.value → new ≡ record old { number = n; bytes = new.bytes } → ((e : Entry) → old.bytes ≡ entry_frame e → new.bytes ≡ entry_frame (record e { number = n }))
     → 1 ≤ n → n < 2 ^ 48 → IsSpelled (held_of new) × (new.behind ≡ [])
 spelled r n j old new is was now bytes least most =
-    let same : new.bytes ≡ entry_frame (entry_under r n j) = bytes (entry_under r is.number j) (ap (λ (h : Haul). h.bytes) was ∙ is.bytes) in
-    let region : new.region ≡ r = ap (λ (h : Haul). h.region) now ∙ ap (λ (h : Haul). h.region) was ∙ is.region in
-    let number : new.number ≡ n = ap (λ (h : Haul). h.number) now in
-    let alone : new.behind ≡ [] = ap (λ (h : Haul). h.behind) now ∙ ap (λ (h : Haul). h.behind) was ∙ is.alone in
-    let it : (e : Entry) × IsEntry e × (new.bytes ≡ entry_frame e) × (e.region ≡ new.region) × (e.number ≡ new.number) = (entry_under r n j, job_entry r n j is least most, same, sym region, sym number) in
-    (∣ it ∣₁, alone)
-
--- its bytes
-pub stamped : (r n : ℕ) (j : Job) (old new : Haul) → IsJob r j → old ≡ j.truck.value → ((e : Entry) → old.bytes ≡ entry_frame e → new.bytes ≡ entry_frame (record e { number = n })) → new.bytes ≡ entry_frame (entry_under r n j)
-stamped r n j old new is was bytes = bytes (entry_under r is.number j) (ap (λ (h : Haul). h.bytes) was ∙ is.bytes)
+    let has = carried r n j old new is was now bytes least most in
+    let behind : new.behind ≡ [] = ap (λ (h : Haul). h.behind) now ∙ ap (λ (h : Haul). h.behind) was ∙ is.alone in
+    let it : (e : Entry) × Carries (alone (held_of new)) e = (entry_under r n j, record { entry = has.entry; bytes = has.bytes; region = has.region; number = has.number; families = has.families }) in
+    (∣ it ∣₁, behind)
 
 -- what it keeps is that entry
 pub kept : (r n : ℕ) (j : Job) (old new : Haul) → IsJob r j → old ≡ j.truck.value → new ≡ record old { number = n; bytes = new.bytes } → ((e : Entry) → old.bytes ≡ entry_frame e → new.bytes ≡ entry_frame (record e { number = n }))
     → 1 ≤ n → n < 2 ^ 48 → IsHeld (held_of new) (entry_under r n j)
-kept r n j old new is was now bytes least most = record {
-  region = ap (λ (h : Haul). h.region) now ∙ ap (λ (h : Haul). h.region) was ∙ is.region;
-  number = ap (λ (h : Haul). h.number) now;
-  bytes = stamped r n j old new is was bytes;
-  entry = job_entry r n j is least most;
-}
+kept r n j old new is was now bytes least most =
+    let has = carried r n j old new is was now bytes least most in
+    record { region = sym has.region; number = sym has.number; bytes = has.bytes; entry = has.entry }
 
 abbrev truck_in : Haul → Item → Haul
 truck_in none (items.Append truck) = truck.value
@@ -170,13 +173,10 @@ truck_in none (items.Sync region number) = none
 pub came_back : (r n : ℕ) (j : Job) (old new : Haul) (truck given : Box Haul) → items.Append truck ≡ items.Append given → given.value ≡ new → IsJob r j
     → old ≡ j.truck.value → new ≡ record old { number = n; bytes = new.bytes } → ((e : Entry) → old.bytes ≡ entry_frame e → new.bytes ≡ entry_frame (record e { number = n })) → 1 ≤ n → n < 2 ^ 48 → IsJob r (record j { truck = truck })
 came_back r n j old new truck given same back is was now bytes least most =
-    let held = kept r n j old new is was now bytes least most in
     let value : truck.value ≡ new = ap (truck_in new) same ∙ back in
     record {
       number = n;
-      entry = held.entry;
-      bytes = ap (λ (h : Haul). h.bytes) value ∙ held.bytes;
-      region = ap (λ (h : Haul). h.region) value ∙ held.region;
+      carries = subst (λ (h : Haul). Carries h (entry_under r n j)) (sym value) (carried r n j old new is was now bytes least most);
       alone = ap (λ (h : Haul). h.behind) value ∙ (spelled r n j old new is was now bytes least most).1;
       draft = is.draft;
     }

@@ -1,5 +1,5 @@
 -- One call of a handler on one region, by what it does to what its pass knows of that region.
-use Rattle.std.specs.Prelude.{◌≡◌, ◌≢◌, ℕ, ◌-◌, ◌^◌, ◌<◌, ◌≤◌, Bool, true, List, ◌++◌, Some, None, Contains}
+use Rattle.std.specs.Prelude.{◌≡◌, ◌≢◌, ℕ, ◌-◌, ◌^◌, ◌<◌, ◌≤◌, Bool, true, List, ◌++◌, Option, Some, None, Contains}
 use Rattle.cell_model.specs.Batch.{Batch}
 use Rattle.cell_model.specs.Cell.{Cell}
 use Rattle.region_model.specs.Journal.{Base, Caller, Done, Edit, last_of, visible}
@@ -35,18 +35,18 @@ pub record ScansAt (base : Base) (from to : List ℕ) (answer : Answer) (old new
   pub cells : (p : ℕ) (cells : List (ℕ × Cell)) → answer ≡ Scanned p cells
       → (p ≡ last_of base.last new.shown) × (cells ≡ visible base.content new.shown p from to)
 
--- A flush, of the region's flushes.
-pub record FlushesAt (base : Base) (flushes : List Caller) (caller : Caller) (answer : Answer) (old new : Known) (was is : Bool) : Type 0 where
+-- A flush of a family of the region or of all, of the region's flushes.
+pub record FlushesAt (base : Base) (flushes : List Caller) (family : Option (List ℕ)) (caller : Caller) (answer : Answer) (old new : Known) (was is : Bool) : Type 0 where
   pub later : IsLaterOf old new
   pub own : IsQuiet old new
   pub above : (n : ℕ) → flushed_of answer ≡ Some n → last_of base.last old.shown ≤ n
   pub above_own : (n : ℕ) (e : Edit) → flushed_of answer ≡ Some n → Contains old.own e → e.entry.number ≤ n
-  pub stored : (n : ℕ) → flushed_of answer ≡ Some n → n ≤ new.stored
+  pub stored : (n : ℕ) → family ≡ None → flushed_of answer ≡ Some n → n ≤ new.stored
   pub busy : (h c : ℕ) → answer ≡ FlushBusy h c → (h ≢ caller.handler) × Contains flushes (record { handler = h; call = c })
   pub fault : answer ≡ FlushFault → is ≡ true
   pub stays : was ≡ true → is ≡ true
-  pub flushed : (n : ℕ) → answer ≡ FlushOk n → IsFlushedTo n old new
-  pub nothing : (n : ℕ) → answer ≡ FlushNothing n → IsNothingAbove n new
+  pub flushed : (n : ℕ) → answer ≡ FlushOk n → IsFlushedTo family n old new
+  pub nothing : (n : ℕ) → answer ≡ FlushNothing n → IsNothingAbove family n new
 
 -- A roll, by what it does to the seat, where there are n regions.
 pub record RollsAt (n : ℕ) (answer : Answer) (old new : LogSeat) : Type 0 where

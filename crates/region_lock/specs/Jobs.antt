@@ -5,7 +5,8 @@ use Rattle.std.specs.declared.result.Result.TheVariants.{Ok, Err}
 use Rattle.std.specs.Arc.{arc_value}
 use Rattle.hand_register.specs.declared.known.Record.{Record}
 use Rattle.hand_register.specs.Desks.{with_value}
-use Rattle.log_model.specs.Entry.{Entry, IsEntry, entry_frame}
+use Rattle.log_model.specs.Entry.{Entry}
+use Rattle.log_trucks.specs.Held.{Carries}
 use Rattle.region_model.specs.Lines.{Line, pending}
 use Rattle.region_state.specs.States.{write_point}
 use Rattle.mem_segments.specs.Draft.{IsDraftOf}
@@ -21,12 +22,10 @@ entry_under r n j = record { region = r; number = n; time = j.time; batch = arc_
 abbrev pub line_of : ℕ → Job → Line
 line_of n j = pending n j.caller j.time (arc_value j.batch)
 
--- the truck spells the edit's entry under some number, and the draft is of its cells
+-- the truck has the edit's entry under some number, with the families of its cells, and the draft is of its cells
 pub record IsJob (r : ℕ) (j : Job) : Type 0 where
   pub number : ℕ
-  pub entry : IsEntry (entry_under r number j)
-  pub bytes : j.truck.value.bytes ≡ entry_frame (entry_under r number j)
-  pub region : j.truck.value.region ≡ r
+  pub carries : Carries j.truck.value (entry_under r number j)
   pub alone : j.truck.value.behind ≡ []
   pub draft : IsDraftOf j.draft (arc_value j.batch).cells
 

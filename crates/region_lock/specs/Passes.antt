@@ -7,7 +7,7 @@ use Rattle.log_service.specs.Places.{Place, IsSeatOf}
 use Rattle.region_model.specs.Lines.{edits_in}
 use Rattle.server_model.specs.Pass.{Known}
 use Rattle.region_lock.specs.declared.pass.RegionPass.{RegionPass}
-use Rattle.region_lock.specs.declared.naming.Naming.{Ghosts}
+use Rattle.region_lock.specs.declared.naming.LockNaming.{Ghosts}
 
 module _ {N : Type 0} {g : Ghosts N} where
   -- what it knows of its region, with this seat of a service of n regions

@@ -11,7 +11,7 @@ ghost use Rattle.region_lock.specs.Jobs.{IsJob, IsBegun};
 ghost use Rattle.region_lock.specs.Parts.{EndsPending, WasEnded, AreCalledBelow, with_lines};
 
 use crate::job::Job;
-use crate::naming::Naming;
+use crate::naming::LockNaming;
 use crate::part::RegionPart;
 use append_ring::Full;
 use disk_images::Disk;
@@ -22,7 +22,7 @@ use region_state::{Ended, Line};
 use std::sync::Wait;
 use write_queue::WriteEntry;
 
-impl<N: Naming + log_service::Naming + region_versions::Naming> RegionPart<N> {
+impl<N: LockNaming + log_service::ServiceNaming + region_versions::VersionsNaming> RegionPart<N> {
     /// Draws the next number for an edit, pushes its entry, and puts its pending line behind the journal and the handler's own list. Where
     /// the ring is full nothing changes, and the job comes back.
     pub(crate) fn begin<D: Disk, R: Wait>(

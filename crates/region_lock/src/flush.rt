@@ -1,6 +1,7 @@
 //! A flush of one region, between its mark's being set and being taken away.
 
-ghost use Rattle.std.specs.Prelude.{◌≡◌, ◌≤◌, Err, Contains};
+ghost use Rattle.std.specs.Prelude.{◌≡◌, ◌≤◌, length, Err, IfSome, Contains};
+ghost use Rattle.std.specs.Option.{option_map};
 ghost use Rattle.hand_register.specs.Desks.{with_mark};
 ghost use Rattle.region_model.specs.Lines.{last_in};
 ghost use Rattle.log_service.specs.Places.{IsSeatOf, IsLaterSeat};
@@ -11,7 +12,7 @@ ghost use Rattle.region_lock.specs.Passes.{IsAtService, SameButMark, SamePass, k
 
 use crate::answers::FlushRefusal;
 use crate::locked::Locked;
-use crate::naming::Naming;
+use crate::naming::LockNaming;
 use crate::pass::RegionPass;
 use disk_images::Disk;
 use log_device::DeviceFlush;
@@ -22,15 +23,14 @@ use std::sync::{Mutex, Wait};
 
 /// The look under the region's lock: this flush's mark is set, and the write point is given, which is at or above all that the pass has
 /// seen; or another handler's flush is under way.
-fn look<N: Naming + log_service::Naming + region_versions::Naming, R: Wait + Drop, S: Wait>(
-    rt: &S,
-    lock: &Mutex<Locked<N, R>>,
-    at: &mut RegionPass<N>,
-    by: Caller,
-) -> Result<u64, Caller>
+fn look<
+    N: LockNaming + log_service::ServiceNaming + region_versions::VersionsNaming,
+    R: Wait + Drop,
+    S: Wait,
+>(rt: &S, lock: &Mutex<Locked<N, R>>, at: &mut RegionPass<N>, by: Caller) -> Result<u64, Caller>
     requires caller { (by.handler ≡ at.old.hand.number) × (1 ≤ by.call) × Contains (N.flushes at.old.viewer.region) by }
     requires free { at.old.hand.record.mark ≡ 0 }
-    ensures looked { IsLookedAt (last_in (N.Naming-3.base at.old.viewer.region) at.old.viewer.lines) (N.flushes at.old.viewer.region) by at.old.hand.record
+    ensures looked { IsLookedAt (last_in (N.region_base at.old.viewer.region) at.old.viewer.lines) (N.flushes at.old.viewer.region) by at.old.hand.record
         result at.new.hand.record }
     ensures same { SameButMark at.old at.new }
 {
@@ -46,11 +46,11 @@ fn look<N: Naming + log_service::Naming + region_versions::Naming, R: Wait + Dro
 }
 
 /// Takes the flush's mark away, in another hold of the region's lock.
-fn unmark<N: Naming + log_service::Naming + region_versions::Naming, R: Wait + Drop, S: Wait>(
-    rt: &S,
-    lock: &Mutex<Locked<N, R>>,
-    at: &mut RegionPass<N>,
-)
+fn unmark<
+    N: LockNaming + log_service::ServiceNaming + region_versions::VersionsNaming,
+    R: Wait + Drop,
+    S: Wait,
+>(rt: &S, lock: &Mutex<Locked<N, R>>, at: &mut RegionPass<N>)
     requires marked { 1 ≤ at.old.hand.record.mark }
     ensures clear { at.new.hand.record ≡ with_mark at.old.hand.record 0 }
     ensures same { SameButMark at.old at.new }
@@ -66,11 +66,11 @@ fn unmark<N: Naming + log_service::Naming + region_versions::Naming, R: Wait + D
     unreachable!()
 }
 
-/// A flush of one region: the look under the region's lock, which sets this flush's mark; the log's flush up to the write point that was
+/// A flush of one region, of one family (1 to 127 bytes) or of all where none is given: the look under the region's lock, which sets this flush's mark; the log's flush up to the write point that was
 /// found there, with no lock held; and the mark is taken away, whatever the log answered. The number flushed is at or above each one of the
 /// region that the pass has seen. `Flushing` exactly where a flush by that caller was under way at the look.
 pub fn flush_in<
-    N: Naming + log_service::Naming + region_versions::Naming,
+    N: LockNaming + log_service::ServiceNaming + region_versions::VersionsNaming,
     D: Disk,
     R: Wait + Drop,
     S: Wait,
@@ -82,11 +82,13 @@ pub fn flush_in<
     at: &mut RegionPass<N>,
     seat: &mut LogSeat,
     by: Caller,
+    family: Option<&[u8]>,
 ) -> Result<u64, FlushRefusal>
+    requires family { IfSome family (λ f. (1 ≤ length f.now) × (length f.now ≤ 127)) }
     requires service { IsAtService N.ring service.now at.old.viewer.region seat.old }
     requires caller { (by.handler ≡ at.old.hand.number) × (1 ≤ by.call) × Contains (N.flushes at.old.viewer.region) by }
     requires free { at.old.hand.record.mark ≡ 0 }
-    ensures flushes { FlushesAt (N.Naming-3.base at.old.viewer.region) (N.flushes at.old.viewer.region) by (flush_answer result)
+    ensures flushes { FlushesAt (N.region_base at.old.viewer.region) (N.flushes at.old.viewer.region) (option_map (λ f. f.now) family.entry) by (flush_answer result)
         (known_of service.now.regions at.old seat.old) (known_of service.now.regions at.new seat.new)
         seat.old.device.knows.broken seat.new.device.knows.broken }
     ensures same { SamePass at.old at.new }
@@ -98,7 +100,7 @@ pub fn flush_in<
         Ok(upto) => upto,
         Err(by) => return Err(FlushRefusal::Flushing { by }),
     };
-    let flushed = service.flush(rt, alloc, seat, region, upto);
+    let flushed = service.flush(rt, alloc, seat, region, upto, family);
     unmark(rt, lock, at);
     match flushed {
         Ok(number) => Ok(number),

@@ -9,10 +9,12 @@ use kv_cell::{Batch, NoMemory};
 use log_trucks::Truck;
 use mem_segments::Draft;
 use region_state::Caller;
+use seq_accounting::FamilyMarks;
 use std::alloc::Global;
 use std::sync::Arc;
 
-/// An edit with all its memory: its batch, the draft of its cells, and a truck with its bytes under some number. The time is in milliseconds.
+/// An edit with all its memory: its batch, the draft of its cells, and a truck with its bytes under some number and the marks of its cells'
+/// families. The time is in milliseconds.
 #[derive(Drop)]
 pub struct Job {
     pub caller: Caller,
@@ -36,6 +38,7 @@ pub fn prepare(
     ensures of { IfOk result (λ job. (n : ℕ) → line_of n job ≡ pending n caller time batch) }
 {
     let bytes = encode_entry(alloc, region, 1, time, &batch)?;
+    let marks = FamilyMarks::of_batch(alloc, &batch).map_err(|_| NoMemory)?;
     let draft = Draft::new(alloc, &batch)?;
     let truck = Box::new(
         alloc,
@@ -43,6 +46,7 @@ pub fn prepare(
             region,
             number: 1,
             bytes,
+            marks,
             next: None,
         },
     )

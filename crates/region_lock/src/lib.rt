@@ -28,7 +28,7 @@ pub use flush::flush_in;
 pub use gate::{FreeGate, Gate};
 pub use job::{Job, prepare};
 pub use locked::Locked;
-pub use naming::Naming;
+pub use naming::LockNaming;
 pub use part::RegionPart;
 pub use pass::RegionPass;
 pub use put::put_in;

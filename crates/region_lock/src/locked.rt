@@ -16,7 +16,7 @@ ghost use Rattle.region_lock.specs.Passes.{known_of};
 ghost use Rattle.region_lock.specs.Tries.{IsTried};
 
 use crate::job::Job;
-use crate::naming::Naming;
+use crate::naming::LockNaming;
 use crate::part::RegionPart;
 use crate::pass::RegionPass;
 use crate::show::show_in;
@@ -41,14 +41,19 @@ pub(crate) enum Tried {
 
 /// The value of a region's lock: its part, the versions that are shown, and the history of what was completed. Contracts see the part.
 #[derive(Drop)]
-pub struct Locked<N: Naming + log_service::Naming + region_versions::Naming, R: Wait + Drop> {
+pub struct Locked<
+    N: LockNaming + log_service::ServiceNaming + region_versions::VersionsNaming,
+    R: Wait + Drop,
+> {
     pub(crate) part: RegionPart<N>,
     pub(crate) shower: Shower<N, R>,
     pub(crate) history: History<N>,
 }
 
-impl<N: Naming + log_service::Naming + region_versions::Naming, R: Wait + Drop> Model
-    for Locked<N, R> {
+impl<
+    N: LockNaming + log_service::ServiceNaming + region_versions::VersionsNaming,
+    R: Wait + Drop,
+> Model for Locked<N, R> {
     ghost use Rattle.region_lock.specs.Parts.{Part, coded_part};
     ghost use Rattle.region_lock.specs.Histories.{HasShown};
 
@@ -61,7 +66,10 @@ impl<N: Naming + log_service::Naming + region_versions::Naming, R: Wait + Drop> 
     ghost invariant = { λ l. HasShown l.part.state.region l.part.state.lines l.history l.shower.shown };
 }
 
-impl<N: Naming + log_service::Naming + region_versions::Naming, R: Wait + Drop> Locked<N, R> {
+impl<
+    N: LockNaming + log_service::ServiceNaming + region_versions::VersionsNaming,
+    R: Wait + Drop,
+> Locked<N, R> {
     /// Which region it is.
     pub fn region(&self) -> u32
         ensures { result ≡ self.now.state.region }
@@ -72,7 +80,7 @@ impl<N: Naming + log_service::Naming + region_versions::Naming, R: Wait + Drop> 
     /// The last number that was drawn, or the base's.
     pub(crate) fn write_point(&self) -> u64
         ensures point { result ≡ write_point self.now.state }
-        ensures base { self.now.state.base ≡ N.Naming-3.base self.now.state.region }
+        ensures base { self.now.state.base ≡ N.region_base self.now.state.region }
     {
         // For the proof: the base is the name's, which this call's clause says.
         let _first = self.part.first();
@@ -193,7 +201,7 @@ impl<N: Naming + log_service::Naming + region_versions::Naming, R: Wait + Drop> 
         ensures own { at.new.hand.record.list ≡ handled_lines at.new.hand.number self.old.state.lines }
         ensures spent { (n : ℕ) → Contains at.new.told.record.list n → n ≤ last_in self.old.state.base self.old.state.lines }
         ensures shown { IsTrue result → IsPrefix at.new.viewer.lines self.old.state.lines }
-        ensures placed { IsTrue result → ArePlaced (N.Naming-3.base self.old.state.region) at.new.hand.record.list at.new.viewer.lines }
+        ensures placed { IsTrue result → ArePlaced (N.region_base self.old.state.region) at.new.hand.record.list at.new.viewer.lines }
         ensures met { IsTrue result → (n : ℕ) (seat : LogSeat)
             → IsMet self.old.state.base (edits_in self.old.state.region self.old.state.lines) at.new.hand.number (known_of n at.new seat) }
     {

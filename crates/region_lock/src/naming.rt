@@ -2,7 +2,7 @@
 use std::marker::Brand;
 
 /// Which desks each region's lock has, and which calls are flushes of it. Contracts alone see it, and a call picks it.
-pub trait Naming {
+pub trait LockNaming {
     ghost use Rattle.std.specs.Prelude.{ℕ, List};
     ghost use Rattle.atomic_table.specs.Seated.{TableId};
     ghost use Rattle.region_model.specs.Journal.{Caller};
@@ -19,7 +19,7 @@ pub trait Naming {
     ghost handlers: { ℕ };
 }
 
-impl Naming for Brand {
+impl LockNaming for Brand {
     ghost use Rattle.std.specs.Prelude.{[]};
     ghost use Rattle.log_service.specs.Names.{no_table};
 

@@ -11,7 +11,7 @@ ghost use Rattle.log_service.specs.Closed.{HasPushedEntries};
 ghost use Rattle.region_lock.specs.Hands.{SameHand};
 ghost use Rattle.region_lock.specs.Parts.{AreOwned, entries_in, with_lines};
 
-use crate::naming::Naming;
+use crate::naming::LockNaming;
 use append_ring::RingPass;
 use hand_register::{Desk, Hand};
 use kv_cell::NoMemory;
@@ -24,7 +24,9 @@ use std::sync::Arc;
 
 /// The value of a region's lock but for what is shown. Contracts see the state, and the call of the flush that is under way.
 #[derive(Drop)]
-pub struct RegionPart<N: Naming + log_service::Naming + region_versions::Naming> {
+pub struct RegionPart<
+    N: LockNaming + log_service::ServiceNaming + region_versions::VersionsNaming,
+> {
     pub(crate) state: RegionState,
     pub(crate) pass: RingPass<Item>,
     pub(crate) desk: Desk<Line>,
@@ -33,7 +35,8 @@ pub struct RegionPart<N: Naming + log_service::Naming + region_versions::Naming>
     pub(crate) of: PhantomData<N>,
 }
 
-impl<N: Naming + log_service::Naming + region_versions::Naming> Model for RegionPart<N> {
+impl<N: LockNaming + log_service::ServiceNaming + region_versions::VersionsNaming> Model
+    for RegionPart<N> {
     ghost use Rattle.std.specs.Prelude.{length};
     ghost use Rattle.region_lock.specs.Parts.{Part, coded_part, IsPart, IsNamed};
 
@@ -44,11 +47,11 @@ impl<N: Naming + log_service::Naming + region_versions::Naming> Model for Region
     ghost view = { λ p. record { state = p.state; mark = p.mark } };
 
     ghost invariant = { λ p. IsPart (N.flushes p.state.region) p.state.region p.state.base p.state.lines p.mark p.desk.records p.spent.records p.pass
-        × IsNamed N.desk N.spent N.ring ⟦<N as region_versions::Naming>⟧.base N.handlers p.state.region p.state.base
+        × IsNamed N.desk N.spent N.ring N.region_base N.handlers p.state.region p.state.base
         (length p.desk.records) p.desk.id p.spent.id p.pass.pass.table_id p.pass.region };
 }
 
-impl<N: Naming + log_service::Naming + region_versions::Naming> RegionPart<N> {
+impl<N: LockNaming + log_service::ServiceNaming + region_versions::VersionsNaming> RegionPart<N> {
     /// Which region it is.
     pub fn region(&self) -> u32
         ensures { result ≡ self.now.state.region }
@@ -67,7 +70,7 @@ impl<N: Naming + log_service::Naming + region_versions::Naming> RegionPart<N> {
     /// The number behind which the journal begins.
     pub(crate) fn first(&self) -> u64
         ensures first { result ≡ self.now.state.base.last }
-        ensures base { self.now.state.base ≡ N.Naming-3.base self.now.state.region }
+        ensures base { self.now.state.base ≡ N.region_base self.now.state.region }
         ensures limit { write_point self.now.state < 2 ^ 48 }
     {
         // For the proof: a journal's numbers are below 2^48, which this call's clause says.
@@ -123,7 +126,7 @@ impl<N: Naming + log_service::Naming + region_versions::Naming> RegionPart<N> {
 
     /// The base, the journal and the pass of the ring, handed on. It takes no memory.
     pub fn into_parts(self) -> (Base, Vec<Line>, RingPass<Item>)
-        ensures base { (result.0 ≡ self.state.base) × (self.state.base ≡ N.Naming-3.base self.state.region) }
+        ensures base { (result.0 ≡ self.state.base) × (self.state.base ≡ N.region_base self.state.region) }
         ensures lines { result.1.items ≡ self.state.lines }
         ensures journal { IsJournal self.state.region self.state.base (edits_in self.state.region self.state.lines) }
         ensures limit { write_point self.state < 2 ^ 48 }

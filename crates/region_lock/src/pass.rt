@@ -2,14 +2,14 @@
 
 ghost use Rattle.std.specs.Prelude.{◌≡◌};
 
-use crate::naming::Naming;
+use crate::naming::LockNaming;
 use hand_register::Hand;
 use region_state::Line;
 use region_versions::Viewer;
 
 /// What a pass has of one region: its hands of the region's two desks, and its viewer.
 #[derive(Drop)]
-pub struct RegionPass<N: Naming + region_versions::Naming> {
+pub struct RegionPass<N: LockNaming + region_versions::VersionsNaming> {
     pub hand: Hand<Line>,
     pub told: Hand<u64>,
     pub viewer: Viewer<N>,
@@ -18,7 +18,7 @@ pub struct RegionPass<N: Naming + region_versions::Naming> {
     pub ghost one: { told.number ≡ hand.number },
 }
 
-impl<N: Naming + region_versions::Naming> RegionPass<N> {
+impl<N: LockNaming + region_versions::VersionsNaming> RegionPass<N> {
     /// Which region it is of.
     pub fn region(&self) -> u32
         ensures { result ≡ self.now.viewer.region }

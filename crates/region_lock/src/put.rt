@@ -19,7 +19,7 @@ use crate::answers::PutRefusal;
 use crate::gate::Gate;
 use crate::job::Job;
 use crate::locked::{Locked, Tried};
-use crate::naming::Naming;
+use crate::naming::LockNaming;
 use crate::pass::RegionPass;
 use crate::waiting::help;
 use disk_images::Disk;
@@ -33,7 +33,7 @@ use write_queue::WriteEntry;
 /// One try to begin the edit under the region's lock. Where the ring was full the fault word is loaded after it: the job comes back, to be tried
 /// again, only where that load found the word clear.
 fn attempt<
-    N: Naming + log_service::Naming + region_versions::Naming,
+    N: LockNaming + log_service::ServiceNaming + region_versions::VersionsNaming,
     D: Disk,
     R: Wait + Drop,
     S: Wait,
@@ -48,7 +48,7 @@ fn attempt<
     requires service { IsAtService N.ring service.now at.old.viewer.region seat.old }
     requires job { IsJob at.old.viewer.region job }
     requires caller { (job.caller.handler ≡ at.old.hand.number) × AreCalledBelow job.caller.call at.old.hand.record.list }
-    ensures drawn { IsAttempted (last_in (N.Naming-3.base at.old.viewer.region) at.old.viewer.lines) at.old.viewer.region job
+    ensures drawn { IsAttempted (last_in (N.region_base at.old.viewer.region) at.old.viewer.lines) at.old.viewer.region job
         at.old.hand.record.list at.old.told.record.list result at.new.hand.record.list at.new.told.record.list seat.new.device.knows.broken }
     ensures watched { IsWatched result seat.old.device.knows seat.new.device.knows }
     ensures same { SameView at.old at.new }
@@ -76,7 +76,7 @@ fn attempt<
 
 /// Begins the edit, in as many tries as it takes, and helps after each that found the ring full.
 fn draw<
-    N: Naming + log_service::Naming + region_versions::Naming,
+    N: LockNaming + log_service::ServiceNaming + region_versions::VersionsNaming,
     D: Disk,
     R: Wait + Drop,
     S: Wait,
@@ -91,7 +91,7 @@ fn draw<
     requires service { IsAtService N.ring service.now at.old.viewer.region seat.old }
     requires job { IsJob at.old.viewer.region job }
     requires caller { (job.caller.handler ≡ at.old.hand.number) × AreCalledBelow job.caller.call at.old.hand.record.list }
-    ensures drawn { IsDrawn (last_in (N.Naming-3.base at.old.viewer.region) at.old.viewer.lines) job at.old.hand.record.list at.old.told.record.list
+    ensures drawn { IsDrawn (last_in (N.region_base at.old.viewer.region) at.old.viewer.lines) job at.old.hand.record.list at.old.told.record.list
         result at.new.hand.record.list at.new.told.record.list seat.new.device.knows.broken }
     ensures same { SameView at.old at.new }
     ensures seat { IsSeatOf service.now seat.new }
@@ -109,7 +109,12 @@ fn draw<
 }
 
 /// Asks that the region's entries up to the number be durable; given up where the log is broken.
-fn ask<N: Naming + log_service::Naming + region_versions::Naming, D: Disk, R: Wait + Drop, S: Wait>(
+fn ask<
+    N: LockNaming + log_service::ServiceNaming + region_versions::VersionsNaming,
+    D: Disk,
+    R: Wait + Drop,
+    S: Wait,
+>(
     rt: &S,
     service: &LogService<D, N>,
     lock: &Mutex<Locked<N, R>>,
@@ -132,7 +137,7 @@ fn ask<N: Naming + log_service::Naming + region_versions::Naming, D: Disk, R: Wa
 
 /// Waits for what the put asked of the log, with no lock held. False where the log is broken below the number.
 fn await_log<
-    N: Naming + log_service::Naming + region_versions::Naming,
+    N: LockNaming + log_service::ServiceNaming + region_versions::VersionsNaming,
     D: Disk,
     R: Wait + Drop,
     G: Gate,
@@ -179,7 +184,11 @@ enum Left {
 }
 
 /// Ends the edit, in another hold of the region's lock, and shows it in the same hold where none before it is pending.
-fn end<N: Naming + log_service::Naming + region_versions::Naming, R: Wait + Drop, S: Wait>(
+fn end<
+    N: LockNaming + log_service::ServiceNaming + region_versions::VersionsNaming,
+    R: Wait + Drop,
+    S: Wait,
+>(
     rt: &S,
     alloc: Global,
     lock: &Mutex<Locked<N, R>>,
@@ -192,7 +201,7 @@ fn end<N: Naming + log_service::Naming + region_versions::Naming, R: Wait + Drop
     ensures told { at.new.told.record.list ≡ at.old.told.record.list }
     ensures pass { SamePass at.old at.new }
     ensures lines { IsPrefix at.old.viewer.lines at.new.viewer.lines }
-    ensures seen { result ≡ Left.Nothing → HasSeen (N.Naming-3.base at.new.viewer.region) entry at.new.hand.record.list at.new.viewer.lines }
+    ensures seen { result ≡ Left.Nothing → HasSeen (N.region_base at.new.viewer.region) entry at.new.hand.record.list at.new.viewer.lines }
 {
     let region = at.viewer.region();
     'looking: for _ in rt.forever() {
@@ -214,13 +223,12 @@ fn end<N: Naming + log_service::Naming + region_versions::Naming, R: Wait + Drop
 }
 
 /// True where the pass has seen the number, and in the same hold of the region's lock each of its own lines up to there.
-fn is_seen<N: Naming + log_service::Naming + region_versions::Naming, R: Wait + Drop, S: Wait>(
-    rt: &S,
-    lock: &Mutex<Locked<N, R>>,
-    at: &mut RegionPass<N>,
-    number: u64,
-) -> bool
-    ensures seen { IsTrue result → HasSeen (N.Naming-3.base at.new.viewer.region) number at.new.hand.record.list at.new.viewer.lines }
+fn is_seen<
+    N: LockNaming + log_service::ServiceNaming + region_versions::VersionsNaming,
+    R: Wait + Drop,
+    S: Wait,
+>(rt: &S, lock: &Mutex<Locked<N, R>>, at: &mut RegionPass<N>, number: u64) -> bool
+    ensures seen { IsTrue result → HasSeen (N.region_base at.new.viewer.region) number at.new.hand.record.list at.new.viewer.lines }
     ensures own { (at.new.hand.record ≡ at.old.hand.record) × SameHand at.old.hand at.new.hand }
     ensures told { at.new.told.record.list ≡ at.old.told.record.list }
     ensures region { at.new.viewer.region ≡ at.old.viewer.region }
@@ -236,7 +244,7 @@ fn is_seen<N: Naming + log_service::Naming + region_versions::Naming, R: Wait + 
 /// Waits until the pass sees the number, where an edit before it is pending, and else shows. After a wait it shows again: a version that
 /// another put had no memory for is shown by nobody else.
 fn show<
-    N: Naming + log_service::Naming + region_versions::Naming,
+    N: LockNaming + log_service::ServiceNaming + region_versions::VersionsNaming,
     D: Disk,
     R: Wait + Drop,
     S: Wait,
@@ -251,7 +259,7 @@ fn show<
     waits: bool,
 ) -> Result<(), NoMemory>
     requires service { IsSeatOf service.now seat.old }
-    ensures seen { OnOk result (HasSeen (N.Naming-3.base at.new.viewer.region) number at.new.hand.record.list at.new.viewer.lines) }
+    ensures seen { OnOk result (HasSeen (N.region_base at.new.viewer.region) number at.new.hand.record.list at.new.viewer.lines) }
     ensures region { at.new.viewer.region ≡ at.old.viewer.region }
     ensures lines { IsPrefix at.old.viewer.lines at.new.viewer.lines }
     ensures own { (at.new.hand.record ≡ at.old.hand.record) × SameHand at.old.hand at.new.hand }
@@ -287,7 +295,7 @@ fn show<
 /// the number: the edit has then failed. Out of memory with the number: the edit is done, durable where that was asked for, and shown with
 /// the region's next version.
 pub fn put_in<
-    N: Naming + log_service::Naming + region_versions::Naming,
+    N: LockNaming + log_service::ServiceNaming + region_versions::VersionsNaming,
     D: Disk,
     R: Wait + Drop,
     G: Gate,
@@ -306,7 +314,7 @@ pub fn put_in<
     requires service { IsAtService N.ring service.now at.old.viewer.region seat.old }
     requires job { IsJob at.old.viewer.region job }
     requires caller { (job.caller.handler ≡ at.old.hand.number) × AreCalledBelow job.caller.call at.old.hand.record.list }
-    ensures puts { PutsAt (N.Naming-3.base at.old.viewer.region) job.time at.old.viewer.region
+    ensures puts { PutsAt (N.region_base at.old.viewer.region) job.time at.old.viewer.region
         (is_sync durability) (arc_value job.batch) job.caller (put_answer result)
         (known_of service.now.regions at.old seat.old) (known_of service.now.regions at.new seat.new)
         seat.old.device.knows.broken seat.new.device.knows.broken }

@@ -6,13 +6,13 @@ ghost use Rattle.region_lock.specs.Calls.{RollsAt};
 
 use disk_images::Disk;
 use log_device::{RollRefusal, Rolled};
-use log_service::{LogSeat, LogService, Naming};
+use log_service::{LogSeat, LogService, ServiceNaming};
 use std::alloc::Global;
 use std::sync::Wait;
 
 /// The log's roll. After it, and where there is nothing to roll, the seat has seen each region's closed word at or above the synced word
 /// that it had seen before.
-pub fn roll_in<N: Naming, D: Disk, S: Wait>(
+pub fn roll_in<N: ServiceNaming, D: Disk, S: Wait>(
     rt: &S,
     alloc: Global,
     service: &LogService<D, N>,

@@ -10,7 +10,7 @@ ghost use Rattle.region_lock.specs.Answers.{scan_answer};
 ghost use Rattle.region_lock.specs.Calls.{ScansAt};
 ghost use Rattle.region_lock.specs.Passes.{known_of};
 
-use crate::naming::Naming;
+use crate::naming::LockNaming;
 use crate::pass::RegionPass;
 use kv_cell::NoMemory;
 use mem_segments::SharedCells;
@@ -44,10 +44,10 @@ fn cells_of(
 }
 
 /// A version that was shown of the region, not before the last one that the pass has seen. The pass has then seen it.
-pub fn view_in<N: Naming + region_versions::Naming>(
+pub fn view_in<N: LockNaming + region_versions::VersionsNaming>(
     at: &mut RegionPass<N>,
 ) -> Result<Arc<Version, Global>, NoMemory>
-    ensures version { IfOk result (λ v. ((arc_value v).base ≡ N.Naming-2.base at.old.viewer.region) × ((arc_value v).cut ≡ at.new.viewer.lines)) }
+    ensures version { IfOk result (λ v. ((arc_value v).base ≡ N.region_base at.old.viewer.region) × ((arc_value v).cut ≡ at.new.viewer.lines)) }
     ensures region { at.new.viewer.region ≡ at.old.viewer.region }
     ensures later { IsPrefix at.old.viewer.lines at.new.viewer.lines }
     ensures hand { (at.new.hand ≡ at.old.hand) × (at.new.told ≡ at.old.told) }
@@ -58,13 +58,13 @@ pub fn view_in<N: Naming + region_versions::Naming>(
 
 /// The region's cells whose rows lie at or above `from` and, if `to` isn't empty, below `to`, as the last version shown has them, and its
 /// point. The point is at or above each one that the pass has seen. Without memory the pass may have seen a later point.
-pub fn scan_in<N: Naming + region_versions::Naming>(
+pub fn scan_in<N: LockNaming + region_versions::VersionsNaming>(
     alloc: Global,
     at: &mut RegionPass<N>,
     from: &[u8],
     to: &[u8],
 ) -> Result<ScanReply, NoMemory>
-    ensures scans { (n : ℕ) (seat : LogSeat) → ScansAt (N.Naming-2.base at.old.viewer.region) from.now to.now (scan_answer result)
+    ensures scans { (n : ℕ) (seat : LogSeat) → ScansAt (N.region_base at.old.viewer.region) from.now to.now (scan_answer result)
         (known_of n at.old seat) (known_of n at.new seat) }
     ensures region { at.new.viewer.region ≡ at.old.viewer.region }
     ensures hand { (at.new.hand ≡ at.old.hand) × (at.new.told ≡ at.old.told) }
@@ -84,8 +84,8 @@ pub fn scan_in<N: Naming + region_versions::Naming>(
 }
 
 /// The point of the version that is shown, not below one that the pass has seen. The pass has then seen it. It takes no memory.
-pub fn point_in<N: Naming + region_versions::Naming>(at: &mut RegionPass<N>) -> u64
-    ensures point { result ≡ last_in (N.Naming-2.base at.new.viewer.region) at.new.viewer.lines }
+pub fn point_in<N: LockNaming + region_versions::VersionsNaming>(at: &mut RegionPass<N>) -> u64
+    ensures point { result ≡ last_in (N.region_base at.new.viewer.region) at.new.viewer.lines }
     ensures region { at.new.viewer.region ≡ at.old.viewer.region }
     ensures later { IsPrefix at.old.viewer.lines at.new.viewer.lines }
     ensures hand { (at.new.hand ≡ at.old.hand) × (at.new.told ≡ at.old.told) }

@@ -9,12 +9,12 @@ ghost use Rattle.region_lock.specs.Histories.{HasShown};
 
 use kv_cell::NoMemory;
 use region_state::{Line, Version};
-use region_versions::{History, Naming, Shower};
+use region_versions::{History, Shower, VersionsNaming};
 use std::alloc::Global;
 use std::sync::{Arc, Wait};
 
 /// The lines up to a point that the history doesn't have yet join it. False where another one added to it, which no run shows.
-fn catch_up<N: Naming>(history: &mut History<N>, lines: &[Line], count: u64) -> bool
+fn catch_up<N: VersionsNaming>(history: &mut History<N>, lines: &[Line], count: u64) -> bool
     requires front { IsPrefix history.old.lines lines.now }
     requires count { (count ≤ length lines.now) × (length history.old.lines ≤ count) }
     requires room { count < 2 ^ 62 }
@@ -34,7 +34,7 @@ fn catch_up<N: Naming>(history: &mut History<N>, lines: &[Line], count: u64) -> 
 }
 
 /// The history catches up with a version of these lines, and it is shown.
-pub(crate) fn show_in<N: Naming, R: Wait + Drop>(
+pub(crate) fn show_in<N: VersionsNaming, R: Wait + Drop>(
     shower: &mut Shower<N, R>,
     history: &mut History<N>,
     lines: &[Line],
@@ -42,7 +42,7 @@ pub(crate) fn show_in<N: Naming, R: Wait + Drop>(
     version: Arc<Version, Global>,
 ) -> Result<(), NoMemory>
     requires shown { HasShown history.old.region lines.now history.old shower.old.shown }
-    requires base { (arc_value version).base ≡ N.base history.old.region }
+    requires base { (arc_value version).base ≡ N.region_base history.old.region }
     requires cut { (arc_value version).cut ≡ take (length (arc_value version).cut) lines.now }
     requires within { length (arc_value version).cut ≤ length lines.now }
     requires completed { AllPass is_completed_line (arc_value version).cut }

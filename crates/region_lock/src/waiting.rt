@@ -3,13 +3,13 @@
 ghost use Rattle.log_service.specs.Places.{IsSeatOf, IsLaterSeat};
 
 use disk_images::Disk;
-use log_service::{Helped, LogSeat, LogService, Naming};
+use log_service::{Helped, LogSeat, LogService, ServiceNaming};
 use std::sync::Wait;
 use std::thread;
 
 /// Helps the log once: a consumer turn and a sync turn. Where another seat has one of the two it sleeps until a turn of the device has ended,
 /// and where there was nothing to do the processor is given away.
-pub(crate) fn help<N: Naming, D: Disk, S: Wait>(
+pub(crate) fn help<N: ServiceNaming, D: Disk, S: Wait>(
     rt: &S,
     service: &LogService<D, N>,
     seat: &mut LogSeat,

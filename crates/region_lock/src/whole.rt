@@ -7,7 +7,7 @@ ghost use Rattle.hand_register.specs.Rule.{empty};
 ghost use Rattle.region_versions.specs.Histories.{beginning};
 
 use crate::locked::Locked;
-use crate::naming::Naming;
+use crate::naming::LockNaming;
 use crate::part::RegionPart;
 use append_ring::RingPass;
 use hand_register::Desk;
@@ -17,7 +17,10 @@ use region_versions::{History, Shower};
 use std::marker::PhantomData;
 use std::sync::Wait;
 
-impl<N: Naming + log_service::Naming + region_versions::Naming, R: Wait + Drop> Locked<N, R> {
+impl<
+    N: LockNaming + log_service::ServiceNaming + region_versions::VersionsNaming,
+    R: Wait + Drop,
+> Locked<N, R> {
     /// A region with no edit since its base: its pass of the ring, under which nothing was pushed; its two desks, whose hands have done
     /// nothing; and its history, which is empty, and is shown.
     pub fn of(
@@ -29,7 +32,7 @@ impl<N: Naming + log_service::Naming + region_versions::Naming, R: Wait + Drop> 
         shower: Shower<N, R>,
     ) -> Locked<N, R>
         requires lines { state.lines ≡ [] }
-        requires base { state.base ≡ N.Naming-3.base state.region }
+        requires base { state.base ≡ N.region_base state.region }
         requires pass { IsNew N.ring N.lasts state.region pass }
         requires last { base_of N.lasts state.region ≡ state.base.last }
         requires desk { (desk.id ≡ N.desk state.region) × (desk.records ≡ replicate N.handlers empty) }

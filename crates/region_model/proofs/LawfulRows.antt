@@ -7,7 +7,7 @@ use Rattle.cell_model.specs.Batch.{batch_of}
 use Rattle.cell_model.specs.Cell.{Cell}
 use Rattle.cell_model.specs.Order.{version_cmp}
 use Rattle.region_model.specs.Journal.{Base, Edit, Outcome, Done, Failed, InCallOrder, IsJournal, visible, is_in_range}
-use Rattle.region_model.specs.Calls.{Put, Scan, Raw, viewed, Flush, PutOk, PutFault, PutSpent, Scanned, FlushBusy, Reply, IsAnswerTo}
+use Rattle.region_model.specs.Calls.{Put, Scan, Raw, viewed, IsFlushOf, PutOk, PutFault, PutSpent, Scanned, FlushBusy, Reply, IsAnswerTo}
 use Rattle.region_model.specs.Lawful.{IsOn, IsLawful, InOrder, KeepsPlaces, StopsAtFault, IsEditOf, number_of, flushed_of}
 use Rattle.region_model.proofs.Rows.{from_empty}
 
@@ -72,7 +72,7 @@ with_a_fault = record {
   faults = pairs puts_first faults refused StopsAtFault (λ e h. absurd h) (λ e h. absurd h) (λ e h. refl);
   flushes = λ reply n is. each puts_first faults refused (λ r. IsOn 1 r.call → flushed_of r.answer ≡ Some n → (0 ≤ n) × (n ≤ 2)) (λ o e. absurd cc) (λ o e. absurd cc) (λ o e. absurd cc) reply is;
   busy = λ reply h c is. each puts_first faults refused
-      (λ r. IsOn 1 r.call → r.answer ≡ FlushBusy h c → (h ≡ r.handler → ⊥) × ((other : Reply) × Contains (puts_first ∷ faults ∷ refused ∷ []) other × (other.handler ≡ h) × (other.number ≡ c) × (other.call ≡ Flush 1)))
+      (λ r. IsOn 1 r.call → r.answer ≡ FlushBusy h c → (h ≡ r.handler → ⊥) × ((other : Reply) × Contains (puts_first ∷ faults ∷ refused ∷ []) other × (other.handler ≡ h) × (other.number ≡ c) × IsFlushOf 1 other.call))
       (λ o e. absurd cc) (λ o e. absurd cc) (λ o e. absurd cc) reply is;
   spent = λ reply n is. each puts_first faults refused (λ r. IsOn 1 r.call → r.answer ≡ PutSpent n → (n ≡ 281474976710655) × (2 ≡ n)) (λ o e. absurd cc) (λ o e. absurd cc) (λ o e. absurd cc) reply is;
 }
@@ -118,7 +118,7 @@ by_two_handlers = record {
   faults = pairs puts_second puts_before sees_both StopsAtFault (λ e h. absurd h) (λ e h. absurd h) (λ e h. absurd h);
   flushes = λ reply n is. each puts_second puts_before sees_both (λ r. IsOn 1 r.call → flushed_of r.answer ≡ Some n → (0 ≤ n) × (n ≤ 2)) (λ o e. absurd cc) (λ o e. absurd cc) (λ o e. absurd cc) reply is;
   busy = λ reply h c is. each puts_second puts_before sees_both
-      (λ r. IsOn 1 r.call → r.answer ≡ FlushBusy h c → (h ≡ r.handler → ⊥) × ((other : Reply) × Contains (puts_second ∷ puts_before ∷ sees_both ∷ []) other × (other.handler ≡ h) × (other.number ≡ c) × (other.call ≡ Flush 1)))
+      (λ r. IsOn 1 r.call → r.answer ≡ FlushBusy h c → (h ≡ r.handler → ⊥) × ((other : Reply) × Contains (puts_second ∷ puts_before ∷ sees_both ∷ []) other × (other.handler ≡ h) × (other.number ≡ c) × IsFlushOf 1 other.call))
       (λ o e. absurd cc) (λ o e. absurd cc) (λ o e. absurd cc) reply is;
   spent = λ reply n is. each puts_second puts_before sees_both (λ r. IsOn 1 r.call → r.answer ≡ PutSpent n → (n ≡ 281474976710655) × (2 ≡ n)) (λ o e. absurd cc) (λ o e. absurd cc) (λ o e. absurd cc) reply is;
 }

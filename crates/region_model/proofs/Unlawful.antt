@@ -35,7 +35,7 @@ pub older_than_own : IsLawful 1 base (edit 1 1 Done ∷ []) (puts_ok 1 1 ∷ sca
 older_than_own law = let p : 1 ≤ 0 = (law.places 0 1 (puts_ok 1 1) (omega arith) (omega arith) refl refl refl 1 0 refl).0 refl in absurd (omega arith)
 
 abbrev flushes_to : ℕ → ℕ → Reply
-flushes_to call n = record { handler = 1; number = call; call = Flush 1; answer = FlushOk n }
+flushes_to call n = record { handler = 1; number = call; call = Flush 1 None; answer = FlushOk n }
 
 -- a flush is below its handler's own put
 pub flushed_too_little : IsLawful 1 base (edit 1 1 Done ∷ []) (puts_ok 1 1 ∷ flushes_to 2 0 ∷ []) → ⊥
@@ -54,7 +54,7 @@ past_the_end law = let p : 1 ≤ 0 = (law.scans (scans_at 1 1) Raw [] [] 1 [] (0
 
 -- a busy flush names its own handler
 abbrev busy_itself : Reply
-busy_itself = record { handler = 1; number = 1; call = Flush 1; answer = FlushBusy 1 1 }
+busy_itself = record { handler = 1; number = 1; call = Flush 1 None; answer = FlushBusy 1 1 }
 
 pub busy_by_itself : IsLawful 1 base [] (busy_itself ∷ []) → ⊥
 busy_by_itself law = (law.busy busy_itself 1 1 (0, omega arith, refl) refl refl).0 refl

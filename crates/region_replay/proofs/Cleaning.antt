@@ -2,11 +2,11 @@
 use Rattle.std.proofs.Common.{◌≡◌, false, List, ℕ, Option, Some, None, is_some, refl, sym, ap, ◌∙◌, subst}
 use Rattle.log_model.specs.declared.name.Name.{Name}
 use Rattle.log_model.specs.Files.{Files, content, IsFit}
-use Rattle.recovery.specs.Kept.{HasNoLogs}
+use Rattle.recovery_laws.specs.Kept.{HasNoLogs}
 use Rattle.disk_images.specs.Crash.{DiskView, IsImageNow, Throughout}
 use Rattle.disk_images.specs.Calls.{Looks, IsTrueDisk}
 use Rattle.disk_images.proofs.Moments.{in_one_call}
-use Rattle.recovery.specs.Alike.{AllAlike, StoresStand}
+use Rattle.recovery_laws.specs.Alike.{AllAlike, StoresStand}
 use Rattle.wal_split.specs.Held.{IsHeld}
 use Rattle.region_replay.specs.Alone.{IsPinned}
 use Rattle.region_replay.specs.Cleared.{IsCleared}

@@ -15,10 +15,10 @@ use Rattle.store_file.specs.Whole.{IsWholeOrNot}
 use Rattle.store_file.proofs.Texts.{tagged_text}
 use Rattle.flush_snapshot.specs.Cut.{cut_store}
 use Rattle.flush_snapshot.proofs.Holds.{cut_holds}
-use Rattle.recovery.specs.Alike.{AllAlike}
-use Rattle.recovery.specs.Kept.{IsNotReplaced}
-use Rattle.recovery.proofs.Names.{name_cases}
-use Rattle.recovery.specs.OpeningSteps.{IsWholeCut}
+use Rattle.recovery_laws.specs.Alike.{AllAlike}
+use Rattle.recovery_laws.specs.Kept.{IsNotReplaced}
+use Rattle.recovery_laws.proofs.Names.{name_cases}
+use Rattle.recovery_laws.specs.OpeningSteps.{IsWholeCut}
 use Rattle.wal_split.specs.Held.{IsHeld}
 use Rattle.wal_split.proofs.Holding.{held_moments, still_held}
 use Rattle.region_replay.proofs.Showing.{cut_in}

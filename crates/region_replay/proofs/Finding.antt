@@ -17,11 +17,11 @@ use Rattle.log_model.specs.Recovered.{IsFor, IsCounting, FlushesTo, IsFlushed, I
 use Rattle.region_model.specs.Journal.{Base}
 use Rattle.disk_images.specs.Crash.{DiskView}
 use Rattle.disk_images.specs.Calls.{IsTrueDisk}
-use Rattle.recovery.specs.Kept.{IsNotReplaced}
-use Rattle.recovery.specs.Laws.{IsFlushedEntry}
-use Rattle.recovery.specs.OpeningSteps.{IsEdited}
-use Rattle.recovery.proofs.Names.{name_cases}
-use Rattle.recovery.proofs.Numbers.{logged_given, logged_family}
+use Rattle.recovery_laws.specs.Kept.{IsNotReplaced}
+use Rattle.recovery_laws.specs.Laws.{IsFlushedEntry}
+use Rattle.recovery_laws.specs.OpeningSteps.{IsEdited}
+use Rattle.recovery_laws.proofs.Names.{name_cases}
+use Rattle.recovery_laws.proofs.Numbers.{logged_given, logged_family}
 use Rattle.region_replay.specs.declared.found.RegionFiles.{RegionFiles}
 use Rattle.wal_split.specs.Flushed.{flushed_of}
 use Rattle.wal_split.proofs.Above.{unflushed_cases}

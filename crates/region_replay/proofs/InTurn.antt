@@ -9,8 +9,8 @@ use Rattle.disk_images.specs.Crash.{DiskView}
 use Rattle.disk_images.specs.Calls.{IsTrueDisk}
 use Rattle.disk_images.proofs.Moments.{at_once, joined}
 use Rattle.disk_images.proofs.Settled.{present_cases}
-use Rattle.recovery.specs.Alike.{AllAlike}
-use Rattle.recovery.specs.Kept.{HasNoLogs}
+use Rattle.recovery_laws.specs.Alike.{AllAlike}
+use Rattle.recovery_laws.specs.Kept.{HasNoLogs}
 use Rattle.region_replay.specs.Cleared.{IsCleared, IsReady}
 use Rattle.region_replay.specs.declared.found.RegionFiles.{RegionFiles}
 use Rattle.wal_split.specs.Held.{IsHeld}

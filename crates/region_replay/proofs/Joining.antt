@@ -7,9 +7,9 @@ use Rattle.log_model.specs.Recovered.{FlushesTo}
 use Rattle.disk_images.specs.Crash.{DiskView, Throughout}
 use Rattle.disk_images.specs.OneFile.{Touches}
 use Rattle.disk_images.proofs.Moments.{joined}
-use Rattle.recovery.specs.Change.{HasText}
-use Rattle.recovery.proofs.Stores.{flushes_kept}
-use Rattle.recovery.specs.Alike.{AllAlike}
+use Rattle.recovery_laws.specs.Change.{HasText}
+use Rattle.recovery_laws.proofs.Stores.{flushes_kept}
+use Rattle.recovery_laws.specs.Alike.{AllAlike}
 use Rattle.region_replay.specs.Cuts.{AreEdits, EditsFlushed, EditsUpTo}
 
 module _ (v w : DiskView) (name : Name) (names : List Name) (store : name.kind ≡ kinds.Store) {told : Type 0} (edits : AreEdits told names) (touches : Touches name v w) where

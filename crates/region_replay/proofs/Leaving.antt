@@ -10,9 +10,9 @@ use Rattle.log_model.specs.Files.{Files, content, IsAbsent}
 use Rattle.disk_images.specs.Crash.{DiskView, Throughout}
 use Rattle.disk_images.specs.Calls.{Removes}
 use Rattle.disk_images.proofs.Moments.{at_once, joined}
-use Rattle.recovery.specs.Change.{HasText}
-use Rattle.recovery.specs.Laws.{IsFlushedEntry}
-use Rattle.recovery.specs.Alike.{AllAlike}
+use Rattle.recovery_laws.specs.Change.{HasText}
+use Rattle.recovery_laws.specs.Laws.{IsFlushedEntry}
+use Rattle.recovery_laws.specs.Alike.{AllAlike}
 use Rattle.wal_split.specs.Held.{IsHeld}
 use Rattle.wal_split.proofs.Moving.{remove_moments, removed_held}
 use Rattle.wal_split.proofs.Above.{entry_kept}

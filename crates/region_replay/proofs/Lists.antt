@@ -4,7 +4,7 @@ use Rattle.std.specs.Prelude.{AllPairs}
 use Rattle.std.proofs.lemmas.List.{get_or-take, length-take, get_or_default}
 use Rattle.std.proofs.lemmas.List.Elements.{Contains-append_cases}
 use Rattle.log_model.specs.Entry.{Entry}
-use Rattle.recovery.specs.Kept.{AreApart}
+use Rattle.recovery_laws.specs.Kept.{AreApart}
 use Rattle.region_replay.proofs.Sorting.{none_in, is_first, is_later, first_or_later}
 
 module _ {A B : Type 0} (f : A → B) where

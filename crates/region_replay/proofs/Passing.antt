@@ -9,9 +9,9 @@ use Rattle.log_model.specs.StoreText.{Store}
 use Rattle.log_model.specs.Files.{Files, content, IsAbsent, IsLogged, IsPresent, IsLogFile, IsStoreFile}
 use Rattle.log_model.specs.Recovered.{IsGreatest, IsCounting, FlushesTo, IsFlushed}
 use Rattle.disk_images.proofs.Settled.{present_cases}
-use Rattle.recovery.proofs.Names.{name_cases}
-use Rattle.recovery.specs.Change.{HasText}
-use Rattle.recovery.specs.Alike.{AllAlike}
+use Rattle.recovery_laws.proofs.Names.{name_cases}
+use Rattle.recovery_laws.specs.Change.{HasText}
+use Rattle.recovery_laws.specs.Alike.{AllAlike}
 use Rattle.found_files.proofs.Greatest.{greatest_same}
 use Rattle.found_files.proofs.InRegion.{entry_region}
 use Rattle.wal_split.specs.Flushed.{flushed_of}

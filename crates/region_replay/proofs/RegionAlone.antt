@@ -13,9 +13,9 @@ use Rattle.log_model.specs.StoreText.{Store}
 use Rattle.log_model.specs.Files.{Files, content, HoldsEntries, IsAbsent, IsPresent, IsLogged, Reads}
 use Rattle.log_model.specs.Recovered.{FlushesTo, IsCounting, IsFlushed, IsGreatest, is_of, entries_of}
 use Rattle.disk_images.proofs.Settled.{present_cases}
-use Rattle.recovery.proofs.Numbers.{logged_given}
-use Rattle.recovery.specs.Change.{HasText}
-use Rattle.recovery.specs.Kept.{AreApart}
+use Rattle.recovery_laws.proofs.Numbers.{logged_given}
+use Rattle.recovery_laws.specs.Change.{HasText}
+use Rattle.recovery_laws.specs.Kept.{AreApart}
 use Rattle.found_files.specs.declared.found.FoundEntry.{FoundEntry}
 use Rattle.found_files.specs.declared.found.FoundStore.{FoundStore}
 use Rattle.found_files.specs.Found.{AreContents, store_of, place_in}

@@ -11,8 +11,8 @@ use Rattle.log_model.specs.Entry.{Entry, IsEntry}
 use Rattle.log_model.specs.StoreText.{Store}
 use Rattle.log_model.specs.Files.{Files, content, name_cmp, IsPresent}
 use Rattle.log_model.specs.Recovered.{IsGreatest, IsCounting, FlushesTo, IsFlushed, is_of, entries_of}
-use Rattle.recovery.specs.Change.{HasText}
-use Rattle.recovery.specs.Kept.{AreApart}
+use Rattle.recovery_laws.specs.Change.{HasText}
+use Rattle.recovery_laws.specs.Kept.{AreApart}
 use Rattle.found_files.specs.declared.found.FoundStore.{FoundStore}
 use Rattle.found_files.specs.Found.{store_of}
 use Rattle.found_files.specs.Counting.{AreCountingOf}

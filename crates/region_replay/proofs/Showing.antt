@@ -7,10 +7,10 @@ use Rattle.log_model.specs.StoreText.{Store, IsThere, IsStoreText, store_text}
 use Rattle.log_model.specs.Files.{Files, content, IsAbsent, SameBut}
 use Rattle.disk_images.specs.Crash.{DiskView, IsImageNow}
 use Rattle.disk_images.specs.Calls.{IsTrueDisk}
-use Rattle.recovery.specs.Kept.{IsNotThere, IsNotReplaced}
-use Rattle.recovery.specs.Alike.{AllAlike}
-use Rattle.recovery.specs.OpeningSteps.{IsWholeCut}
-use Rattle.recovery.proofs.OpeningProved.{hidden, replayed}
+use Rattle.recovery_laws.specs.Kept.{IsNotThere, IsNotReplaced}
+use Rattle.recovery_laws.specs.Alike.{AllAlike}
+use Rattle.recovery_laws.specs.OpeningSteps.{IsWholeCut}
+use Rattle.recovery_laws.proofs.OpeningProved.{hidden, replayed}
 use Rattle.wal_split.specs.Held.{IsHeld}
 
 -- files that recover to what one base does recover alike

@@ -18,10 +18,10 @@ use Rattle.cell_model.proofs.MergeLaws.{get-put_numbered, put_numbered-append, p
 use Rattle.log_model.specs.Entry.{Entry}
 use Rattle.log_model.specs.Files.{Files}
 use Rattle.log_model.specs.Recovered.{FlushesTo, IsFlushed, Holds, Puts, IsUnflushed, IsRecovered, put_entries}
-use Rattle.recovery.specs.Kept.{AreApart}
-use Rattle.recovery.proofs.Contents.{cut_has, puts_family, puts_number}
-use Rattle.recovery.proofs.Numbers.{held_range, logged_given}
-use Rattle.recovery.proofs.Stores.{held_family}
+use Rattle.recovery_laws.specs.Kept.{AreApart}
+use Rattle.recovery_laws.proofs.Contents.{cut_has, puts_family, puts_number}
+use Rattle.recovery_laws.proofs.Numbers.{held_range, logged_given}
+use Rattle.recovery_laws.proofs.Stores.{held_family}
 use Rattle.mem_segments.proofs.Contents.{first, second, less}
 use Rattle.region_replay.specs.Bases.{Numbered, AreRising, AreUnflushed, stores_cells, cells_above, entries_cells, OneSortGivesTheBase}
 
@@ -103,7 +103,7 @@ each_less x (z ∷ zs) below y has = elim (first_or_later z zs y has) as (λ _. 
 ]
 
 -- of cells in order each is put
-has_got : (xs : List NumberedCell) (v : VersionKey) (p : Payload) → IsRising xs → HasCell xs v p → get (put_all xs) v ≡ Some p
+pub has_got : (xs : List NumberedCell) (v : VersionKey) (p : Payload) → IsRising xs → HasCell xs v p → get (put_all xs) v ≡ Some p
 has_got [] v p rises h = absurd (none_in h.0 h.1)
 has_got (x ∷ xs) v p rises h = get-put_numbered (one x) xs v ∙ elim (first_or_later x xs h.0 h.1) as (λ _. or_else (get (put_all xs) v) (get (one x) v) ≡ Some p) [
   | inl is ↦
@@ -124,7 +124,7 @@ has_got (x ∷ xs) v p rises h = get-put_numbered (one x) xs v ∙ elim (first_o
 
 -- ---- stores
 
-abbrev Each : List Numbered → Type 0
+abbrev pub Each : List Numbered → Type 0
 Each ss = (x : Numbered) → Contains ss x → IsRising x.1.cells
 
 pub record Newest (ss : List Numbered) (v : VersionKey) (p : Payload) : Type 0 where
@@ -150,7 +150,7 @@ some_got (x ∷ xs) y v q each has holds none = elim (option_cases (get (put_all
   | inr some ↦ absurd (cc (sym (got_stores x xs v ∙ or_first (get (put_all (stores_cells xs)) v) (get (put_all x.1.cells) v) some.0 some.1) ∙ none))
 ]
 
-got_newest : (ss : List Numbered) (v : VersionKey) (p : Payload) → Each ss → AreRising ss → get (put_all (stores_cells ss)) v ≡ Some p → Newest ss v p
+pub got_newest : (ss : List Numbered) (v : VersionKey) (p : Payload) → Each ss → AreRising ss → get (put_all (stores_cells ss)) v ≡ Some p → Newest ss v p
 got_newest [] v p each rising is = (let none : None ≡ Some p = sym (get-empty version_cmp v) ∙ is in absurd (cc (none)))
 got_newest (x ∷ xs) v p each rising is = elim (or_cases (get (put_all (stores_cells xs)) v) (get (put_all x.1.cells) v) p (sym (got_stores x xs v) ∙ is)) as (λ _. Newest (x ∷ xs) v p) [
   | inl later ↦ (
@@ -175,7 +175,7 @@ got_newest (x ∷ xs) v p each rising is = elim (or_cases (get (put_all (stores_
   }
 ]
 
-newest_got : (ss : List Numbered) (v : VersionKey) (p : Payload) → Each ss → AreRising ss → Newest ss v p → get (put_all (stores_cells ss)) v ≡ Some p
+pub newest_got : (ss : List Numbered) (v : VersionKey) (p : Payload) → Each ss → AreRising ss → Newest ss v p → get (put_all (stores_cells ss)) v ≡ Some p
 newest_got [] v p each rising h = absurd (none_in h.at h.among)
 newest_got (x ∷ xs) v p each rising h = got_stores x xs v ∙ elim (first_or_later x xs h.at h.among) as (λ _. or_else (get (put_all (stores_cells xs)) v) (get (put_all x.1.cells) v) ≡ Some p) [
   | inl is ↦

@@ -3,7 +3,7 @@ use Rattle.std.specs.Prelude.{◌≡◌, ◌≤◌, ◌^◌}
 use Rattle.log_model.specs.declared.name.Name.{Name}
 use Rattle.log_model.specs.declared.name.NameKind.TheVariants as kinds
 use Rattle.log_model.specs.Files.{Files, content, IsFit, IsPresent}
-use Rattle.recovery.specs.Kept.{HasNoLogs}
+use Rattle.recovery_laws.specs.Kept.{HasNoLogs}
 use Rattle.disk_images.specs.Crash.{DiskView, IsImageNow}
 
 -- No name is gone, the files are fit, neither they nor an image have a log or an edits file, and each image has the stores

@@ -7,7 +7,7 @@ use Rattle.log_model.specs.Entry.{Entry}
 use Rattle.log_model.specs.Files.{Files, content, IsPresent, IsLogFile}
 use Rattle.log_model.specs.StoreText.{Store}
 use Rattle.log_model.specs.Recovered.{IsGreatest, IsCounting, IsFlushed}
-use Rattle.recovery.specs.Change.{HasText}
+use Rattle.recovery_laws.specs.Change.{HasText}
 use Rattle.wal_split.specs.Flushed.{flushed_of}
 use Rattle.region_replay.specs.declared.found.RegionFiles.{RegionFiles}
 use Rattle.region_replay.specs.Bases.{Numbered, AreStores, AreUnflushed, stores_cells}

@@ -2,10 +2,10 @@
 
 ghost use Rattle.std.specs.Prelude.{◌≡◌, IsTrue, OnOk, IsErr};
 ghost use Rattle.log_model.specs.Files.{Files};
-ghost use Rattle.recovery.specs.Kept.{HasNoLogs};
+ghost use Rattle.recovery_laws.specs.Kept.{HasNoLogs};
 ghost use Rattle.disk_images.specs.Crash.{Throughout};
 ghost use Rattle.disk_images.specs.Calls.{HasCause};
-ghost use Rattle.recovery.specs.Alike.{AllAlike};
+ghost use Rattle.recovery_laws.specs.Alike.{AllAlike};
 ghost use Rattle.wal_split.specs.Held.{IsHeld};
 ghost use Rattle.region_replay.specs.Alone.{IsPinned};
 ghost use Rattle.region_replay.specs.Cleared.{IsCleared};

@@ -7,7 +7,7 @@ ghost use Rattle.log_model.specs.declared.damage.Damage.{Damage as TheDamage};
 ghost use Rattle.log_model.specs.Files.{Files, Reads, IsAbsent, IsPresent, content};
 ghost use Rattle.disk_images.specs.Crash.{IsImageNow};
 ghost use Rattle.disk_images.specs.Calls.{HasCause};
-ghost use Rattle.recovery.specs.Alike.{AllAlike};
+ghost use Rattle.recovery_laws.specs.Alike.{AllAlike};
 ghost use Rattle.found_files.specs.Found.{AreContents};
 ghost use Rattle.found_files.specs.OfRegion.{AreNamesOf, IsDamageIn};
 ghost use Rattle.found_files.specs.Sorted.{AreOrdered, AllAgree};

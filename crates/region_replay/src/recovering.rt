@@ -6,7 +6,7 @@ ghost use Rattle.log_model.specs.declared.name.NameKind.TheVariants as kinds;
 ghost use Rattle.log_model.specs.Files.{Files, IsPresent, IsSound, content};
 ghost use Rattle.log_model.specs.Damage.{IsDamage};
 ghost use Rattle.disk_images.specs.Calls.{HasCause};
-ghost use Rattle.recovery.specs.Alike.{AllAlike};
+ghost use Rattle.recovery_laws.specs.Alike.{AllAlike};
 ghost use Rattle.found_files.specs.Refusal.{IfDamage};
 ghost use Rattle.wal_split.specs.Held.{IsSplit};
 ghost use Rattle.wal_split.specs.Left.{IsInRange, AreLeft};

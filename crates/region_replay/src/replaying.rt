@@ -10,8 +10,8 @@ ghost use Rattle.log_model.specs.Recovered.{FlushesTo};
 ghost use Rattle.disk_images.specs.Crash.{Throughout};
 ghost use Rattle.disk_images.specs.Calls.{HasCause};
 ghost use Rattle.flush_snapshot.specs.Cut.{IsWithin};
-ghost use Rattle.recovery.specs.Alike.{AllAlike};
-ghost use Rattle.recovery.specs.Kept.{IsNotReplaced};
+ghost use Rattle.recovery_laws.specs.Alike.{AllAlike};
+ghost use Rattle.recovery_laws.specs.Kept.{IsNotReplaced};
 ghost use Rattle.wal_split.specs.Held.{IsHeld};
 ghost use Rattle.region_replay.specs.Cuts.{IsUnflushedCut, AreEdits, EditsUpTo};
 

@@ -5,7 +5,7 @@ ghost use Rattle.log_model.specs.declared.name.Name.{Name as TheName};
 ghost use Rattle.log_model.specs.declared.name.NameKind.TheVariants as kinds;
 ghost use Rattle.log_model.specs.Files.{Files, content};
 ghost use Rattle.disk_images.specs.Calls.{HasCause};
-ghost use Rattle.recovery.specs.Alike.{AllAlike};
+ghost use Rattle.recovery_laws.specs.Alike.{AllAlike};
 ghost use Rattle.wal_split.specs.Held.{IsHeld};
 ghost use Rattle.wal_split.specs.Moments.{During};
 ghost use Rattle.region_replay.specs.declared.found.RegionFiles.{RegionFiles as TheFiles};

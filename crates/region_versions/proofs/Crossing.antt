@@ -8,7 +8,7 @@ use Rattle.left_right.proofs.reader.Reader.TheSendSync as reader
 use Rattle.logbook.proofs.tokens.Seen.TheSendSync as seen
 use Rattle.mem_segments.proofs.layers.SegmentList.TheSendSync as segments
 use Rattle.region_state.specs.contracts.version.Version as version
-use Rattle.region_versions.specs.declared.naming.Naming.{Ghosts}
+use Rattle.region_versions.specs.declared.naming.VersionsNaming.{Ghosts}
 use Rattle.region_versions.specs.contracts.slot.Showing as showing
 use Rattle.region_versions.specs.contracts.shower.Shower as shower
 use Rattle.region_versions.specs.contracts.viewer.Viewer as viewer

@@ -5,7 +5,7 @@ ghost use Rattle.region_versions.specs.Histories.{head_of, beginning};
 
 use crate::front::Front;
 use crate::history::History;
-use crate::naming::Naming;
+use crate::naming::VersionsNaming;
 use logbook::{Gain, Plain, Play, Rule, Seen, Start, Word};
 use region_state::Line;
 
@@ -76,7 +76,7 @@ impl Opened {
     }
 
     /// The history of a region that is in this book.
-    pub fn named<N: Naming>(self, region: u32) -> History<N>
+    pub fn named<N: VersionsNaming>(self, region: u32) -> History<N>
         requires { self.seen.book ≡ N.book region }
         ensures { result ≡ beginning region [] }
     {

@@ -5,7 +5,7 @@ ghost use mathlib.Core.List.{IsPrefix};
 ghost use Rattle.region_versions.specs.Histories.{head_of, beginning, IsLonger};
 
 use crate::book::{Add, Law, Nothing};
-use crate::naming::Naming;
+use crate::naming::VersionsNaming;
 use crate::page::Page;
 use logbook::{Offer, Seen, Word};
 use region_state::Line;
@@ -13,14 +13,14 @@ use std::marker::{Model, PhantomData};
 
 /// A beginning of a region's history that was seen. Contracts see the region and the lines.
 #[derive(Drop)]
-pub struct Front<N: Naming> {
+pub struct Front<N: VersionsNaming> {
     region: u32,
     count: u64,
     seen: Seen<Line, u64, Law>,
     of: PhantomData<N>,
 }
 
-impl<N: Naming> Model for Front<N> {
+impl<N: VersionsNaming> Model for Front<N> {
     ghost use Rattle.std.specs.Prelude.{◌≡◌, length};
     ghost use Rattle.region_versions.specs.Histories.{Beginning, coded_beginning, beginning};
 
@@ -33,7 +33,7 @@ impl<N: Naming> Model for Front<N> {
     ghost invariant = { λ f. (f.count ≡ length f.seen.log) × (f.seen.book ≡ N.book f.region) };
 }
 
-impl<N: Naming> Front<N> {
+impl<N: VersionsNaming> Front<N> {
     /// The beginning without a line.
     pub(crate) fn empty(region: u32, seen: Seen<Line, u64, Law>) -> Front<N>
         requires book { seen.book ≡ N.book region }
@@ -106,7 +106,7 @@ impl<N: Naming> Front<N> {
 }
 
 /// Adds a line to all that was seen, and says whether it did. It did not where the history is longer.
-pub(crate) fn append<N: Naming>(
+pub(crate) fn append<N: VersionsNaming>(
     head: &Word<Line, u64, Law>,
     front: &mut Front<N>,
     line: &Line,

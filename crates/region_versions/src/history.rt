@@ -5,19 +5,19 @@ ghost use Rattle.region_versions.specs.Histories.{head_of, added};
 
 use crate::book::Law;
 use crate::front::{Front, append};
-use crate::naming::Naming;
+use crate::naming::VersionsNaming;
 use logbook::Word;
 use region_state::Line;
 use std::marker::Model;
 
 /// A region's history, for the one who adds to it. Contracts see the region and all lines that were added.
 #[derive(Drop)]
-pub struct History<N: Naming> {
+pub struct History<N: VersionsNaming> {
     head: Word<Line, u64, Law>,
     front: Front<N>,
 }
 
-impl<N: Naming> Model for History<N> {
+impl<N: VersionsNaming> Model for History<N> {
     ghost use Rattle.std.specs.Prelude.{◌≡◌};
     ghost use Rattle.region_versions.specs.Histories.{Beginning, coded_beginning, head_of};
 
@@ -30,7 +30,7 @@ impl<N: Naming> Model for History<N> {
     ghost invariant = { λ h. h.head ≡ head_of (N.book h.front.region) };
 }
 
-impl<N: Naming> History<N> {
+impl<N: VersionsNaming> History<N> {
     /// A history without a line, and the word that counts its lines.
     pub(crate) fn new(head: Word<Line, u64, Law>, front: Front<N>) -> History<N>
         requires { head ≡ head_of (N.book front.region) }

@@ -18,7 +18,7 @@ pub use book::{Law, Opened};
 pub use front::Front;
 pub use history::History;
 pub use made::versions;
-pub use naming::Naming;
+pub use naming::VersionsNaming;
 pub use page::Page;
 pub use rule::{Monotone, Seen};
 pub use shower::{Shower, Told, VersionParts};

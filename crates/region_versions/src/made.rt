@@ -6,7 +6,7 @@ ghost use Rattle.region_versions.specs.Shown.{cut, IsOf};
 ghost use Rattle.region_versions.specs.Histories.{beginning};
 
 use crate::front::Front;
-use crate::naming::Naming;
+use crate::naming::VersionsNaming;
 use crate::shower::{Shower, SlotWriter, VersionParts};
 use crate::sight::Sight;
 use crate::slot::Showing;
@@ -19,13 +19,13 @@ use std::collections::VecDeque;
 use std::sync::{Arc, Wait};
 
 /// A writer that shows this version.
-fn writer_of<N: Naming>(
+fn writer_of<N: VersionsNaming>(
     alloc: Global,
     first: Showing,
     viewers: u32,
 ) -> Result<SlotWriter<N>, AllocError>
     requires viewers { 0 < viewers }
-    requires of { IsOf N.book N.base first }
+    requires of { IsOf N.book N.region_base first }
     ensures { IfOk result (λ w. cut w.desk.shown.value ≡ cut first) }
 {
     let version = Arc::try_clone(&first.version)?;
@@ -38,7 +38,7 @@ fn writer_of<N: Naming>(
 }
 
 /// So many viewers of a writer, which have seen this.
-fn viewers_of<N: Naming>(
+fn viewers_of<N: VersionsNaming>(
     alloc: Global,
     writer: &SlotWriter<N>,
     sight: &Sight<N>,
@@ -56,7 +56,7 @@ fn viewers_of<N: Naming>(
 }
 
 /// One that shows a region's versions and those that view them, at a first version.
-pub fn versions<N: Naming, R: Wait + Drop>(
+pub fn versions<N: VersionsNaming, R: Wait + Drop>(
     rt: R,
     alloc: Global,
     first: Arc<Version, Global>,
@@ -64,7 +64,7 @@ pub fn versions<N: Naming, R: Wait + Drop>(
     viewers: u32,
 ) -> Result<VersionParts<N, R>, NoMemory>
     requires viewers { 0 < viewers }
-    requires base { (arc_value first).base ≡ N.base front.now.region }
+    requires base { (arc_value first).base ≡ N.region_base front.now.region }
     requires cut { (arc_value first).cut ≡ front.now.lines }
     ensures shower { IfOk result (λ p. p.shower.shown ≡ front.now) }
     ensures viewers { IfOk result (λ p. p.viewers.viewers.items ≡ replicate viewers front.now) }

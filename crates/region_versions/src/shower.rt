@@ -7,7 +7,7 @@ ghost use Rattle.region_versions.specs.Shown.{cut, IsOf};
 ghost use Rattle.region_versions.specs.Histories.{beginning};
 
 use crate::front::Front;
-use crate::naming::Naming;
+use crate::naming::VersionsNaming;
 use crate::rule::{Monotone, Seen, Sees};
 use crate::sight::Sight;
 use crate::slot::Showing;
@@ -23,13 +23,13 @@ pub(crate) type SlotWriter<N> = Writer<Showing, Showing, Seen, Monotone<N>>;
 
 /// What a shower tells.
 #[derive(Drop)]
-pub struct Told<N: Naming> {
+pub struct Told<N: VersionsNaming> {
     pub sight: Sight<N>,
 }
 
 /// One that shows a region's versions. Contracts see `shown`, the region and the lines of the version that is shown. It
 /// keeps the handle `rt`, since its drop waits for the viewers.
-pub struct Shower<N: Naming, R: Wait + Drop> {
+pub struct Shower<N: VersionsNaming, R: Wait + Drop> {
     rt: R,
     writer: Option<SlotWriter<N>>,
     pub shown: Sight<N>,
@@ -37,13 +37,13 @@ pub struct Shower<N: Naming, R: Wait + Drop> {
 }
 
 /// Shows a version.
-fn publish<N: Naming, R: Wait>(
+fn publish<N: VersionsNaming, R: Wait>(
     rt: &R,
     mut writer: SlotWriter<N>,
     next: Showing,
 ) -> (SlotWriter<N>, Result<(), AllocError>)
     requires later { IsPrefix (cut writer.desk.shown.value) (cut next) }
-    requires of { IsOf N.book N.base next }
+    requires of { IsOf N.book N.region_base next }
     ensures { MatchResult result.1 (λ _. cut result.0.desk.shown.value ≡ cut next) (λ _. cut result.0.desk.shown.value ≡ cut writer.desk.shown.value) }
 {
     match writer.append(next) {
@@ -52,7 +52,7 @@ fn publish<N: Naming, R: Wait>(
     }
 }
 
-impl<N: Naming, R: Wait + Drop> Shower<N, R> {
+impl<N: VersionsNaming, R: Wait + Drop> Shower<N, R> {
     pub(crate) fn of(rt: R, writer: SlotWriter<N>, shown: Sight<N>) -> Shower<N, R>
         requires { cut writer.desk.shown.value ≡ shown.lines }
         ensures { result.shown ≡ shown }
@@ -67,7 +67,7 @@ impl<N: Naming, R: Wait + Drop> Shower<N, R> {
     /// Shows a version of the region, whose lines are this beginning of its history.
     pub fn show(&mut self, version: Arc<Version, Global>, front: &Front<N>) -> Result<(), NoMemory>
         requires region { front.now.region ≡ self.old.shown.region }
-        requires base { (arc_value version).base ≡ N.base front.now.region }
+        requires base { (arc_value version).base ≡ N.region_base front.now.region }
         requires cut { (arc_value version).cut ≡ front.now.lines }
         requires later { IsPrefix self.old.shown.lines front.now.lines }
         ensures ok { OnOk result (self.new.shown ≡ front.now) }
@@ -105,7 +105,7 @@ impl<N: Naming, R: Wait + Drop> Shower<N, R> {
     }
 }
 
-impl<N: Naming, R: Wait + Drop> Drop for Shower<N, R> {
+impl<N: VersionsNaming, R: Wait + Drop> Drop for Shower<N, R> {
     fn drop(self) {
         let Self {
             rt,
@@ -121,7 +121,7 @@ impl<N: Naming, R: Wait + Drop> Drop for Shower<N, R> {
 
 /// The shower and its viewers.
 #[derive(Drop)]
-pub struct VersionParts<N: Naming, R: Wait + Drop> {
+pub struct VersionParts<N: VersionsNaming, R: Wait + Drop> {
     pub shower: Shower<N, R>,
     pub viewers: ViewerList<N>,
 }

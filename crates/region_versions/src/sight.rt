@@ -4,19 +4,19 @@ ghost use Rattle.std.specs.Prelude.{◌≡◌};
 ghost use Rattle.region_model.specs.Lines.{last_in};
 
 use crate::front::Front;
-use crate::naming::Naming;
+use crate::naming::VersionsNaming;
 use region_state::Version;
 use std::marker::Model;
 
 /// A beginning with its point: the last number of the lines, or the base's where there is none. Contracts see the
 /// beginning.
 #[derive(Drop)]
-pub struct Sight<N: Naming> {
+pub struct Sight<N: VersionsNaming> {
     front: Front<N>,
     point: u64,
 }
 
-impl<N: Naming> Model for Sight<N> {
+impl<N: VersionsNaming> Model for Sight<N> {
     ghost use Rattle.std.specs.Prelude.{◌≡◌};
     ghost use Rattle.region_model.specs.Lines.{last_in};
     ghost use Rattle.region_versions.specs.Histories.{Beginning, coded_beginning};
@@ -27,13 +27,13 @@ impl<N: Naming> Model for Sight<N> {
 
     ghost view = { λ s. s.front };
 
-    ghost invariant = { λ s. s.point ≡ last_in (N.base s.front.region) s.front.lines };
+    ghost invariant = { λ s. s.point ≡ last_in (N.region_base s.front.region) s.front.lines };
 }
 
-impl<N: Naming> Sight<N> {
+impl<N: VersionsNaming> Sight<N> {
     /// What a version of these lines shows.
     pub fn of(front: Front<N>, version: &Version) -> Sight<N>
-        requires base { version.now.base ≡ N.base front.region }
+        requires base { version.now.base ≡ N.region_base front.region }
         requires cut { version.now.cut ≡ front.lines }
         ensures { result ≡ front }
     {
@@ -52,7 +52,7 @@ impl<N: Naming> Sight<N> {
 
     /// The point.
     pub fn point(&self) -> u64
-        ensures { result ≡ last_in (N.base self.now.region) self.now.lines }
+        ensures { result ≡ last_in (N.region_base self.now.region) self.now.lines }
     {
         self.point
     }

@@ -7,7 +7,7 @@ ghost use Rattle.region_model.specs.Lines.{last_in};
 ghost use Rattle.region_versions.specs.Shown.{IsOf};
 
 use crate::front::Front;
-use crate::naming::Naming;
+use crate::naming::VersionsNaming;
 use crate::rule::{Monotone, Seen, Sees};
 use crate::shower::Told;
 use crate::sight::Sight;
@@ -23,8 +23,8 @@ use std::sync::Arc;
 pub(crate) type SlotReader<N> = Reader<Showing, Seen, Monotone<N>>;
 
 /// Enters, and takes the version that is shown.
-fn enter<N: Naming>(reader: SlotReader<N>) -> (SlotReader<N>, Result<Showing, NoMemory>)
-    ensures { IfOk result.1 (λ s. IsOf N.book N.base s) }
+fn enter<N: VersionsNaming>(reader: SlotReader<N>) -> (SlotReader<N>, Result<Showing, NoMemory>)
+    ensures { IfOk result.1 (λ s. IsOf N.book N.region_base s) }
 {
     match reader.enter_as::<Sees<N>>() {
         Ok(reading) => {
@@ -47,12 +47,12 @@ fn enter<N: Naming>(reader: SlotReader<N>) -> (SlotReader<N>, Result<Showing, No
 
 /// One that views a region's versions. Contracts see the region and the lines that it viewed or learnt last.
 #[derive(Drop)]
-pub struct Viewer<N: Naming> {
+pub struct Viewer<N: VersionsNaming> {
     reader: Option<SlotReader<N>>,
     last: Sight<N>,
 }
 
-impl<N: Naming> Model for Viewer<N> {
+impl<N: VersionsNaming> Model for Viewer<N> {
     ghost use Rattle.std.specs.Prelude.{◌≡◌};
     ghost use Rattle.region_versions.specs.Histories.{Beginning, coded_beginning};
 
@@ -63,7 +63,7 @@ impl<N: Naming> Model for Viewer<N> {
     ghost view = { λ v. v.last };
 }
 
-impl<N: Naming> Viewer<N> {
+impl<N: VersionsNaming> Viewer<N> {
     pub(crate) fn of(reader: SlotReader<N>, last: Sight<N>) -> Viewer<N>
         ensures { result ≡ last }
     {
@@ -82,7 +82,7 @@ impl<N: Naming> Viewer<N> {
 
     /// The point of the last version that was viewed or learnt.
     pub fn seen(&self) -> u64
-        ensures { result ≡ last_in (N.base self.now.region) self.now.lines }
+        ensures { result ≡ last_in (N.region_base self.now.region) self.now.lines }
     {
         self.last.point()
     }
@@ -90,7 +90,7 @@ impl<N: Naming> Viewer<N> {
     /// Enters. What is found is of this region and not before what was seen; else, which no run shows, nothing is.
     fn look(&mut self) -> Result<Showing, NoMemory>
         ensures region { self.new.region ≡ self.old.region }
-        ensures base { IfOk result (λ s. (arc_value s.version).base ≡ N.base self.old.region) }
+        ensures base { IfOk result (λ s. (arc_value s.version).base ≡ N.region_base self.old.region) }
         ensures ok { IfOk result (λ s. IsPrefix self.old.lines (arc_value s.version).cut × (self.new.lines ≡ (arc_value s.version).cut)) }
         ensures err { OnErr result (self.new ≡ self.old) }
     {
@@ -113,7 +113,7 @@ impl<N: Naming> Viewer<N> {
     /// A version that was shown, not before the last one viewed or learnt.
     pub fn view(&mut self) -> Result<Arc<Version, Global>, NoMemory>
         ensures region { self.new.region ≡ self.old.region }
-        ensures base { IfOk result (λ v. (arc_value v).base ≡ N.base self.old.region) }
+        ensures base { IfOk result (λ v. (arc_value v).base ≡ N.region_base self.old.region) }
         ensures ok { IfOk result (λ v. IsPrefix self.old.lines (arc_value v).cut × (self.new.lines ≡ (arc_value v).cut)) }
         ensures err { OnErr result (self.new ≡ self.old) }
     {
@@ -126,7 +126,7 @@ impl<N: Naming> Viewer<N> {
     pub fn point(&mut self) -> u64
         ensures region { self.new.region ≡ self.old.region }
         ensures later { IsPrefix self.old.lines self.new.lines }
-        ensures point { result ≡ last_in (N.base self.new.region) self.new.lines }
+        ensures point { result ≡ last_in (N.region_base self.new.region) self.new.lines }
     {
         drop(self.look());
         self.last.point()
@@ -159,11 +159,11 @@ ghost use Rattle.std.specs.Prelude.{◌<◌, MatchBool};
 
 /// The viewers that are not handed out yet.
 #[derive(Drop)]
-pub struct ViewerList<N: Naming> {
+pub struct ViewerList<N: VersionsNaming> {
     pub viewers: VecDeque<Viewer<N>>,
 }
 
-impl<N: Naming> ViewerList<N> {
+impl<N: VersionsNaming> ViewerList<N> {
     /// The next viewer, and None exactly after the last.
     pub fn next(&mut self) -> Option<Viewer<N>>
         ensures some { IfSome result (λ viewer. self.old.viewers.items ≡ viewer ∷ self.new.viewers.items) }

@@ -31,4 +31,9 @@ pub enum Refusal {
     Store {
         name: Name,
     },
+    /// A log that has so many entries, where a position stands behind more of them.
+    Position {
+        file: u64,
+        has: u64,
+    },
 }

@@ -3,7 +3,7 @@
 ghost use Rattle.std.specs.Prelude.{◌≡◌, ◌+◌, ◌≤◌, ◌++◌, length};
 ghost use Rattle.script_model.specs.Outputs.{refused_damaged, refused_disagree, refused_script, refused_store};
 ghost use Rattle.script_model.specs.Why.{why_of};
-ghost use Rattle.report_text.specs.Refusals.{refusal_text};
+ghost use Rattle.report_text.specs.Refusals.{refusal_text, refused_position};
 
 use crate::names::push_name;
 use crate::refusal::Refusal;
@@ -70,6 +70,18 @@ fn store_line(name: &Name) -> Line
     line
 }
 
+#[tactic(auto, unfolding(crate::specs::Refusals::refused_position))]
+fn position_line(file: u64, has: u64) -> Line
+    ensures { result ≡ refused_position file has }
+{
+    let mut line = line_of("refused position ");
+    line.push_number(file);
+    line.push(" ");
+    line.push_number(has);
+    line.push("\n");
+    line
+}
+
 /// The line of a refusal. It takes no memory.
 #[tactic(auto, unfolding(script_model::specs::Outputs::refused_memory, script_model::specs::Outputs::refused_usage, script_model::specs::Outputs::refused_source, script_model::specs::Outputs::refused_disk))]
 pub fn refusal_line(refusal: &Refusal) -> Line
@@ -89,5 +101,6 @@ pub fn refusal_line(refusal: &Refusal) -> Line
             number,
         } => disagree_line(first, second, *region, *number),
         Refusal::Store { name } => store_line(name),
+        Refusal::Position { file, has } => position_line(*file, *has),
     }
 }

@@ -8,10 +8,10 @@ use Rattle.run_model.specs.declared.spent.Spent.{Spent}
 use Rattle.run_model.specs.Spent.{IsSpent, region_of, told_at, first_of, first_spent}
 use Rattle.run_model.proofs.SpentLaws.{none_found}
 use Rattle.run_model.specs.Headline.{reply_line, IsWant, IsClean, FitsStatus}
-use Rattle.command_ends.specs.Status.{exit_status}
+use Rattle.command_base.specs.Status.{exit_status}
 use Rattle.run_command.specs.Decided.{is_want, wants_memory, spent_or, decided}
-use Rattle.command_ends.specs.declared.status.Status.{Status}
-use Rattle.command_ends.specs.declared.status.Status.TheVariants as ends
+use Rattle.command_base.specs.declared.status.Status.{Status}
+use Rattle.command_base.specs.declared.status.Status.TheVariants as ends
 
 no_member : {A : Type 0} (x : A) → Contains [] x → ⊥
 no_member x is = omega (arith, is.1)

@@ -27,12 +27,12 @@ use Rattle.report_text.specs.Reading.{IsReport}
 use Rattle.std.proofs.Math.Logic.{∥∥₁_map}
 use Rattle.run_model.proofs.KeepsFound.{closed_keeps, all_keep, half_keeps}
 use Rattle.script_run.specs.Ends.{closed_at, lines_of, HasClosed}
-use Rattle.command_ends.specs.Invocation.{taken_of}
-use Rattle.command_ends.specs.Prints.{Prints}
-use Rattle.command_ends.specs.Status.{refusal_line, exit_status}
-use Rattle.command_ends.specs.declared.status.Status.{Status}
-use Rattle.command_ends.specs.declared.status.Status.TheVariants as ends
-use Rattle.command_ends.proofs.Endings.{taken_whole, taken_begins, refused_so}
+use Rattle.command_base.specs.Invocation.{taken_of}
+use Rattle.command_base.specs.Prints.{Prints}
+use Rattle.command_base.specs.Status.{refusal_line, exit_status}
+use Rattle.command_base.specs.declared.status.Status.{Status}
+use Rattle.command_base.specs.declared.status.Status.TheVariants as ends
+use Rattle.command_base.proofs.Endings.{taken_whole, taken_begins, refused_so}
 use Rattle.run_command.specs.Carried.{IfFoundDamaged}
 use Rattle.run_command.specs.Decided.{decided}
 use Rattle.run_command.specs.Reported.{line_edit, region_line}
@@ -112,6 +112,7 @@ module _ (script : Script) (entry left : DiskView) (name : Naming) (regions : Li
   of_end ends.SinkFault is e reads = absurd e
   of_end (ends.Damaged damage) is e reads = absurd e
   of_end (ends.NotEmpty name) is e reads = absurd e
+  of_end (ends.NoPosition number entries) is e reads = absurd e
   of_end (ends.NumbersSpent region last) is e reads = spent_stands region last is reads
 
 no_cut : (status : Status) → IsDecided status → status ≡ ends.SinkFault → ⊥

@@ -10,12 +10,12 @@ use Rattle.script_model.specs.Outputs.{refused_memory}
 use Rattle.script_model.specs.declared.command.Command.TheVariants.{Run}
 use Rattle.region_calls.specs.declared.refusal.StartWhy.{StartWhy}
 use Rattle.region_calls.specs.declared.refusal.StartWhy.TheVariants as whys
-use Rattle.command_ends.specs.Invocation.{invocation, taken_of}
-use Rattle.command_ends.specs.Prints.{Prints}
-use Rattle.command_ends.specs.Status.{refusal_line, IfDamaged, IsDamageOf, IsInputRefusal, IsOrEarlier, IsScriptFault}
-use Rattle.command_ends.specs.declared.status.Status.{Status}
-use Rattle.command_ends.specs.declared.status.Status.TheVariants as ends
-use Rattle.command_ends.proofs.Endings.{refused_so, same_disk}
+use Rattle.command_base.specs.Invocation.{invocation, taken_of}
+use Rattle.command_base.specs.Prints.{Prints}
+use Rattle.command_base.specs.Status.{refusal_line, IfDamaged, IsDamageOf, IsInputRefusal, IsOrEarlier, IsScriptFault}
+use Rattle.command_base.specs.declared.status.Status.{Status}
+use Rattle.command_base.specs.declared.status.Status.TheVariants as ends
+use Rattle.command_base.proofs.Endings.{refused_so, same_disk}
 use Rattle.recover_command.specs.Recovered.{IsStoreDamage}
 use Rattle.recover_command.proofs.OneDamage.{one_told}
 use Rattle.run_command.specs.Carried.{IfFoundDamaged}
@@ -36,6 +36,7 @@ report_cases P done memory disk sink spent (ends.Script line why) may = absurd m
 report_cases P done memory disk sink spent ends.SourceFault may = absurd may
 report_cases P done memory disk sink spent (ends.Damaged damage) may = absurd may
 report_cases P done memory disk sink spent (ends.NotEmpty name) may = absurd may
+report_cases P done memory disk sink spent (ends.NoPosition number entries) may = absurd may
 
 pub report_refuses : (status : Status) → IsReportEnd status → IsRunRefusal status → ⊥
 report_refuses = report_cases (λ s. IsRunRefusal s → ⊥) (λ e. e) (λ e. e) (λ e. e) (λ e. e) (λ region last e. e)
@@ -105,6 +106,7 @@ parsed_cases P report damaged ends.Usage may = absurd may
 parsed_cases P report damaged (ends.Script line why) may = absurd may
 parsed_cases P report damaged ends.SourceFault may = absurd may
 parsed_cases P report damaged (ends.NotEmpty name) may = absurd may
+parsed_cases P report damaged (ends.NoPosition number entries) may = absurd may
 
 -- so each status by itself
 parsed_each : (P : Status → Type 0) → P ends.Done → P ends.Memory → P ends.DiskFault → P ends.SinkFault → ((region last : ℕ) → P (ends.NumbersSpent region last)) → ((damage : Damage) → P (ends.Damaged damage))
@@ -149,6 +151,7 @@ input_ends text had has disk rose sank ends.SinkFault may prints = absurd may
 input_ends text had has disk rose sank (ends.Damaged damage) may prints = absurd may
 input_ends text had has disk rose sank (ends.NumbersSpent region last) may prints = absurd may
 input_ends text had has disk rose sank (ends.NotEmpty name) may prints = absurd may
+input_ends text had has disk rose sank (ends.NoPosition number entries) may prints = absurd may
 
 some_none : {A : Type 0} (a : A) → Some a ≡ None → ⊥
 some_none a e = absurd cc
@@ -166,6 +169,7 @@ input_first fault it earlier right ends.SinkFault may told = absurd may
 input_first fault it earlier right (ends.Damaged damage) may told = absurd may
 input_first fault it earlier right (ends.NumbersSpent region last) may told = absurd may
 input_first fault it earlier right (ends.NotEmpty name) may told = absurd may
+input_first fault it earlier right (ends.NoPosition number entries) may told = absurd may
 
 pub input_complete : (fault : Option (ℕ × Why)) (s : Type 0) → fault ≡ None → (s → ⊥) → (status : Status) → IsInputRefusal status → IsScriptFault status (λ line why. fault ≡ Some (line, why))
     → (status ≡ ends.SourceFault → s) → IsRunComplete status
@@ -179,3 +183,4 @@ input_complete fault s right none ends.SinkFault may told source = absurd may
 input_complete fault s right none (ends.Damaged damage) may told source = absurd may
 input_complete fault s right none (ends.NumbersSpent region last) may told source = absurd may
 input_complete fault s right none (ends.NotEmpty name) may told source = absurd may
+input_complete fault s right none (ends.NoPosition number entries) may told source = absurd may

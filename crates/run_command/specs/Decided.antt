@@ -3,8 +3,8 @@ use Rattle.std.specs.Prelude.{Bool, true, false, ◌||◌, if◌then◌else◌, 
 use Rattle.region_model.specs.Calls.{Answer, PutMemory, ScanMemory, FlushMemory, RollMemory}
 use Rattle.script_model.specs.Report.{ReplyLine}
 use Rattle.run_model.specs.declared.spent.Spent.{Spent}
-use Rattle.command_ends.specs.declared.status.Status.{Status}
-use Rattle.command_ends.specs.declared.status.Status.TheVariants as ends
+use Rattle.command_base.specs.declared.status.Status.{Status}
+use Rattle.command_base.specs.declared.status.Status.TheVariants as ends
 
 abbrev pub is_want : Answer → Bool
 is_want (PutMemory n) = true

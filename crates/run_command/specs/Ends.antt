@@ -16,11 +16,11 @@ use Rattle.log_model.specs.declared.damage.Damage.TheVariants as damages
 use Rattle.region_calls.specs.declared.refusal.StartWhy.{StartWhy}
 use Rattle.region_calls.specs.declared.refusal.StartWhy.TheVariants as whys
 use Rattle.region_calls.specs.declared.closed.ClosedRegion.{ClosedRegion}
-use Rattle.command_ends.specs.Invocation.{Invocation, IsUnchanged, IsRefused}
-use Rattle.command_ends.specs.Prints.{Prints}
-use Rattle.command_ends.specs.Status.{exit_status}
-use Rattle.command_ends.specs.declared.status.Status.{Status}
-use Rattle.command_ends.specs.declared.status.Status.TheVariants as ends
+use Rattle.command_base.specs.Invocation.{Invocation, IsUnchanged, IsRefused}
+use Rattle.command_base.specs.Prints.{Prints}
+use Rattle.command_base.specs.Status.{exit_status}
+use Rattle.command_base.specs.declared.status.Status.{Status}
+use Rattle.command_base.specs.declared.status.Status.TheVariants as ends
 use Rattle.run_command.specs.Decided.{decided}
 use Rattle.run_command.specs.Reported.{region_line}
 

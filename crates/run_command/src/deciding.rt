@@ -4,7 +4,7 @@ ghost use Rattle.std.specs.Prelude.{◌≡◌};
 ghost use Rattle.script_calls.specs.Answers.{answer_of};
 ghost use Rattle.run_command.specs.Decided.{decided, wants_memory, is_want};
 
-use command_ends::Status;
+use command_base::Status;
 use run_model::Spent;
 use script_calls::{Answer, ReplyLine};
 

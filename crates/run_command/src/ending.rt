@@ -3,13 +3,13 @@ ghost use Rattle.std.specs.Prelude.{◌≡◌, ◌≤◌, IsTrue, IfOk};
 ghost use Rattle.script_model.specs.Report.{report_text};
 ghost use Rattle.report_text.specs.Reading.{IsReport};
 ghost use Rattle.disk_images.specs.Calls.{Rose};
-ghost use Rattle.command_ends.specs.Status.{exit_status};
+ghost use Rattle.command_base.specs.Status.{exit_status};
 ghost use Rattle.run_command.specs.Ends.{joined, report_in, IsPrinted, IsReportEnd};
 
 use crate::deciding::decide;
 use crate::joining::join_replies;
 use crate::reporting::region_lines;
-use command_ends::{Status, emit, refuse};
+use command_base::{Status, emit, refuse};
 use disk_images::Sink;
 use kv_cell::{NoMemory, Octets};
 use region_calls::ClosedRegion;

@@ -3,7 +3,7 @@ use Rattle.std.proofs.Common.{◌≡◌, ℕ, zero, suc, ◌+◌, ◌≤◌, Boo
 use Rattle.std.proofs.lemmas.Bool.{eq-eqb, ne_eqb, cases_eq}
 use Rattle.std.proofs.lemmas.List.Elements.{Contains-append_cases}
 use Rattle.region_model.specs.Journal.{Caller}
-use Rattle.region_model.specs.Calls.{Call, Put, Scan, Flush, Roll, Reply}
+use Rattle.region_model.specs.Calls.{Call, Put, Scan, Flush, Roll, IsFlushOf, Reply}
 use Rattle.region_model.specs.Lawful.{InOrder}
 use Rattle.script_model.specs.Calls.{Script, Asked, asked_of, asked_from, asked, asked_by, IsAmong}
 use Rattle.server_model.specs.Closing.{Pairs}
@@ -49,17 +49,20 @@ replies_order script replies calls = ordered_replies (asked script) replies call
 
 -- ---- flushes
 
-flush_is : (r : ℕ) (call : Call) → is_flush_of r call ≡ true → call ≡ Flush r
-flush_is r (Flush region) is = elim (cases_eq region r) [ inl same ↦ ap Flush same | inr other ↦ absurd (true≢false (sym is ∙ ne_eqb region r other)) ]
+flush_is : (r : ℕ) (call : Call) → is_flush_of r call ≡ true → IsFlushOf r call
+flush_is r (Flush region family) is = elim (cases_eq region r) [ inl same ↦ same | inr other ↦ absurd (true≢false (sym is ∙ ne_eqb region r other)) ]
 flush_is r (Put region sync batch) is = absurd (true≢false (sym is))
 flush_is r (Scan view region from to) is = absurd (true≢false (sym is))
 flush_is r Roll is = absurd (true≢false (sym is))
 
-is_flush : (r : ℕ) (call : Call) → call ≡ Flush r → is_flush_of r call ≡ true
-is_flush r call is = subst (λ c. is_flush_of r c ≡ true) (sym is) (eq-eqb r r refl)
+is_flush : (r : ℕ) (call : Call) → IsFlushOf r call → is_flush_of r call ≡ true
+is_flush r (Flush region family) is = eq-eqb region r is
+is_flush r (Put region sync batch) is = absurd is
+is_flush r (Scan view region from to) is = absurd is
+is_flush r Roll is = absurd is
 
 -- a call that is a flush is listed
-pub flush_listed : (script : Script) (r : ℕ) (a : Asked) → Contains (asked script) a → a.call ≡ Flush r → Contains (flushes_in r script) (caller_of a)
+pub flush_listed : (script : Script) (r : ℕ) (a : Asked) → Contains (asked script) a → IsFlushOf r a.call → Contains (flushes_in r script) (caller_of a)
 flush_listed script r a is call = map_contains caller_of (filter (λ (x : Asked). is_flush_of r x.call) (asked script)) a (filter_has (λ (x : Asked). is_flush_of r x.call) (asked script) a is (is_flush r a.call call))
 
 filter_true : {A : Type 0} (p : A → Bool) (xs : List A) (x : A) → Contains (filter p xs) x → p x ≡ true
@@ -76,7 +79,7 @@ filter_true {A} p (y ∷ ys) x is = go (p y) refl (filter_true p ys x) is
 
 -- what is listed is a flush that was asked for, so it has a reply
 pub listed_reply : {on : ℕ → Type 0} (script : Script) (asks : List Asked) (replies : List Reply) (r : ℕ) (c : Caller) → AreCallsOn on script asks → on r → map asked_by replies ≡ asks → Contains (flushes_in r script) c
-    → (x : Reply) × Contains replies x × (x.handler ≡ c.handler) × (x.number ≡ c.call) × (x.call ≡ Flush r)
+    → (x : Reply) × Contains replies x × (x.handler ≡ c.handler) × (x.number ≡ c.call) × IsFlushOf r x.call
 listed_reply script asks replies r c these here calls is =
     let a = mapped caller_of (filter (λ (x : Asked). is_flush_of r x.call) (asked script)) c is in
     let member = filter_kept (λ (x : Asked). is_flush_of r x.call) (asked script) a.0 a.1 in
@@ -86,7 +89,7 @@ listed_reply script asks replies r c these here calls is =
       x.1,
       ap (λ (y : Asked). y.handler) x.2 ∙ ap (λ (d : Caller). d.handler) a.2,
       ap (λ (y : Asked). y.number) x.2 ∙ ap (λ (d : Caller). d.call) a.2,
-      ap (λ (y : Asked). y.call) x.2 ∙ flush,
+      subst (IsFlushOf r) (sym (ap (λ (y : Asked). y.call) x.2)) flush,
     )
 
 -- ---- regions

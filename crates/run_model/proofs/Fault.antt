@@ -1,6 +1,6 @@
 -- A worked example that the law is used on: a put that doesn't wait, a scan that sees it, and a roll that meets the fault which
 -- ends the log. A crash may then leave the store as it was found, empty, of which the journal's base is a beginning.
-use Rattle.std.proofs.Common.{◌≡◌, ◌≢◌, ℕ, subst, All, ◌<◌, ◌≤◌, ◌⊎◌, ◌==◌, Bool, true, false, cond, List, [], ◌∷◌, length, map, filter, Contains, Some, None, refl, sym, ap, ◌∙◌, arith, inl, inr}
+use Rattle.std.proofs.Common.{◌≡◌, ◌≢◌, ℕ, subst, All, ◌<◌, ◌≤◌, ◌==◌, Bool, true, false, cond, List, [], ◌∷◌, length, map, filter, Contains, Some, None, refl, sym, ap, ◌∙◌, arith, inl, inr}
 use Rattle.std.specs.FinMap.{empty, get, get-empty}
 use Rattle.std.proofs.lemmas.Bool.{ne_eqb}
 use Rattle.std.proofs.lemmas.List.Elements.{All-from_recursion, All-contains}
@@ -228,6 +228,7 @@ closed_region = record {
   synced_seen = only (λ (p : Pass). (p.known 1).synced ≤ 0) (pass 1 ones true) (omega arith);
   stored_seen = only (λ (p : Pass). (p.known 1).stored ≤ 0) (pass 1 ones true) (omega arith);
   closed_seen = only (λ (p : Pass). (p.known 1).closed ≤ 0) (pass 1 ones true) (omega arith);
+  synced = omega arith;
   stored = omega arith;
   stored_least = omega arith;
   spent = λ p n is. only (λ (p : Pass). Contains (p.known 1).spent n → n ≤ 1) (pass 1 ones true) (λ h. absurd (omega (arith, h.1))) p is;

@@ -1,5 +1,5 @@
 -- What close hands on gives the headline.
-use Rattle.std.proofs.Common.{◌≡◌, ℕ, ◌≤◌, ◌⊎◌, Bool, true, IsTrue, List, [], ◌∷◌, map, Contains, refl, sym, ap, ◌∙◌, subst, arith, inl, inr}
+use Rattle.std.proofs.Common.{◌≡◌, ℕ, ◌≤◌, ◌⊎◌, Bool, true, IsTrue, List, [], ◌∷◌, map, Contains, None, refl, sym, ap, ◌∙◌, subst, arith, inl, inr}
 use Rattle.cell_model.specs.Batch.{Batch}
 use Rattle.log_model.specs.Files.{Files}
 use Rattle.region_model.specs.Journal.{Edit, is_completed}
@@ -88,7 +88,7 @@ module _ {asks : List Asked} {script : Script} {found : Files} {left : DiskView}
           let member : Contains (asked script) (asked_by y) = these.part (asked_by y) (subst (λ l. Contains l (asked_by y)) c.calls (map_contains asked_by (replies_of hs) y is)) in
           subst (Contains (asked script)) (λ i. record { handler = (sym o.handler) i; number = (sym o.call) i; call = (o.put ∙ ap (λ r. Put r o.sync e.entry.batch) region_is) i }) member
 
-  -- the region of a put or a flush that was replied
-  pub on_region : (y : Reply) → Contains (replies_of hs) y → (r : ℕ) → (y.call ≡ Flush r) ⊎ ((sync : Bool) × (batch : Batch) × (y.call ≡ Put r sync batch)) → (x : ClosedAt) × Contains xs x × (x.region ≡ r)
+  -- the region of a put or a flush of all families that was replied
+  pub on_region : (y : Reply) → Contains (replies_of hs) y → (r : ℕ) → (y.call ≡ Flush r None) ⊎ ((sync : Bool) × (batch : Batch) × (y.call ≡ Put r sync batch)) → (x : ClosedAt) × Contains xs x × (x.region ≡ r)
   on_region y is r (inl call) = let a = subst (IsAmong script.regions) call (among y is) in region_there c r a.0 a.1
   on_region y is r (inr (sync, batch, call)) = let a = subst (IsAmong script.regions) call (among y is) in region_there c r a.0 a.1

@@ -29,8 +29,8 @@ use Rattle.run_model.specs.declared.spent.Spent.{Spent}
 use Rattle.run_model.specs.Spent.{IsSpent, IsFirstSpent, OnlyPuts, first_spent}
 use Rattle.run_model.proofs.SpentLaws.{found as found_first}
 use Rattle.std.proofs.Common.{Some}
-use Rattle.one_thread.specs.History.{IsHistory}
-use Rattle.one_thread.proofs.History.{history_of as in_one_thread}
+use Rattle.serial_history.specs.History.{IsHistory}
+use Rattle.serial_history.proofs.History.{history_of as in_one_thread}
 
 -- ---- which puts are answered a fault with a sequence id
 
@@ -107,7 +107,7 @@ module _ {script : Script} {found : Files} {left : DiskView} {name : Naming} {hs
     };
     journals = at_each c (IsOneJournal script) (λ x is. one_journal c (whole_script script) x is tt);
     lawful = at_each c (λ h. IsLawful h.region h.base h.edits (replies_of hs)) (λ x is. lawful_at c (whole_script script) x is tt);
-    one_thread = at_each c (λ h. (history : List Reply) × IsHistory h.region h.base h.edits (replies_of hs) history)
+    serial_history = at_each c (λ h. (history : List Reply) × IsHistory h.region h.base h.edits (replies_of hs) history)
         (λ x is. in_one_thread x.region x.it.base x.it.edits (replies_of hs) (one_journal c (whole_script script) x is tt).journal (lawful_at c (whole_script script) x is tt));
     endures = at_each c (Endures left status (replies_of hs)) (endures c kept left_so (whole_script script) status whole);
     others = λ J r image above. subst (λ f. RecoversAlike f J r) (sym same) (left_so.others J r image above);
@@ -146,10 +146,10 @@ only_puts {script} {found} {left} {name} {hs} {xs} {broken} c x is spent = of_pu
     of_put : (call : Call) (answer : Answer) → IsAnswerTo call answer → IsSpent answer → (region : ℕ) × (sync : Bool) × (batch : Batch) × (call ≡ Put region sync batch)
     of_put (Put region sync batch) answer fits told = (region, sync, batch, refl)
     of_put (Scan view region from to) (PutSpent n) fits told = absurd cc
-    of_put (Flush region) (PutSpent n) fits told = absurd cc
+    of_put (Flush region family) (PutSpent n) fits told = absurd cc
     of_put Roll (PutSpent n) fits told = absurd cc
     of_put (Scan view region from to) answer fits told = absurd told
-    of_put (Flush region) answer fits told = absurd told
+    of_put (Flush region family) answer fits told = absurd told
     of_put Roll answer fits told = absurd told
 
 -- Where a put was answered spent the first one is named.

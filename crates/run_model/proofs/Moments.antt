@@ -4,7 +4,7 @@ use Rattle.std.proofs.lemmas.Bool.{cases_lt}
 use Rattle.std.proofs.Math.Logic.{∥∥₁_map, ∥∥₁_elim, ∥∥₁_prop}
 use Rattle.log_model.specs.Files.{Files}
 use Rattle.log_model.specs.Recovered.{RecoversAlike}
-use Rattle.recovery.specs.Alike.{AllAlike}
+use Rattle.recovery_laws.specs.Alike.{AllAlike}
 use Rattle.region_model.specs.Journal.{Base, Edit, Follows}
 use Rattle.region_model.specs.Crash.{Fits}
 use Rattle.disk_images.specs.Crash.{DiskView, IsImageNow, Elapses, Throughout, Since}

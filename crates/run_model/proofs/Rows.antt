@@ -37,7 +37,7 @@ abbrev script : Script
 script = record {
   time = 1700000000000;
   regions = 2;
-  handlers = (Put 1 true (batch_of (name_cell ∷ mail_cell ∷ [])) ∷ Scan Raw 1 [] [] ∷ Flush 1 ∷ []) ∷ (Put 2 true (batch_of (key_cell ∷ [])) ∷ Roll ∷ Scan Raw 2 (codes "k1") (codes "k2") ∷ []) ∷ [];
+  handlers = (Put 1 true (batch_of (name_cell ∷ mail_cell ∷ [])) ∷ Scan Raw 1 [] [] ∷ Flush 1 None ∷ []) ∷ (Put 2 true (batch_of (key_cell ∷ [])) ∷ Roll ∷ Scan Raw 2 (codes "k1") (codes "k2") ∷ []) ∷ [];
 }
 
 two_handlers_say : Says Run text script
@@ -49,7 +49,7 @@ reply h n call answer = record { handler = h; number = n; call = call; answer = 
 
 abbrev replies : List Reply
 replies =
-    reply 1 1 (Put 1 true (batch_of (name_cell ∷ mail_cell ∷ []))) (PutOk 1) ∷ reply 1 2 (Scan Raw 1 [] []) (Scanned 1 ((1, mail_cell) ∷ (1, name_cell) ∷ [])) ∷ reply 1 3 (Flush 1) (FlushOk 1)
+    reply 1 1 (Put 1 true (batch_of (name_cell ∷ mail_cell ∷ []))) (PutOk 1) ∷ reply 1 2 (Scan Raw 1 [] []) (Scanned 1 ((1, mail_cell) ∷ (1, name_cell) ∷ [])) ∷ reply 1 3 (Flush 1 None) (FlushOk 1)
     ∷ reply 2 1 (Put 2 true (batch_of (key_cell ∷ []))) (PutOk 1) ∷ reply 2 2 Roll (RollOk 1 2) ∷ reply 2 3 (Scan Raw 2 (codes "k1") (codes "k2")) (Scanned 1 ((1, key_cell) ∷ [])) ∷ []
 
 abbrev edit_in : ℕ → ℕ → List Cell → Edit

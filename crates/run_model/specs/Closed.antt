@@ -3,9 +3,9 @@ use Rattle.std.specs.Prelude.{◌≡◌, ℕ, ◌≤◌, ◌⊎◌, ◌==◌, Bo
 use Rattle.std.specs.List.{range_with_len}
 use Rattle.log_model.specs.Files.{Files, IsSound}
 use Rattle.log_model.specs.Recovered.{IsRecovered, IsContent, IsLast}
-use Rattle.recovery.specs.Alike.{AllAlike}
+use Rattle.recovery_laws.specs.Alike.{AllAlike}
 use Rattle.region_model.specs.Journal.{Base, Caller}
-use Rattle.region_model.specs.Calls.{Call, Put, Scan, Flush, Roll}
+use Rattle.region_model.specs.Calls.{Call, Put, Scan, Flush, IsFlushOf, Roll}
 use Rattle.region_model.specs.Crash.{Fits}
 use Rattle.disk_images.specs.Crash.{DiskView, IsImageNow}
 use Rattle.script_model.specs.Calls.{Script, Asked, asked, asked_by, IsScript}
@@ -15,7 +15,7 @@ use Rattle.server_model.specs.Closing.{Region, IsClosedRegion, Survives, Leaves,
 -- ---- the script's flushes
 
 abbrev pub is_flush_of : ℕ → Call → Bool
-is_flush_of r (Flush region) = region == r
+is_flush_of r (Flush region family) = region == r
 is_flush_of r (Put region sync batch) = false
 is_flush_of r (Scan view region from to) = false
 is_flush_of r Roll = false
@@ -72,7 +72,7 @@ Closed script found left name hs xs broken = ClosedOn (asked script) script foun
 pub record AreCallsOn (on : ℕ → Type 0) (script : Script) (asks : List Asked) : Type 0 where
   pub part : (a : Asked) → Contains asks a → Contains (asked script) a
   pub order : Pairs Before asks
-  pub flushes : (a : Asked) (r : ℕ) → on r → Contains (asked script) a → a.call ≡ Flush r → Contains asks a
+  pub flushes : (a : Asked) (r : ℕ) → on r → Contains (asked script) a → IsFlushOf r a.call → Contains asks a
 
 -- what a crash may leave of an opening: an image of the disk as found, or files that recover alike for every region
 abbrev pub MayOpen : DiskView → Files → Type 0

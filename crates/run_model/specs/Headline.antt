@@ -1,5 +1,5 @@
 -- What the report of a run tells of its handlers' writes, and what any crash leaves of them.
-use Rattle.std.specs.Prelude.{◌≡◌, ◌≢◌, ℕ, ◌^◌, ◌<◌, ◌≤◌, ◌⊎◌, Bool, true, IsTrue, List, length, map, Contains, AllPairs, Some}
+use Rattle.std.specs.Prelude.{◌≡◌, ◌≢◌, ℕ, ◌^◌, ◌<◌, ◌≤◌, ◌⊎◌, Bool, true, IsTrue, List, length, map, Contains, AllPairs, Some, None}
 use Rattle.std.specs.List.{range_with_len}
 use Rattle.cell_model.specs.Batch.{Batch}
 use Rattle.cell_model.specs.Order.{VersionKey, Payload, cells_of}
@@ -19,7 +19,7 @@ use Rattle.script_model.specs.Calls.{Script, asked, asked_by}
 use Rattle.run_model.specs.declared.spent.Spent.{Spent}
 use Rattle.run_model.specs.Spent.{IsSpent, IsFirstSpent}
 use Rattle.run_model.specs.Closed.{FitsFrom, MayOpen}
-use Rattle.one_thread.specs.History.{IsHistory}
+use Rattle.serial_history.specs.History.{IsHistory}
 
 -- one region's base and its one list of edits
 pub record History : Type 0 where
@@ -76,9 +76,9 @@ pub record IsRolledBehind (r n : ℕ) (a b : Reply) : Type 0 where
   pub roll : b.call ≡ Roll
   pub rolled : IsRolled b.answer
 
--- Flushes, rolls and archiving that were told were done.
+-- Flushes of whole regions, rolls and archiving that were told were done.
 pub record AreDone (left : DiskView) (status : ℕ) (replies : List Reply) : Type 0 where
-  pub flushes : (reply : Reply) (r n : ℕ) → Contains replies reply → reply.call ≡ Flush r → flushed_of reply.answer ≡ Some n
+  pub flushes : (reply : Reply) (r n : ℕ) → Contains replies reply → reply.call ≡ Flush r None → flushed_of reply.answer ≡ Some n
       → (J : Files) (v : VersionKey) (p : Payload) → IsImageNow left J → IsRecovered J r v p → v.number ≤ n → IsStored J r v p
   pub rolls : AllPairs (λ put roll. (r n : ℕ) → IsRolledBehind r n put roll
       → (J : Files) (log : Name) (es : List Entry) (e : Entry) → IsImageNow left J → IsLastLog J log → IsLogFile J log es → Contains es e → e.region ≡ r → n < e.number) replies
@@ -126,7 +126,7 @@ pub record IsHeadline (script : Script) (found left : DiskView) (status : ℕ) (
   pub journals : (h : History) → Contains histories h → IsOneJournal script h
   pub lawful : (h : History) → Contains histories h → IsLawful h.region h.base h.edits replies
   -- so of each region the puts, scans and gets of all handlers are a history of one thread
-  pub one_thread : (h : History) → Contains histories h → (history : List Reply) × IsHistory h.region h.base h.edits replies history
+  pub serial_history : (h : History) → Contains histories h → (history : List Reply) × IsHistory h.region h.base h.edits replies history
   pub endures : (h : History) → Contains histories h → Endures left status replies h
   pub others : (J : Files) (r : ℕ) → IsImageNow left J → script.regions < r → RecoversAlike found.files J r
   pub images_sound : ((name : Name) → IsPresent found.files name → name.number ≤ 2 ^ 61) → (J : Files) → IsImageNow left J → IsSound J

@@ -25,7 +25,7 @@ pub record IsFirstSpent (spent : Spent) (replies : List Reply) : Type 0 where
 abbrev pub region_of : Call → ℕ
 region_of (Put region sync batch) = region
 region_of (Scan view region from to) = region
-region_of (Flush region) = region
+region_of (Flush region family) = region
 region_of Roll = 0
 
 -- what an answer tells of a region, where it tells that numbers are spent

@@ -203,7 +203,7 @@ fn assert_scan<R: AllocGlobal + Abort>(
     Ok(cells.len())
 }
 
-/// Asserts that a flush reached its handler's place, or met another handler's flush of the region.
+/// Asserts that a flush reached its handler's place, or met another handler's flush of the region. No cell has the family g.
 fn assert_flush<R: Abort>(rt: &R, steps: &[Step], step: Step, line: &str, places: &Places) {
     assert_eq!(rt; word(line, 3), "flush", "{line}");
     if word(line, 4) == "busy" {
@@ -214,7 +214,7 @@ fn assert_flush<R: Abort>(rt: &R, steps: &[Step], step: Step, line: &str, places
         return;
     }
     assert!(rt;
-        word(line, 4) == "ok" || word(line, 4) == "nothing",
+        word(line, 4) == "nothing" || (word(line, 4) == "ok" && step.row != 2),
         "{line}"
     );
     assert!(rt; number(line, 5) >= places.of(step.region), "{line}");

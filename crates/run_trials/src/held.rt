@@ -74,12 +74,12 @@ handlers 2
 put 1 1 sync 1
 cell r f q 1 put v
 flush 1 1
-flush 2 1
+flush 2 1 g
 roll 2
 ";
 
 // The first flush is held in the fourth sync, that of its store's bytes: a sync of the new log and two of the put's batch are
-// behind it. Meanwhile the second one comes, and is back before the first may go on.
+// behind it. Meanwhile the second one comes, of another family, and is back before the first may go on.
 #[test]
 fn second_flush_meets_first(rt: HostRuntime) -> Result<(), TestFail> {
     let alloc = rt.alloc();

@@ -15,7 +15,8 @@ pub(crate) enum Kind {
 }
 
 /// A call of a script. A put has one cell in the row, with its handler and call as the value; a scan is of all rows, or of `r1` and `r2`
-/// where the row isn't 0; a get is of the newest version of the row.
+/// where the row isn't 0; a get is of the newest version of the row; a flush is of family f where the row is
+/// 1, of g, which no cell has, where it is 2, and else of all.
 #[derive(Clone, Copy, PartialEq, Eq)]
 pub(crate) struct Step {
     pub(crate) handler: u64,
@@ -122,7 +123,16 @@ fn write_step(text: &mut String, step: Step) -> Result<(), TestFail> {
         )?,
         Kind::Scan => writeln!(text, "scan {handler} {region} {from} {to}")?,
         Kind::Get => writeln!(text, "get {handler} {region} r{row} 1")?,
-        Kind::Flush => writeln!(text, "flush {handler} {region}")?,
+        Kind::Flush => {
+            let family = if row == 1 {
+                " f"
+            } else if row == 2 {
+                " g"
+            } else {
+                ""
+            };
+            writeln!(text, "flush {handler} {region}{family}")?
+        }
         Kind::Roll => writeln!(text, "roll {handler}")?,
     }
     Ok(())

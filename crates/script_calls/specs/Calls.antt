@@ -14,5 +14,5 @@ abbrev pub call_of : Call → TheCall
 call_of (code.Put region durability batch) = Put region (is_sync durability) batch
 call_of (code.Scan region from to) = Scan Raw region from to
 call_of (code.Get region row versions) = get_call region row versions
-call_of (code.Flush region) = Flush region
+call_of (code.Flush region family) = Flush region family
 call_of code.Roll = Roll

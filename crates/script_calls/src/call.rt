@@ -27,9 +27,10 @@ pub enum Call {
         row: Octets,
         versions: u32,
     },
-    /// Writes the region's memory to a store file.
+    /// Writes the region's memory to a store file: the cells of one family, of 1 to 127 bytes, or those of all.
     Flush {
         region: u32,
+        family: Option<Octets>,
     },
     /// Ends the log's file and begins the next one.
     Roll,

@@ -4,6 +4,7 @@
 
 mod answering;
 mod calling;
+mod flushing;
 mod getting;
 mod handler;
 mod making;

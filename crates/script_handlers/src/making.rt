@@ -1,6 +1,6 @@
 //! All calls of a handler.
 
-ghost use Rattle.std.specs.Prelude.{◌≡◌, ◌≤◌, ◌<◌, ◌^◌, [], map, vec_len, vec_capacity};
+ghost use Rattle.std.specs.Prelude.{◌≡◌, ◌≤◌, ◌<◌, ◌+◌, ◌^◌, ◌++◌, [], None, length, map, option_to_list, vec_len, vec_capacity};
 ghost use Rattle.script_calls.specs.Calls.{call_of};
 ghost use Rattle.script_handlers.specs.Handled.{Handles, HasRun, IsReady, MayCallAll};
 
@@ -39,7 +39,9 @@ fn make_calls<R: Wait, S: Serves, G: Gate>(
     let handler = server.handler(pass);
     let mut number = 0;
     let mut spent = None;
-    for call in calls {
+    let mut later = calls;
+    later.reverse();
+    while let Some(call) = next_call(&mut later) {
         number += 1;
         let region = region_of(&call);
         let answer = server.make(rt, alloc, gate, time, pass, number, call);
@@ -51,6 +53,19 @@ fn make_calls<R: Wait, S: Serves, G: Gate>(
         });
     }
     spent
+}
+
+/// Takes the call at the end. Room for calls that were made goes back each time it is half of all.
+fn next_call(later: &mut Vec<Call>) -> Option<Call>
+    ensures call { later.old.items ≡ later.new.items ++ option_to_list result }
+    ensures len { vec_len later.new + length (option_to_list result) ≡ vec_len later.old }
+    ensures none { result ≡ None → later.old.items ≡ [] }
+{
+    let call = later.pop();
+    if later.len() <= later.capacity() / 2 {
+        later.shrink_to_fit();
+    }
+    call
 }
 
 /// Runs a handler.

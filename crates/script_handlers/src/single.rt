@@ -3,6 +3,7 @@
 ghost use Rattle.std.specs.Prelude.{◌≡◌};
 
 use crate::answering::{of_flush, of_put, of_roll, of_scan};
+use crate::flushing::lent;
 use crate::getting::get_row;
 use crate::serves::Serves;
 use disk_images::Disk;
@@ -35,9 +36,9 @@ impl<'a, D: Disk, N: ServerName, S: Wait> Serves for Server<'a, D, N, S> {
 
     ghost is_seat = { λ s q. IsSeatOf s q };
 
-    ghost may = { λ h n call. MayCall ⟦<N as region_calls::Naming>⟧.name h n call };
+    ghost may = { λ h n call. MayCall ⟦<N as region_calls::ServerNaming>⟧.name h n call };
 
-    ghost does = { λ time caller call answer old new. Does ⟦<N as region_calls::Naming>⟧.name time caller call answer old new };
+    ghost does = { λ time caller call answer old new. Does ⟦<N as region_calls::ServerNaming>⟧.name time caller call answer old new };
 
     fn handler(&self, pass: &Pass<N>) -> u32 {
         pass.handler()
@@ -70,7 +71,9 @@ impl<'a, D: Disk, N: ServerName, S: Wait> Serves for Server<'a, D, N, S> {
                 row,
                 versions,
             } => get_row(alloc, self, pass, region, &row, versions),
-            Call::Flush { region } => of_flush(self.flush(rt, alloc, pass, region, number)),
+            Call::Flush { region, family } => {
+                of_flush(self.flush(rt, alloc, pass, region, number, lent(&family)))
+            }
             Call::Roll => of_roll(self.roll(rt, alloc, pass)),
         }
     }

@@ -16,7 +16,7 @@ pub fn region_of(call: &Call) -> u32
         Call::Put { region, .. } => *region,
         Call::Scan { region, .. } => *region,
         Call::Get { region, .. } => *region,
-        Call::Flush { region } => *region,
+        Call::Flush { region, .. } => *region,
         Call::Roll => 0,
     }
 }

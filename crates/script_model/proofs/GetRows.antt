@@ -1,10 +1,10 @@
 -- Worked examples, which the check computes: gets.
-use Rattle.std.proofs.Common.{◌≡◌, ℕ, true, List, [], ◌∷◌, Option, Some, codes, replicate, refl}
+use Rattle.std.proofs.Common.{◌≡◌, ℕ, true, [], ◌∷◌, Option, Some, codes, replicate, refl}
 use Rattle.std.specs.Fmt.{digits}
 use Rattle.cell_model.specs.Cell.{Cell}
 use Rattle.region_model.specs.Calls.{Scan, Raw, Newest, Scanned, ScanMemory}
 use Rattle.script_model.specs.Calls.{Says}
-use Rattle.script_model.specs.Fields.{Why, why, cell_why, number_fault, token_fault, sized_fault, ts_fault, kind_fault, room_fault, mode_fault, here_fault, one_here_fault, mode_here_fault, kind_here_fault}
+use Rattle.script_model.specs.Fields.{Why, cell_why, number_fault, token_fault, sized_fault, ts_fault, kind_fault, room_fault, mode_fault, here_fault, one_here_fault, mode_here_fault, kind_here_fault}
 use Rattle.script_model.specs.Report.{reply_text, cell_line}
 use Rattle.script_model.specs.Script.{script_fault}
 use Rattle.script_model.specs.Tables.{get_fault}

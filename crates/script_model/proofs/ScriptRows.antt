@@ -1,5 +1,5 @@
 -- Texts that are scripts, each with exactly what it says.
-use Rattle.std.proofs.Common.{ℕ, true, false, List, [], ◌∷◌, codes, refl}
+use Rattle.std.proofs.Common.{ℕ, true, false, List, [], ◌∷◌, None, codes, refl}
 use Rattle.cell_model.specs.Batch.{batch_of}
 use Rattle.cell_model.specs.Cell.{Cell}
 use Rattle.region_model.specs.Calls.{Put, Scan, Raw, Flush, Roll}
@@ -44,7 +44,7 @@ tokens = record { right = refl; is = refl }
 
 -- the calls of two handlers stand apart, each in its order
 two_handlers : Says Run (codes "time 5\nregions 2\nhandlers 2\nroll 2\nflush 1 2\nscan 2 1 - -\nflush 1 1\n")
-    (record { time = 5; regions = 2; handlers = (Flush 2 ∷ Flush 1 ∷ []) ∷ (Roll ∷ Scan Raw 1 [] [] ∷ []) ∷ [] })
+    (record { time = 5; regions = 2; handlers = (Flush 2 None ∷ Flush 1 None ∷ []) ∷ (Roll ∷ Scan Raw 1 [] [] ∷ []) ∷ [] })
 unfolding script_fault number_fault token_fault sized_fault ts_fault kind_fault room_fault mode_fault here_fault one_here_fault mode_here_fault kind_here_fault
 two_handlers = record { right = refl; is = refl }
 
@@ -62,13 +62,13 @@ last_line = record { right = refl; is = refl }
 
 -- more spaces than one, leading zeros
 spaces_and_zeros : Says Run (codes "time  007\n regions 01\nhandlers 1 \n flush  01   001 \n")
-    (record { time = 7; regions = 1; handlers = (Flush 1 ∷ []) ∷ [] })
+    (record { time = 7; regions = 1; handlers = (Flush 1 None ∷ []) ∷ [] })
 unfolding script_fault number_fault token_fault sized_fault ts_fault kind_fault room_fault mode_fault here_fault one_here_fault mode_here_fault kind_here_fault
 spaces_and_zeros = record { right = refl; is = refl }
 
 -- the greatest head lines
 greatest_head : Says Run (codes "time 9223372036854775806\nregions 64\nhandlers 16\nflush 16 64\n")
-    (record { time = 9223372036854775806; regions = 64; handlers = [] ∷ [] ∷ [] ∷ [] ∷ [] ∷ [] ∷ [] ∷ [] ∷ [] ∷ [] ∷ [] ∷ [] ∷ [] ∷ [] ∷ [] ∷ (Flush 64 ∷ []) ∷ [] })
+    (record { time = 9223372036854775806; regions = 64; handlers = [] ∷ [] ∷ [] ∷ [] ∷ [] ∷ [] ∷ [] ∷ [] ∷ [] ∷ [] ∷ [] ∷ [] ∷ [] ∷ [] ∷ [] ∷ (Flush 64 None ∷ []) ∷ [] })
 unfolding script_fault number_fault token_fault sized_fault ts_fault kind_fault room_fault mode_fault here_fault one_here_fault mode_here_fault kind_here_fault
 greatest_head = record { right = refl; is = refl }
 

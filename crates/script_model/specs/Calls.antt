@@ -1,5 +1,5 @@
 -- A script by its handlers, and what it asks.
-use Rattle.std.specs.Prelude.{◌≡◌, ℕ, zero, suc, ◌+◌, ◌-◌, ◌^◌, ◌<◌, ◌≤◌, ◌==◌, if◌then◌else◌, List, [], ◌∷◌, ◌++◌, length, All, None, unwrap_or}
+use Rattle.std.specs.Prelude.{◌≡◌, ℕ, zero, suc, ◌+◌, ◌-◌, ◌^◌, ◌<◌, ◌≤◌, ◌==◌, if◌then◌else◌, List, [], ◌∷◌, ◌++◌, length, All, Option, Some, None, unwrap_or}
 use Rattle.region_model.specs.Calls.{Call, Put, Scan, Flush, Roll, Reply}
 use Rattle.script_model.specs.Text.{lines_of}
 use Rattle.script_model.specs.Script.{Said, nothing_said, said_by, script_fault}
@@ -23,11 +23,16 @@ by_handler (suc n) h cs = calls_of h cs ∷ by_handler n (h + 1) cs
 abbrev pub script_of : Said → Script
 script_of said = record { time = unwrap_or said.time 0; regions = unwrap_or said.regions 0; handlers = by_handler (unwrap_or said.handlers 0) 1 said.calls }
 
--- the call is on one of so many regions
+-- all families, or one with a name of a family's length
+abbrev pub IsFamily : Option (List ℕ) → Type 0
+IsFamily None = Unit {0}
+IsFamily (Some family) = (1 ≤ length family) × (length family ≤ 127)
+
+-- the call is on one of so many regions, and flushes all families or one with a right name
 abbrev pub IsAmong : (regions : ℕ) → Call → Type 0
 IsAmong regions (Put region sync batch) = (1 ≤ region) × (region ≤ regions)
 IsAmong regions (Scan view region from to) = (1 ≤ region) × (region ≤ regions)
-IsAmong regions (Flush region) = (1 ≤ region) × (region ≤ regions)
+IsAmong regions (Flush region family) = (1 ≤ region) × (region ≤ regions) × IsFamily family
 IsAmong regions Roll = Unit {0}
 
 -- the limits that a script keeps

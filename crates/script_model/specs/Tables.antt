@@ -48,6 +48,11 @@ abbrev pub scan_fault : Command → (handlers regions : ℕ) (h r from to : List
 scan_fault command handlers regions h r from to =
     first_of (handler_fault handlers h) (first_of (region_fault regions r) (first_of (token_fault from) (first_of (token_fault to) (here_fault command))))
 
+-- a flush of one family
+abbrev pub family_fault : Command → (handlers regions : ℕ) (h r family : List ℕ) → Option Why
+family_fault command handlers regions h r family =
+    first_of (handler_fault handlers h) (first_of (region_fault regions r) (first_of (sized_fault 2 1 127 family) (here_fault command)))
+
 -- a get of up to 1,000,000 versions of each column of a row
 abbrev pub get_fault : Command → (handlers regions : ℕ) (h r row versions : List ℕ) → Option Why
 get_fault command handlers regions h r row versions =
@@ -60,6 +65,8 @@ call_fault command handlers regions (a ∷ h ∷ []) =
     if is a (codes "roll") then first_of (handler_fault handlers h) (here_fault command) else misplaced
 call_fault command handlers regions (a ∷ h ∷ r ∷ []) =
     if is a (codes "flush") then first_of (handler_fault handlers h) (first_of (region_fault regions r) (here_fault command)) else misplaced
+call_fault command handlers regions (a ∷ h ∷ r ∷ x ∷ []) =
+    if is a (codes "flush") then family_fault command handlers regions h r x else misplaced
 call_fault command handlers regions (a ∷ h ∷ r ∷ x ∷ y ∷ []) =
     if is a (codes "put") then put_fault command handlers regions h r x y
     else (if is a (codes "scan") then scan_fault command handlers regions h r x y
@@ -108,7 +115,8 @@ pub data Spoken : Type 0 where
 
 abbrev pub spoken_of : List (List ℕ) → Option Spoken
 spoken_of (a ∷ h ∷ []) = Some (Calls (number_of h) Roll)
-spoken_of (a ∷ h ∷ r ∷ []) = Some (Calls (number_of h) (Flush (number_of r)))
+spoken_of (a ∷ h ∷ r ∷ []) = Some (Calls (number_of h) (Flush (number_of r) None))
+spoken_of (a ∷ h ∷ r ∷ x ∷ []) = Some (Calls (number_of h) (Flush (number_of r) (Some (bytes_of x))))
 spoken_of (a ∷ h ∷ r ∷ x ∷ y ∷ []) =
     if is a (codes "put") then Some (Opens (number_of h) (number_of r) (is x (codes "sync")) (number_of y))
     else (if is a (codes "scan") then Some (Calls (number_of h) (Scan Raw (number_of r) (bytes_of x) (bytes_of y)))

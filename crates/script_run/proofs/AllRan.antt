@@ -14,7 +14,7 @@ use Rattle.server_model.proofs.JournalLaws.{contains_cons}
 use Rattle.run_model.specs.Closed.{IsNameFor}
 use Rattle.run_model.proofs.AskedLaws.{flush_listed}
 use Rattle.log_service.specs.Places.{Place}
-use Rattle.region_lock.specs.declared.naming.Naming.{Ghosts}
+use Rattle.region_lock.specs.declared.naming.LockNaming.{Ghosts}
 use Rattle.region_calls.specs.declared.pass.Pass.{Pass}
 use Rattle.region_calls.specs.Passes.{knows, IsPassOf}
 use Rattle.server_model.specs.Steps.{Does, Runs}

@@ -5,7 +5,7 @@ use Rattle.server_model.specs.Pass.{Pass as ThePass, Naming}
 use Rattle.server_model.specs.Steps.{Does}
 use Rattle.run_model.specs.declared.spent.Spent.{Spent}
 use Rattle.log_service.specs.Places.{Place}
-use Rattle.region_lock.specs.declared.naming.Naming.{Ghosts}
+use Rattle.region_lock.specs.declared.naming.LockNaming.{Ghosts}
 use Rattle.region_calls.specs.declared.pass.Pass.{Pass}
 use Rattle.region_calls.specs.Passes.{knows, IsPassOf}
 use Rattle.handler_threads.specs.Working.{AreReady as AllReady, HaveWorked}

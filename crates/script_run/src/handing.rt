@@ -16,7 +16,7 @@ use script_calls::ReplyLines;
 use script_handlers::Handler;
 
 /// Makes a handler for each room. There is room for them, and it takes no memory.
-pub fn take_passes<N: region_lock::Naming + region_versions::Naming>(
+pub fn take_passes<N: region_lock::LockNaming + region_versions::VersionsNaming>(
     rooms: Vec<Room>,
     passes: &mut Passes<N>,
     handlers: &mut Vec<Handler<Pass<N>>>,
@@ -45,7 +45,7 @@ pub fn take_passes<N: region_lock::Naming + region_versions::Naming>(
 
 /// Gives the passes back, and keeps the replies and the first put that found no sequence id left. There is room for them, and
 /// it takes no memory.
-pub fn give_back<N: region_lock::Naming + region_versions::Naming>(
+pub fn give_back<N: region_lock::LockNaming + region_versions::VersionsNaming>(
     handlers: Vec<Handler<Pass<N>>>,
     passes: &mut Passes<N>,
     parts: &mut Vec<ReplyLines>,

@@ -40,13 +40,13 @@ pub fn serve<N: ServerName + Send + Sync, R: Threads + Wait + Sync, D: Disk + Se
     requires any_moment { IsTrue D.told → During (WasOrAlike (D.view (disk_found opened))) (D.view (disk_found opened)) (D.view (disk_now opened)) }
     // The name is the store's, and the script's.
     requires store { IsStore D.Disk opened }
-    requires name { N.name ≡ name_of (length N.lasts) N.handlers N.Naming-4.base N.flushes }
+    requires name { N.name ≡ name_of (length N.lasts) N.handlers N.region_base N.flushes }
     requires named { IsNameFor (script_in time (regions_of opened) rooms.items) N.name }
     requires handlers { N.handlers ≡ handlers_of opened }
     requires lasts { N.lasts ≡ lasts_of (bases_of opened) }
     requires rings { (N.ring ≡ ring_of opened) × (N.hand ≡ hand_of opened) }
-    requires regions { (r : ℕ) → 1 ≤ r → r ≤ regions_of opened → AreTablesOf N.desk N.spent N.book N.Naming-4.base opened r }
-    requires begun { (N.Naming-3.base ≡ (D.view (disk_begun opened)).files) × (N.start ≡ (D.view (disk_now opened)).clock)
+    requires regions { (r : ℕ) → 1 ≤ r → r ≤ regions_of opened → AreTablesOf N.desk N.spent N.book N.region_base opened r }
+    requires begun { (N.begun ≡ (D.view (disk_begun opened)).files) × (N.start ≡ (D.view (disk_now opened)).clock)
         × (N.faults ≡ D.faults (disk_now opened)) }
     requires past { (t : ℕ) (J : Files) → t ≤ N.start
         → ((D.view (disk_now opened)).image t J → N.past t J) × (N.past t J → (D.view (disk_now opened)).image t J) }

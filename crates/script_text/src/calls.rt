@@ -9,6 +9,7 @@ ghost use Rattle.script_text.specs.Why.{Tells};
 
 use crate::faults::{LineError, ScriptWhy};
 use crate::fields::{mode, ranged};
+use crate::flushes::{family_line, flush_line};
 use crate::here::{here, mode_here, one_here};
 use crate::reads::{get_line, scan_line};
 use kv_cell::Durability;
@@ -98,6 +99,7 @@ pub fn call_line(
     match words {
         [name, h] => roll_line(command, handlers, regions, name, h),
         [name, h, r] => flush_line(command, handlers, regions, name, h, r),
+        [name, h, r, family] => family_line(alloc, command, handlers, regions, name, h, r, family),
         [name, h, r, x, y] => put_or_read(alloc, command, handlers, regions, name, h, r, x, y),
         _ => Err(LineError::Wrong(ScriptWhy::Word)),
     }
@@ -123,31 +125,6 @@ fn roll_line(
     Ok(Spoken::Calls {
         handler,
         call: Call::Roll,
-    })
-}
-
-/// A flush of a region.
-fn flush_line(
-    command: Command,
-    handlers: u64,
-    regions: u32,
-    name: &[u8],
-    h: &[u8],
-    r: &[u8],
-) -> Result<Spoken, LineError>
-    ensures exact { Tells result (call_fault command handlers regions (name.now ∷ h.now ∷ r.now ∷ [])) }
-    ensures value { IfOk result (λ s. spoken_of (name.now ∷ h.now ∷ r.now ∷ []) ≡ Some (spoken s)) }
-    ensures within { IfOk result (λ s. InRange handlers regions s) }
-{
-    if name != b"flush".as_slice() {
-        return Err(LineError::Wrong(ScriptWhy::Word));
-    }
-    let handler = handler_of(h, handlers)?;
-    let region = region_of(r, regions)?;
-    here(command)?;
-    Ok(Spoken::Calls {
-        handler,
-        call: Call::Flush { region },
     })
 }
 

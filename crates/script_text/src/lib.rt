@@ -8,6 +8,7 @@ mod cells;
 mod faults;
 mod fields;
 mod filling;
+mod flushes;
 mod grouping;
 mod here;
 mod numbers;

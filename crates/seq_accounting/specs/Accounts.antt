@@ -1,24 +1,27 @@
--- What the accounting has of each region and of each closed file. Numbers are by region, read by `get_or numbers region 0`.
-use Rattle.std.specs.Prelude.{◌≡◌, ◌≢◌, ℕ, zero, suc, ◌<◌, ◌≤◌, Bool, true, leb, ◌&&◌, List, get_or, not, filter, Contains}
+-- What the accounting has of each region and family, and of each closed file. Lists are by region, read by `get_or list region`.
+use Rattle.std.specs.Prelude.{◌≡◌, ◌≢◌, ℕ, ◌<◌, ◌≤◌, max, Bool, true, leb, ◌==◌, ◌&&◌, ◌||◌, List, [], ◌∷◌, length, get_or, not, filter, map, Contains}
+use Rattle.cell_model.specs.Cell.{Cell}
+use Rattle.seq_accounting.specs.Marks.{FamilyMark, is_same, first_given, number_of, has_family}
 use Rattle.seq_accounting.specs.declared.region.RegionMark.{RegionMark}
 
--- a closed file, with the highest number of each region in it, 0 where there is none
+-- a closed file, with the highest number in it of each family of a region
 pub record ClosedFile : Type 0 where
   pub file : ℕ
-  pub highest : List ℕ
+  pub highest : List FamilyMark
 
 pub record Accounts : Type 0 where
-  -- what is flushed of each region, and the highest number noted, or flushed at the start
-  pub flushed : List ℕ
+  -- what is flushed of each whole region, and the highest number noted, or flushed
+  pub whole : List ℕ
   pub noted : List ℕ
   -- the number being flushed, 0 where none is
   pub flushing : List ℕ
-  -- the least noted number above the flushed one, 0 where there is none
-  pub oldest : List ℕ
-  -- the first number noted since the flush under way began, 0 where there is none
-  pub since : List ℕ
-  -- the highest number in the current file, 0 where there is none
-  pub current : List ℕ
+  -- up to which families are flushed that were flushed alone
+  pub flushed : List (List FamilyMark)
+  -- the least number above the flushed one that was noted while no flush was under way, and the first one since it began
+  pub oldest : List (List FamilyMark)
+  pub since : List (List FamilyMark)
+  -- the highest numbers in the current file
+  pub current : List FamilyMark
   -- the files that are closed and not forgotten, in rising number
   pub closed : List ClosedFile
   -- the number of the last file closed, 0 where none was
@@ -26,19 +29,42 @@ pub record Accounts : Type 0 where
   -- for how many more closed files there is room
   pub room : ℕ
 
--- a region is flushed up to this number once the flush is completed
+-- a region is flushed up to this number once the flush is completed: one family, or all where it is empty
 pub record Flush : Type 0 where
   pub region : ℕ
+  pub family : List ℕ
   pub number : ℕ
 
--- for each region the highest number is at or below the flushed one
-abbrev pub AreLower : List ℕ → List ℕ → Type 0
-AreLower highest flushed = (r : ℕ) → r ≤ 64 → get_or highest r 0 ≤ get_or flushed r 0
+-- whether a flush of this family, or of all where it is empty, is one of the other
+abbrev pub is_for : List ℕ → List ℕ → Bool
+is_for family f = length family == 0 || is_same family f
 
--- the same as a test, of the first so many regions
-unfoldable pub are_lower : ℕ → List ℕ → List ℕ → Bool
-are_lower zero highest flushed = true
-are_lower (suc n) highest flushed = leb (get_or highest n 0) (get_or flushed n 0) && are_lower n highest flushed
+-- what is flushed of a family: what is flushed of the whole region, or more where the family was flushed alone
+abbrev pub flushed_by : List ℕ → List (List FamilyMark) → ℕ → List ℕ → ℕ
+flushed_by whole flushed r f = max (get_or whole r 0) (number_of (get_or flushed r []) r f)
+
+abbrev pub flushed_at : Accounts → ℕ → List ℕ → ℕ
+flushed_at a r f = flushed_by a.whole a.flushed r f
+
+-- the first number noted since the flush under way began, of an entry with a cell of this family; 0 where there is none
+abbrev pub since_at : Accounts → ℕ → List ℕ → ℕ
+since_at a r f = number_of (get_or a.since r []) r f
+
+-- the least noted number above the family's flushed one, 0 where there is none
+abbrev pub oldest_at : Accounts → ℕ → List ℕ → ℕ
+oldest_at a r f = first_given (number_of (get_or a.oldest r []) r f) (since_at a r f)
+
+-- of each family of each region the highest number is at or below the flushed one
+abbrev pub AreLowerBy : List ℕ → List (List FamilyMark) → List FamilyMark → Type 0
+AreLowerBy whole flushed highest = (r : ℕ) (f : List ℕ) → number_of highest r f ≤ flushed_by whole flushed r f
+
+abbrev pub AreLower : Accounts → List FamilyMark → Type 0
+AreLower a highest = AreLowerBy a.whole a.flushed highest
+
+-- the same as a test of each mark
+abbrev pub are_lower : List ℕ → List (List FamilyMark) → List FamilyMark → Bool
+are_lower whole flushed [] = true
+are_lower whole flushed (m ∷ ms) = leb m.number (flushed_by whole flushed m.region m.family) && are_lower whole flushed ms
 
 -- a file of this number is closed and not forgotten
 abbrev pub IsClosed : List ClosedFile → ℕ → Type 0
@@ -49,8 +75,8 @@ abbrev pub IsBefore : ClosedFile → ClosedFile → Type 0
 IsBefore c d = c.file < d.file
 
 -- the files of which not all is flushed
-abbrev pub unflushed : List ℕ → List ClosedFile → List ClosedFile
-unflushed flushed closed = filter (λ c. not (are_lower 65 c.highest flushed)) closed
+abbrev pub unflushed : Accounts → List ClosedFile
+unflushed a = filter (λ c. not (are_lower a.whole a.flushed c.highest)) a.closed
 
 abbrev pub NoneClosedAbove : List ClosedFile → ℕ → Type 0
 NoneClosedAbove closed after = (c : ClosedFile) → Contains closed c → c.file ≤ after
@@ -72,16 +98,6 @@ pub record AreFlushed (marks : List RegionMark) (flushed : List ℕ) : Type 0 wh
   pub marked : (m : RegionMark) → Contains marks m → get_or flushed m.region 0 ≡ m.flushed
   pub others : (r : ℕ) → ((m : RegionMark) → Contains marks m → m.region ≢ r) → get_or flushed r 0 ≡ 0
 
--- what is told of numbers that were flushed or noted is the same
-pub record SameNumbers (old new : Accounts) : Type 0 where
-  pub flushed : new.flushed ≡ old.flushed
-  pub noted : new.noted ≡ old.noted
-  pub flushing : new.flushing ≡ old.flushing
-  pub oldest : new.oldest ≡ old.oldest
-  pub since : new.since ≡ old.since
-
--- what is told of closed files is the same
-pub record SameFiles (old new : Accounts) : Type 0 where
-  pub closed : new.closed ≡ old.closed
-  pub last : new.last ≡ old.last
-  pub room : new.room ≡ old.room
+-- these are the families of the cells
+abbrev pub AreFamiliesOf : List Cell → List (List ℕ) → Type 0
+AreFamiliesOf cells families = (f : List ℕ) → has_family families f ≡ has_family (map (λ c. c.family) cells) f

@@ -1,6 +1,11 @@
+pub mod Marks
+pub mod Branch
+pub mod Regions
 pub mod Accounts
+pub mod Steps
 pub mod Noted
 pub mod Order
+pub mod Rooms
 pub mod Places
-pub mod Steps
 pub mod View
+pub mod Live

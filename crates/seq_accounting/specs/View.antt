@@ -5,9 +5,10 @@ use Rattle.seq_accounting.specs.Accounts.{Accounts}
 
 abbrev pub accounts_of : Inside → Accounts
 accounts_of a = record {
-  flushed = a.flushed;
+  whole = a.flushed.whole;
   noted = a.noted;
   flushing = a.flushing;
+  flushed = a.flushed.families;
   oldest = a.oldest;
   since = a.since;
   current = a.current;

@@ -1,17 +1,18 @@
 //! Closed files, in rising number.
 
 ghost use Rattle.std.specs.Prelude.{◌≡◌, ◌<◌, ◌≤◌, ◌↔◌, AllPairs, IsTrue};
-ghost use Rattle.seq_accounting.specs.Accounts.{AreLower, are_lower, IsBefore, IsClosed};
+ghost use Rattle.seq_accounting.specs.Accounts.{AreLowerBy, are_lower, IsBefore, IsClosed};
 ghost use Rattle.seq_accounting.specs.Places.{IsPlaceOf, IsPlaceAbove};
 
-use crate::region::REGIONS;
+use crate::flushed::FlushedNumbers;
+use crate::marks::Marks;
 use std::marker::Model;
 
-/// A closed file with the highest number of each region in it, 0 where there is none.
+/// A closed file with the highest number in it of each family of each region.
 #[derive(Drop)]
 pub(crate) struct FileMark {
     file: u64,
-    highest: [u64; REGIONS],
+    highest: Marks,
 }
 
 impl Model for FileMark {
@@ -23,7 +24,7 @@ impl Model for FileMark {
 }
 
 impl FileMark {
-    pub(crate) fn new(file: u64, highest: [u64; REGIONS]) -> FileMark
+    pub(crate) fn new(file: u64, highest: Marks) -> FileMark
         ensures { result ≡ record { file = file; highest = highest } }
     {
         FileMark { file, highest }
@@ -35,17 +36,12 @@ impl FileMark {
         self.file
     }
 
-    /// Whether the highest number of each region is at or below the flushed one.
-    pub(crate) fn is_lower(&self, flushed: &[u64; REGIONS]) -> bool
-        ensures lower { IsTrue result ↔ AreLower self.now.highest flushed.now }
-        ensures test { result ≡ are_lower REGIONS self.now.highest flushed.now }
+    /// Whether the highest number of each family of each region is at or below the flushed one.
+    pub(crate) fn is_lower(&self, flushed: &FlushedNumbers) -> bool
+        ensures lower { IsTrue result ↔ AreLowerBy flushed.now.whole flushed.now.families self.now.highest }
+        ensures test { result ≡ are_lower flushed.now.whole flushed.now.families self.now.highest }
     {
-        for region in 0..REGIONS {
-            if self.highest[region] > flushed[region] {
-                return false;
-            }
-        }
-        true
+        self.highest.is_lower(flushed)
     }
 }
 

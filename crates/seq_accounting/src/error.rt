@@ -1,6 +1,6 @@
 //! Out of memory.
 
-use std::alloc::AllocError;
+use std::alloc::{AllocError, AllocFailed};
 use thiserror::Error;
 
 /// Out of memory.
@@ -10,6 +10,18 @@ pub struct NoMemory;
 
 impl From<AllocError> for NoMemory {
     fn from(_e: AllocError) -> NoMemory {
+        NoMemory
+    }
+}
+
+impl<T: Drop> From<AllocFailed<T>> for NoMemory {
+    fn from(_e: AllocFailed<T>) -> NoMemory {
+        NoMemory
+    }
+}
+
+impl From<kv_cell::NoMemory> for NoMemory {
+    fn from(_e: kv_cell::NoMemory) -> NoMemory {
         NoMemory
     }
 }

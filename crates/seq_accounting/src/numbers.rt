@@ -21,24 +21,3 @@ pub(crate) fn flushed_by(regions: &[RegionMark]) -> [u64; REGIONS]
     }
     flushed
 }
-
-/// The first number, or the new one where there was none.
-pub(crate) fn first_of(first: u64, number: u64) -> u64
-    ensures none { first ≡ 0 → result ≡ number }
-    ensures some { 0 < first → result ≡ first }
-{
-    if first == 0 { number } else { first }
-}
-
-/// The same where a flush is under way, and else none.
-pub(crate) fn first_since(flushing: u64, first: u64, number: u64) -> u64
-    ensures idle { flushing ≡ 0 → result ≡ first }
-    ensures none { 0 < flushing → first ≡ 0 → result ≡ number }
-    ensures some { 0 < first → result ≡ first }
-{
-    if flushing == 0 {
-        first
-    } else {
-        first_of(first, number)
-    }
-}

@@ -10,7 +10,7 @@ use Rattle.region_model.specs.Lawful.{IsOn, place_of, number_of, outcome_of, flu
 use Rattle.region_model.specs.Crash.{IsReceipted, Put_ok, Put_memory, Flushed}
 use Rattle.cell_model.specs.Lists.{IsPrefix}
 use Rattle.server_model.specs.Pass.{Pass, Naming, IsLater}
-use Rattle.server_model.specs.Steps.{edit_of, drawn, told_last, IsPutAnswer, IsScanAnswer, IsFlushAnswer, IsRollAnswer, IsRolled, IsFault, IsQuietPass, Puts, Scans, Flushes, Rolls, Does, Step, Runs}
+use Rattle.server_model.specs.Steps.{edit_of, drawn, told_last, IsPutAnswer, IsScanAnswer, IsFlushAnswer, IsRollAnswer, IsRolled, IsFault, IsQuietPass, Puts, Scans, Flushes, IsFlushedTo, IsNothingAbove, Rolls, Does, Step, Runs}
 use Rattle.server_model.proofs.JournalLaws.{prefix_here, prefix_trans, prefix_contains, prefix_length, contains_cons}
 use Rattle.server_model.specs.Closing.{Pairs}
 
@@ -72,7 +72,7 @@ put_grows name time r sync batch caller answer old new d = record { later = d.la
 does_grows : (name : Naming) (time : ℕ) (caller : Caller) (call : Call) (answer : Answer) (old new : Pass) → Does name time caller call answer old new → Grows old new
 does_grows name time caller (Put r sync batch) answer old new d = put_grows name time r sync batch caller answer old new d
 does_grows name time caller (Scan view r from to) answer old new d = quiet_grows old new d.later d.own
-does_grows name time caller (Flush r) answer old new d = quiet_grows old new d.later d.own
+does_grows name time caller (Flush r family) answer old new d = quiet_grows old new d.later d.own
 does_grows name time caller Roll answer old new d = quiet_grows old new d.later d.own
 
 pub step_grows : (name : Naming) (time : ℕ) (old new : Pass) (reply : Reply) → Step name time old reply new → Grows old new
@@ -168,10 +168,11 @@ pub record Kept (name : Naming) (time : ℕ) (reply : Reply) (p : Pass) : Type 0
       → (list : List Edit) × IsPrefix list (p.known r).shown × (q ≡ last_of (name.bases r).last list) × (cells ≡ viewed view (visible (name.bases r).content list q from to))
   pub puts : (r n : ℕ) → IsOn r reply.call → number_of reply.answer ≡ Some n → (e : Edit) × Contains (p.known r).own e × (e.entry.number ≡ n) × IsEditOf reply e
   pub places : (r q : ℕ) → IsOn r reply.call → place_of reply.answer ≡ Some q → q ≤ last_of (name.bases r).last (p.known r).shown
-  pub flushes : (r n : ℕ) → IsOn r reply.call → flushed_of reply.answer ≡ Some n → ((name.bases r).last ≤ n) × (n ≤ (p.known r).stored)
+  pub flushes : (r n : ℕ) → IsOn r reply.call → flushed_of reply.answer ≡ Some n → ((name.bases r).last ≤ n) × (n ≤ (p.known r).synced)
+  pub stored : (r n : ℕ) → reply.call ≡ Flush r None → flushed_of reply.answer ≡ Some n → n ≤ (p.known r).stored
   pub busy : (r h c : ℕ) → IsOn r reply.call → reply.answer ≡ FlushBusy h c → (h ≢ reply.handler) × Contains (name.flushes r) (record { handler = h; call = c })
   pub spent : (r n : ℕ) → IsOn r reply.call → reply.answer ≡ PutSpent n → (n ≡ 2 ^ 48 - 1) × Contains (p.known r).spent n
-  pub receipts : (r n : ℕ) → IsReceipted r n reply → (n ≤ (p.known r).synced) ⊎ (n ≤ (p.known r).stored)
+  pub receipts : (r n : ℕ) → IsReceipted r n reply → n ≤ (p.known r).synced
   pub durable : (r n : ℕ) (batch : Batch) → reply.call ≡ Put r true batch → reply.answer ≡ PutOk n → n ≤ (p.known r).synced
   pub fault : IsPutFault reply.answer → p.broken ≡ true
   pub faults : IsFault reply.answer → p.broken ≡ true
@@ -183,10 +184,11 @@ kept_later name time reply p q g k = record {
   scans = λ view r n from to cells c a. let h = k.scans view r n from to cells c a in (h.0, prefix_trans h.0 (p.known r).shown (q.known r).shown h.1 (g.later.known r).shown, h.2, h.3);
   puts = λ r n on is. let h = k.puts r n on is in (h.0, prefix_contains (p.known r).own (q.known r).own h.0 (g.own r) h.1, h.2, h.3);
   places = λ r n on is. omega (arith, k.places r n on is, prefix_length (p.known r).shown (q.known r).shown (g.later.known r).shown);
-  flushes = λ r n on is. let h = k.flushes r n on is in (h.0, omega (arith, h.1, (g.later.known r).stored));
+  flushes = λ r n on is. let h = k.flushes r n on is in (h.0, omega (arith, h.1, (g.later.known r).synced));
+  stored = λ r n call is. omega (arith, k.stored r n call is, (g.later.known r).stored);
   busy = k.busy;
   spent = λ r n on is. let h = k.spent r n on is in (h.0, prefix_contains (p.known r).spent (q.known r).spent n (g.spent r) h.1);
-  receipts = λ r n is. elim (k.receipts r n is) [ inl s ↦ inl (omega (arith, s, (g.later.known r).synced)) | inr s ↦ inr (omega (arith, s, (g.later.known r).stored)) ];
+  receipts = λ r n is. omega (arith, k.receipts r n is, (g.later.known r).synced);
   durable = λ r n batch c a. omega (arith, k.durable r n batch c a, (g.later.known r).synced);
   fault = λ f. g.later.broken (k.fault f);
   faults = λ f. g.later.broken (k.faults f);
@@ -228,7 +230,7 @@ told_by : (name : Naming) (time h c : ℕ) (call : Call) (answer : Answer) (old 
     → Contains (old.known s).own e ⊎ (IsEditOf (reply_of h c call answer) e × (e.entry.region ≡ s) × (e.entry.time ≡ time))
 told_by name time h c (Put r sync batch) answer old new d s e is = told_by_put name time r sync batch h c answer old new d s e is
 told_by name time h c (Scan view r from to) answer old new d s e is = inl (subst (λ l. Contains l e) (d.own s).own is)
-told_by name time h c (Flush r) answer old new d s e is = inl (subst (λ l. Contains l e) (d.own s).own is)
+told_by name time h c (Flush r family) answer old new d s e is = inl (subst (λ l. Contains l e) (d.own s).own is)
 told_by name time h c Roll answer old new d s e is = inl (subst (λ l. Contains l e) (d.own s).own is)
 
 step_told : (name : Naming) (time : ℕ) (old new : Pass) (reply : Reply) → Step name time old reply new → (r : ℕ) (e : Edit) → Contains (new.known r).own e
@@ -244,12 +246,13 @@ kept_put name time r sync batch h c answer old new same d = record {
       (edit_of r n time batch (caller_of h c) (outcome_of answer), held n is, refl, record { handler = refl; call = refl; sync = sync; put = refl; number = is; outcome = refl });
   places = λ s q on is. subst (λ s. q ≤ last_of (name.bases s).last (new.known s).shown) on (d.seen q (place_put answer q d.answered is));
   flushes = λ s n on is. absurd (flushed_put answer n d.answered is);
+  stored = λ s n call is. absurd cc;
   busy = λ s g b on is. absurd (true≢false (sym (subst IsPutAnswer is d.answered)));
   spent = λ s n on is. (d.limit n is, subst (λ s. Contains (new.known s).spent n) on (told n is));
   receipts = λ s n is. elim is [
-    | Put_ok batch' call ans ↦ inl (here s n call (ap number_of ans) (ap outcome_of ans))
-    | Put_memory batch' call ans ↦ inl (here s n call (ap number_of ans) (ap outcome_of ans))
-    | Flushed call ans ↦ absurd cc
+    | Put_ok batch' call ans ↦ here s n call (ap number_of ans) (ap outcome_of ans)
+    | Put_memory batch' call ans ↦ here s n call (ap number_of ans) (ap outcome_of ans)
+    | Flushed call ans ↦ absurd call
   ];
   durable = λ s n batch' call ans. here s n call (ap number_of ans) (ap outcome_of ans);
   fault = d.fault;
@@ -285,9 +288,10 @@ kept_scan name time view r from to h c answer old new same d = record {
   places = λ s q on is. let x = place_scan answer q d.answered is in let y = d.cells q x.0 x.1 in
       subst (λ s. q ≤ last_of (name.bases s).last (new.known s).shown) on (omega (arith, y.0));
   flushes = λ s n on is. absurd (flushed_scan answer n d.answered is);
+  stored = λ s n call is. absurd cc;
   busy = λ s g b on is. absurd (true≢false (sym (subst IsScanAnswer is d.answered)));
   spent = λ s n on is. absurd (true≢false (sym (subst IsScanAnswer is d.answered)));
-  receipts = λ s n is. elim is [ Put_ok batch' call ans ↦ absurd cc | Put_memory batch' call ans ↦ absurd cc | Flushed call ans ↦ absurd cc ];
+  receipts = λ s n is. elim is [ Put_ok batch' call ans ↦ absurd cc | Put_memory batch' call ans ↦ absurd cc | Flushed call ans ↦ absurd call ];
   durable = λ s n batch' call ans. absurd cc;
   fault = λ f. absurd (no_fault answer d.answered f);
   faults = λ f. absurd (fault_scan answer d.answered f);
@@ -301,20 +305,21 @@ kept_scan name time view r from to h c answer old new same d = record {
     no_fault (PutFault n) a f = true≢false (sym a)
     no_fault _ a f = f
 
-kept_flush : (name : Naming) (time r h c : ℕ) (answer : Answer) (old new : Pass) → h ≡ new.handler
-    → Flushes name r (record { handler = h; call = c }) answer old new → Kept name time (reply_of h c (Flush r) answer) new
-kept_flush name time r h c answer old new same d = record {
+kept_flush : (name : Naming) (time r : ℕ) (family : Option (List ℕ)) (h c : ℕ) (answer : Answer) (old new : Pass) → h ≡ new.handler
+    → Flushes name r family (record { handler = h; call = c }) answer old new → Kept name time (reply_of h c (Flush r family) answer) new
+kept_flush name time r family h c answer old new same d = record {
   handler = same;
   scans = λ view s q from' to' cells is a. absurd cc;
   puts = λ s n on is. absurd (none n is);
   places = λ s q on is. absurd (place_flush answer q d.answered is);
-  flushes = λ s n on is. subst (λ s. ((name.bases s).last ≤ n) × (n ≤ (new.known s).stored)) on (omega (arith, d.above n is), d.stored n is);
+  flushes = λ s n on is. subst (λ s. ((name.bases s).last ≤ n) × (n ≤ (new.known s).synced)) on (omega (arith, d.above n is), synced answer n d.flushed d.nothing is);
+  stored = λ s n call is. let on : r ≡ s = cc in let all : family ≡ None = cc in subst (λ s. n ≤ (new.known s).stored) on (d.stored n all is);
   busy = λ s g b on is. subst (λ s. (g ≢ h) × Contains (name.flushes s) (record { handler = g; call = b })) on (d.busy g b is);
   spent = λ s n on is. absurd (true≢false (sym (subst IsFlushAnswer is d.answered)));
   receipts = λ s n is. elim is [
     | Put_ok batch' call ans ↦ absurd cc
     | Put_memory batch' call ans ↦ absurd cc
-    | Flushed call ans ↦ let on : r ≡ s = cc in inr (subst (λ s. n ≤ (new.known s).stored) on (d.stored n (ap flushed_of ans)))
+    | Flushed on ans ↦ subst (λ s. n ≤ (new.known s).synced) on (synced answer n d.flushed d.nothing (ap flushed_of ans))
   ];
   durable = λ s n batch' call ans. absurd cc;
   fault = λ f. absurd (no_fault answer d.answered f);
@@ -324,6 +329,12 @@ kept_flush name time r h c answer old new same d = record {
   where
     none : (n : ℕ) → number_of answer ≡ Some n → ⊥
     none n is = let no : number_of answer ≡ None = number_flush answer d.answered in absurd cc
+
+    synced : (a : Answer) (n : ℕ) → ((m : ℕ) → a ≡ FlushOk m → IsFlushedTo family m (old.known r) (new.known r)) → ((m : ℕ) → a ≡ FlushNothing m → IsNothingAbove family m (new.known r))
+        → flushed_of a ≡ Some n → n ≤ (new.known r).synced
+    synced (FlushOk m) n ok none is = let same : m ≡ n = cc in omega (arith, same, (ok m refl).synced)
+    synced (FlushNothing m) n ok none is = let same : m ≡ n = cc in omega (arith, same, (none m refl).synced)
+    synced _ n ok none is = absurd cc
 
     no_fault : (a : Answer) → IsFlushAnswer a → IsPutFault a → ⊥
     no_fault (PutFault n) a f = true≢false (sym a)
@@ -337,9 +348,10 @@ kept_roll name time h c answer old new same d = record {
   puts = λ s n on is. absurd on;
   places = λ s q on is. absurd on;
   flushes = λ s n on is. absurd on;
+  stored = λ s n call is. absurd cc;
   busy = λ s g b on is. absurd on;
   spent = λ s n on is. absurd on;
-  receipts = λ s n is. elim is [ Put_ok batch' call ans ↦ absurd cc | Put_memory batch' call ans ↦ absurd cc | Flushed call ans ↦ absurd cc ];
+  receipts = λ s n is. elim is [ Put_ok batch' call ans ↦ absurd cc | Put_memory batch' call ans ↦ absurd cc | Flushed call ans ↦ absurd call ];
   durable = λ s n batch' call ans. absurd cc;
   fault = λ f. absurd (no_fault answer d.answered f);
   faults = λ f. d.fault (fault_roll answer d.answered f);
@@ -354,7 +366,7 @@ kept_does : (name : Naming) (time h c : ℕ) (call : Call) (answer : Answer) (ol
     → Does name time (record { handler = h; call = c }) call answer old new → Kept name time (reply_of h c call answer) new
 kept_does name time h c (Put r sync batch) answer old new same d = kept_put name time r sync batch h c answer old new same d
 kept_does name time h c (Scan view r from to) answer old new same d = kept_scan name time view r from to h c answer old new same d
-kept_does name time h c (Flush r) answer old new same d = kept_flush name time r h c answer old new same d
+kept_does name time h c (Flush r family) answer old new same d = kept_flush name time r family h c answer old new same d
 kept_does name time h c Roll answer old new same d = kept_roll name time h c answer old new same d
 
 pub step_kept : (name : Naming) (time : ℕ) (old new : Pass) (reply : Reply) → Step name time old reply new → Kept name time reply new
@@ -408,7 +420,7 @@ above_does name time h c (Scan view r from to) answer old new d = record {
   stops = λ b. number_scan answer d.answered;
   roll = λ s call is. absurd cc;
 }
-above_does name time h c (Flush r) answer old new d = record {
+above_does name time h c (Flush r family) answer old new d = record {
   place = λ s q on is. absurd (place_flush answer q d.answered is);
   put = λ s q on is. absurd (true≢false (sym (subst IsFlushAnswer is d.answered)));
   flush = λ s q on is. subst (λ s. last_of (name.bases s).last (old.known s).shown ≤ q) on (d.above q is);

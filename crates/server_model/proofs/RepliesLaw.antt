@@ -1,5 +1,5 @@
 -- What close hands on makes the replies lawful, and keeps receipts, flushes and rolls in each image.
-use Rattle.std.proofs.Common.{◌≡◌, ℕ, zero, suc, ◌<◌, ◌≤◌, ◌⊎◌, Bool, true, false, List, [], ◌∷◌, ◌++◌, Contains, AllPairs, Some, refl, sym, ap, ◌∙◌, subst, arith, inl, inr}
+use Rattle.std.proofs.Common.{◌≡◌, ℕ, zero, suc, ◌<◌, ◌≤◌, ◌⊎◌, Bool, true, false, List, [], ◌∷◌, ◌++◌, Contains, AllPairs, Some, None, refl, sym, ap, ◌∙◌, subst, arith, inl, inr}
 use Rattle.std.proofs.lemmas.List.Elements.{All-from_recursion, All-contains, Contains-append_cases, Contains-append_left, Contains-append_right}
 use Rattle.cell_model.specs.Batch.{Batch}
 use Rattle.cell_model.specs.Order.{VersionKey, Payload}
@@ -9,7 +9,7 @@ use Rattle.log_model.specs.Files.{Files, IsLogFile, IsLastLog}
 use Rattle.log_model.specs.Recovered.{IsRecovered, IsStored}
 use Rattle.region_model.specs.Journal.{Base, Edit, last_of, visible}
 use Rattle.region_model.specs.Calls.{Put, Flush, Roll, PutOk, Reply, viewed}
-use Rattle.region_model.specs.Lawful.{IsOn, flushed_of, IsLawful, KeepsPlaces, StopsAtFault, InOrder}
+use Rattle.region_model.specs.Lawful.{flushed_of, IsLawful, KeepsPlaces, StopsAtFault, InOrder}
 use Rattle.region_model.specs.Crash.{Fits, Receipted}
 use Rattle.disk_images.specs.Crash.{DiskView, IsImageNow}
 use Rattle.cell_model.specs.Lists.{IsPrefix}
@@ -119,7 +119,7 @@ lawful name time r hs x a closed order listed = record {
       let o = kept_of name time hs a reply is in
       let k = o.2.flushes r n on number in
       let least : x.base.last ≡ (name.bases r).last = ap (λ (b : Base). b.last) closed.base in
-      (omega (arith, least, k.0), omega (arith, k.1, closed.stored_seen o.0.pass (has_pass hs o.0 o.1), closed.stored));
+      (omega (arith, least, k.0), omega (arith, k.1, closed.synced_seen o.0.pass (has_pass hs o.0 o.1), closed.synced));
   busy = λ reply h c is on answer.
       let o = kept_of name time hs a reply is in
       let k = o.2.busy r h c on answer in
@@ -146,22 +146,17 @@ survives name time r hs x disk broken a closed s J image =
       i.1,
       (λ n receipt.
           let o = kept_of name time hs a receipt.0 receipt.1 in
-          elim (o.2.receipts r n receipt.2) [
-            | inl synced ↦ omega (arith, synced, closed.synced_seen o.0.pass (has_pass hs o.0 o.1), i.2)
-            | inr stored ↦ omega (arith, stored, closed.stored_seen o.0.pass (has_pass hs o.0 o.1), i.3)
-          ]),
+          omega (arith, o.2.receipts r n receipt.2, closed.synced_seen o.0.pass (has_pass hs o.0 o.1), i.2)),
       i.4,
     )
 
--- What a flush told is stored in each image.
+-- What a flush of all families told is stored in each image.
 pub flush_was_done : (name : Naming) (time r : ℕ) (hs : List Handled) (x : Region) (disk : DiskView) (broken : Bool) → AllRun name time hs → IsClosedRegion name r (passes_of hs) x → Survives disk broken r x
-    → (reply : Reply) (n : ℕ) → Contains (replies_of hs) reply → reply.call ≡ Flush r → flushed_of reply.answer ≡ Some n
+    → (reply : Reply) (n : ℕ) → Contains (replies_of hs) reply → reply.call ≡ Flush r None → flushed_of reply.answer ≡ Some n
     → (J : Files) (v : VersionKey) (p : Payload) → IsImageNow disk J → IsRecovered J r v p → v.number ≤ n → IsStored J r v p
 flush_was_done name time r hs x disk broken a closed s reply n is call number J v p image recovered low =
     let o = kept_of name time hs a reply is in
-    let on : IsOn r reply.call = subst (IsOn r) (sym call) refl in
-    let k = o.2.flushes r n on number in
-    s.stored J v p image recovered (omega (arith, low, k.1, closed.stored_seen o.0.pass (has_pass hs o.0 o.1)))
+    s.stored J v p image recovered (omega (arith, low, o.2.stored r n call number, closed.stored_seen o.0.pass (has_pass hs o.0 o.1)))
 
 -- Behind a roll the log file of the greatest number has none of the entries that were durable before.
 pub roll_was_done : (name : Naming) (time r : ℕ) (hs : List Handled) (x : Region) (disk : DiskView) (broken : Bool) → AllRun name time hs → IsClosedRegion name r (passes_of hs) x → Survives disk broken r x

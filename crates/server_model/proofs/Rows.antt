@@ -275,6 +275,7 @@ closed = record {
   synced_seen = one_pass (λ p. (p.known 1).synced ≤ 3) (omega arith);
   stored_seen = one_pass (λ p. (p.known 1).stored ≤ 0) (omega arith);
   closed_seen = one_pass (λ p. (p.known 1).closed ≤ 0) (omega arith);
+  synced = omega arith;
   stored = omega arith;
   stored_least = omega arith;
   spent = λ p n is. one_pass (λ p. Contains (p.known 1).spent n → n ≤ 4) (λ h. absurd (omega (arith, h.1))) p is;

@@ -8,7 +8,7 @@ use Rattle.log_model.specs.Entry.{Entry}
 use Rattle.log_model.specs.Files.{Files, IsLogFile, IsSound, IsPresent, IsLastLog}
 use Rattle.log_model.specs.Recovered.{IsRecovered, IsStored, IsFlushed, HasFamily, RecoversAlike}
 use Rattle.region_model.specs.Journal.{Base, Edit, Caller, IsJournal, last_of}
-use Rattle.region_model.specs.Calls.{Flush, Reply}
+use Rattle.region_model.specs.Calls.{IsFlushOf, Reply}
 use Rattle.region_model.specs.Crash.{Fits}
 use Rattle.disk_images.specs.Crash.{DiskView, IsImageNow}
 use Rattle.cell_model.specs.Lists.{IsPrefix}
@@ -38,6 +38,7 @@ pub record IsClosedRegion (name : Naming) (r : ℕ) (passes : List Pass) (x : Re
   pub synced_seen : (p : Pass) → Contains passes p → (p.known r).synced ≤ x.synced
   pub stored_seen : (p : Pass) → Contains passes p → (p.known r).stored ≤ x.stored
   pub closed_seen : (p : Pass) → Contains passes p → (p.known r).closed ≤ x.closed
+  pub synced : x.synced ≤ last_in x
   pub stored : x.stored ≤ last_in x
   pub stored_least : x.base.last ≤ x.stored
   pub spent : (p : Pass) (n : ℕ) → Contains passes p → Contains (p.known r).spent n → n ≤ last_in x
@@ -88,4 +89,4 @@ pub record AllRun (name : Naming) (time : ℕ) (hs : List Handled) : Type 0 wher
 -- a call that the name lists as a flush of the region is one of these, and it is that flush
 abbrev pub IsListed : Naming → ℕ → List Reply → Type 0
 IsListed name r replies = (c : Caller) → Contains (name.flushes r) c
-    → (other : Reply) × Contains replies other × (other.handler ≡ c.handler) × (other.number ≡ c.call) × (other.call ≡ Flush r)
+    → (other : Reply) × Contains replies other × (other.handler ≡ c.handler) × (other.number ≡ c.call) × IsFlushOf r other.call

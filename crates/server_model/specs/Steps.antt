@@ -76,30 +76,32 @@ pub record Scans (name : Naming) (view : View) (r : ℕ) (from to : List ℕ) (a
       → (p ≡ last_of (name.bases r).last (new.known r).shown) × (cells ≡ viewed view (visible (name.bases r).content (new.known r).shown p from to))
   pub used : new.calls ≡ old.calls
 
--- a flush that answered its number: it is what is stored now and the last that is durable, and above all that the pass had seen stored
-pub record IsFlushedTo (n : ℕ) (old new : Known) : Type 0 where
-  pub stored : n ≡ new.stored
+-- A flush that answered its number: it is the last that is durable. Where all families were flushed it is what is stored now, and above all
+-- that the pass had seen stored.
+pub record IsFlushedTo (family : Option (List ℕ)) (n : ℕ) (old new : Known) : Type 0 where
   pub synced : n ≡ new.synced
-  pub more : old.stored < n
+  pub stored : family ≡ None → n ≡ new.stored
+  pub more : family ≡ None → old.stored < n
 
--- a flush that found nothing above the number: it is what is stored, and nothing above it is durable
-pub record IsNothingAbove (n : ℕ) (new : Known) : Type 0 where
-  pub stored : n ≡ new.stored
-  pub synced : new.synced ≤ n
+-- A flush that found nothing to flush: its number is the last that is durable. Where all families were asked for it is what is stored.
+pub record IsNothingAbove (family : Option (List ℕ)) (n : ℕ) (new : Known) : Type 0 where
+  pub synced : n ≡ new.synced
+  pub stored : family ≡ None → n ≡ new.stored
 
-pub record Flushes (name : Naming) (r : ℕ) (caller : Caller) (answer : Answer) (old new : Pass) : Type 0 where
+-- a flush of region r, of one family or of all
+pub record Flushes (name : Naming) (r : ℕ) (family : Option (List ℕ)) (caller : Caller) (answer : Answer) (old new : Pass) : Type 0 where
   pub answered : IsFlushAnswer answer
   pub later : IsLater old new
   pub own : IsQuietPass old new
-  -- the number is at or above all that the pass had seen, shown or its own, and the seat has seen it stored
+  -- the number is at or above all that the pass had seen, shown or its own; where all families were flushed the seat has seen it stored
   pub above : (n : ℕ) → flushed_of answer ≡ Some n → last_of (name.bases r).last (old.known r).shown ≤ n
   pub above_own : (n : ℕ) (e : Edit) → flushed_of answer ≡ Some n → Contains (old.known r).own e → e.entry.number ≤ n
-  pub stored : (n : ℕ) → flushed_of answer ≡ Some n → n ≤ (new.known r).stored
+  pub stored : (n : ℕ) → family ≡ None → flushed_of answer ≡ Some n → n ≤ (new.known r).stored
   pub busy : (h c : ℕ) → answer ≡ FlushBusy h c → (h ≢ caller.handler) × Contains (name.flushes r) (record { handler = h; call = c })
   pub fault : answer ≡ FlushFault → new.broken ≡ true
   pub used : new.calls ≡ caller.call
-  pub flushed : (n : ℕ) → answer ≡ FlushOk n → IsFlushedTo n (old.known r) (new.known r)
-  pub nothing : (n : ℕ) → answer ≡ FlushNothing n → IsNothingAbove n (new.known r)
+  pub flushed : (n : ℕ) → answer ≡ FlushOk n → IsFlushedTo family n (old.known r) (new.known r)
+  pub nothing : (n : ℕ) → answer ≡ FlushNothing n → IsNothingAbove family n (new.known r)
 
 pub record Rolls (answer : Answer) (old new : Pass) : Type 0 where
   pub answered : IsRollAnswer answer
@@ -113,7 +115,7 @@ pub record Rolls (answer : Answer) (old new : Pass) : Type 0 where
 abbrev pub Does : Naming → ℕ → Caller → Call → Answer → Pass → Pass → Type 0
 Does name time caller (Put r sync batch) answer old new = Puts name time r sync batch caller answer old new
 Does name time caller (Scan view r from to) answer old new = Scans name view r from to answer old new
-Does name time caller (Flush r) answer old new = Flushes name r caller answer old new
+Does name time caller (Flush r family) answer old new = Flushes name r family caller answer old new
 Does name time caller Roll answer old new = Rolls answer old new
 
 -- One call of a pass's handler, with its answer.

@@ -3,9 +3,9 @@
 use std::marker::Brand;
 
 /// The name of a server, of its regions, of its log and of its versions. Contracts alone see it.
-pub(crate) trait ServerName: region_calls::Naming
-    + region_lock::Naming
-    + log_service::Naming
-    + region_versions::Naming {}
+pub(crate) trait ServerName: region_calls::ServerNaming
+    + region_lock::LockNaming
+    + log_service::ServiceNaming
+    + region_versions::VersionsNaming {}
 
 impl ServerName for Brand {}

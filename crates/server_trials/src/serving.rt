@@ -37,12 +37,12 @@ fn serve<N: ServerName, R: Wait, D: Disk + Drop>(
     requires regions_there { 1 ≤ length N.lasts }
     // The name is the store's.
     requires store { IsStore D.Disk opened }
-    requires name { N.name ≡ name_of (length N.lasts) N.handlers N.Naming-4.base N.flushes }
+    requires name { N.name ≡ name_of (length N.lasts) N.handlers N.region_base N.flushes }
     requires handlers { N.handlers ≡ handlers_of opened }
     requires lasts { N.lasts ≡ lasts_of (bases_of opened) }
     requires rings { (N.ring ≡ ring_of opened) × (N.hand ≡ hand_of opened) }
-    requires regions { (r : ℕ) → 1 ≤ r → r ≤ regions_of opened → AreTablesOf N.desk N.spent N.book N.Naming-4.base opened r }
-    requires begun { (N.Naming-3.base ≡ (D.view (disk_begun opened)).files) × (N.start ≡ (D.view (disk_now opened)).clock)
+    requires regions { (r : ℕ) → 1 ≤ r → r ≤ regions_of opened → AreTablesOf N.desk N.spent N.book N.region_base opened r }
+    requires begun { (N.begun ≡ (D.view (disk_begun opened)).files) × (N.start ≡ (D.view (disk_now opened)).clock)
         × (N.faults ≡ D.faults (disk_now opened)) }
     requires past { (t : ℕ) (J : Files) → t ≤ N.start
         → ((D.view (disk_now opened)).image t J → N.past t J) × (N.past t J → (D.view (disk_now opened)).image t J) }

@@ -13,9 +13,28 @@ use Rattle.disk_fakes.specs.contracts.table.FileTable as tables
 use Rattle.disk_fakes.specs.contracts.watch_disk.WatchDisk as watch
 use Rattle.log_berth.proofs.seats.LogSeat.TheSendSync as berth_seat
 use Rattle.log_service.specs.contracts.seats.LogSeat as seats
+use Rattle.log_service.proofs.Crossing.{item_send}
+use Rattle.log_service.specs.contracts.item.Item as items
+use Rattle.append_ring.specs.contracts.pass.RingPass as passes
+use Rattle.atomic_table.proofs.shared.Seat.TheSendSync as table_seat
+use Rattle.service_trials.specs.contracts.member.Member as members
 
 pub log_seat_send : IsSend seats.the_row
 log_seat_send = search (berth_seat.the_send, sendable, crosses) fits 5000 depth 30
+
+-- as a field of a struct
+pass_send : IsSend (passes.the_field items.the_row).row
+pass_send = search (table_seat.the_send, item_send, sendable, crosses) fits 5000 depth 30
+
+pub member_send : IsSend members.the_row
+member_send =
+    declared_send members.the_type (
+      as_row_send (passes.the_field items.the_row) pass_send,
+      (
+        search (log_seat_send, sendable, crosses) fits 5000 depth 30,
+        (search (as_row_send, sendable, crosses) fits 5000 depth 30, (search (as_row_send, sendable, crosses) fits 5000 depth 30, (search (as_row_send, sendable, crosses) fits 5000 depth 30, tt))),
+      ),
+    )
 
 op_send : IsSend ops.the_row
 op_send = search (sendable, crosses) fits 5000 depth 30

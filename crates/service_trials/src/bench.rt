@@ -14,7 +14,7 @@ use crate::trial::{Trial, run_trial};
 use disk_fakes::{Fail, MemDisk};
 use log_device::Device;
 use log_ledger::RegionBase;
-use log_service::{LogSeat, LogSeats, LogService, Naming, Rings, ServiceParts};
+use log_service::{LogSeat, LogSeats, LogService, Rings, ServiceNaming, ServiceParts};
 use std::alloc::Global;
 use std::marker::Brand;
 use std::snapshot::Snapshot;
@@ -41,7 +41,7 @@ pub(crate) struct Ended {
 }
 
 /// The seat of a service.
-fn one_seat<N: Naming>(
+fn one_seat<N: ServiceNaming>(
     service: &LogService<TestDisk, N>,
     mut seats: LogSeats,
 ) -> (LogSeats, LogSeat)
@@ -58,7 +58,7 @@ fn one_seat<N: Naming>(
 }
 
 /// Starts a service over a device, has a trial run on it, and closes it.
-fn over<N: Naming, R: Wait>(
+fn over<N: ServiceNaming, R: Wait>(
     rt: &R,
     alloc: Global,
     rings: Rings,
@@ -72,7 +72,7 @@ fn over<N: Naming, R: Wait>(
     requires loads { (rings.loads.ring.capacity ≡ 2)
         × AreParts N.hand N.lasts rings.loads.ring.id rings.loads.consumer.pass.table_id (view rings.loads.consumer.pass) rings.loads.passes }
     requires device { IsFresh N.lasts device }
-    requires whole { ∥ ((h : History) × BeginsAs N.base N.lasts device (view_of (disk_of device)) h) ∥₁ }
+    requires whole { ∥ ((h : History) × BeginsAs N.begun N.lasts device (view_of (disk_of device)) h) ∥₁ }
     requires start { N.start ≡ (view_of (disk_of device)).clock }
     requires past { (t : ℕ) (J : Files) → t ≤ N.start
         → ((view_of (disk_of device)).image t J → N.past t J) × (N.past t J → (view_of (disk_of device)).image t J) }

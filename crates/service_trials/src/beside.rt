@@ -14,14 +14,14 @@ use crate::rolls::roll_beside;
 use crate::waits::wait_beside;
 use crate::watch::{Watch, commit_watched};
 use append_ring::RingPass;
-use log_service::{ConsumerTurn, Item, LogSeat, LogService, Naming, SyncTurn};
+use log_service::{ConsumerTurn, Item, LogSeat, LogService, ServiceNaming, SyncTurn};
 use std::alloc::Global;
 use std::process::Abort;
 use std::sync::Wait;
 use std::thread::{Threads, join_mut};
 
 /// Pushes the edit of this number with its wish, and moves both in one turn. None where it couldn't.
-pub(crate) fn put_and_move<N: Naming, R: Wait>(
+pub(crate) fn put_and_move<N: ServiceNaming, R: Wait>(
     rt: &R,
     alloc: Global,
     service: &LogService<HeldDisk, N>,
@@ -47,7 +47,7 @@ pub(crate) fn put_and_move<N: Naming, R: Wait>(
 }
 
 /// Runs a trial beside the other thread's commit, and lets that go on.
-fn run_beside<N: Naming + Send + Sync, R: Wait + Threads + Sync + Abort>(
+fn run_beside<N: ServiceNaming + Send + Sync, R: Wait + Threads + Sync + Abort>(
     rt: &R,
     alloc: Global,
     service: &LogService<HeldDisk, N>,
@@ -75,7 +75,7 @@ fn run_beside<N: Naming + Send + Sync, R: Wait + Threads + Sync + Abort>(
 }
 
 /// Runs a trial while another thread is held back in the commit of the first edit.
-pub(crate) fn while_held<N: Naming + Send + Sync, R: Wait + Threads + Sync + Abort>(
+pub(crate) fn while_held<N: ServiceNaming + Send + Sync, R: Wait + Threads + Sync + Abort>(
     rt: &R,
     alloc: Global,
     service: &LogService<HeldDisk, N>,

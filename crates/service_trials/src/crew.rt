@@ -11,7 +11,7 @@ use crate::bench::TestDisk;
 use crate::entries::{SMALL, truck};
 use crate::member::Member;
 use append_ring::RingPass;
-use log_service::{Helped, Item, LogSeat, LogService, Naming, Waited};
+use log_service::{Helped, Item, LogSeat, LogService, ServiceNaming, Waited};
 use std::alloc::Global;
 use std::sync::Wait;
 use std::thread::{self, Threads, for_each_mut};
@@ -28,7 +28,7 @@ const SINGLE_PUTS: u64 = 500;
 const BURST: u64 = 250;
 
 /// Helps the log once. Where another thread does it, it sleeps until a turn of the device has ended.
-fn help<N: Naming, R: Wait>(rt: &R, service: &LogService<TestDisk, N>, seat: &mut LogSeat)
+fn help<N: ServiceNaming, R: Wait>(rt: &R, service: &LogService<TestDisk, N>, seat: &mut LogSeat)
     requires { IsSeatOf service.now seat.old }
     ensures { IsSeatOf service.now seat.new }
 {
@@ -41,7 +41,7 @@ fn help<N: Naming, R: Wait>(rt: &R, service: &LogService<TestDisk, N>, seat: &mu
 }
 
 /// Pushes an item. Where the ring is full it helps the log and tries again, and adds one to `full`. False where the log is broken.
-fn push<N: Naming, R: Wait>(
+fn push<N: ServiceNaming, R: Wait>(
     rt: &R,
     service: &LogService<TestDisk, N>,
     pass: &mut RingPass<Item>,
@@ -75,7 +75,7 @@ fn push<N: Naming, R: Wait>(
 }
 
 /// Pushes the next edit of a member, which is that of this number. Whether it was pushed.
-fn put<N: Naming, R: Wait>(
+fn put<N: ServiceNaming, R: Wait>(
     rt: &R,
     alloc: Global,
     service: &LogService<TestDisk, N>,
@@ -105,7 +105,7 @@ fn put<N: Naming, R: Wait>(
 }
 
 /// Asks that the edits that a member pushed be durable, and waits for it. Whether they are.
-fn settle<N: Naming, R: Wait>(
+fn settle<N: ServiceNaming, R: Wait>(
     rt: &R,
     service: &LogService<TestDisk, N>,
     member: &mut Member,
@@ -138,7 +138,7 @@ fn waits_behind(number: u64) -> bool {
 }
 
 /// Puts a member's next edits up to a number, and waits for them. It ends early where the log is broken or memory is refused.
-fn put_up_to<N: Naming, R: Wait>(
+fn put_up_to<N: ServiceNaming, R: Wait>(
     rt: &R,
     alloc: Global,
     service: &LogService<TestDisk, N>,
@@ -160,7 +160,7 @@ fn put_up_to<N: Naming, R: Wait>(
 }
 
 /// Has each member put up to a number, in a thread of its own.
-pub(crate) fn put_each<N: Naming + Send + Sync, R: Wait + Threads + Sync>(
+pub(crate) fn put_each<N: ServiceNaming + Send + Sync, R: Wait + Threads + Sync>(
     rt: &R,
     alloc: Global,
     service: &LogService<TestDisk, N>,

@@ -6,7 +6,7 @@ ghost use Rattle.service_trials.specs.Crew.{AreIn, AreOut, IsOf};
 use crate::bench::TestDisk;
 use crate::member::Member;
 use append_ring::RingPasses;
-use log_service::{Item, LogSeats, LogService, Naming};
+use log_service::{Item, LogSeats, LogService, ServiceNaming};
 use std::sync::Wait;
 
 /// These are the same. Where they aren't, which no run shows, it does not return, and its test runs out of time.
@@ -20,7 +20,7 @@ fn sure_same<R: Wait>(rt: &R, one: u32, other: u32)
 }
 
 /// Gives each of sixteen members, for whom there is room, its pass and its seat.
-pub(crate) fn hand_out<N: Naming>(
+pub(crate) fn hand_out<N: ServiceNaming>(
     service: &LogService<TestDisk, N>,
     passes: &mut RingPasses<Item>,
     seats: &mut LogSeats,
@@ -59,7 +59,7 @@ pub(crate) struct Told {
 }
 
 /// Takes back what a member has, which is of the region behind this one. What it told.
-fn one_back<N: Naming, R: Wait>(
+fn one_back<N: ServiceNaming, R: Wait>(
     rt: &R,
     service: &LogService<TestDisk, N>,
     member: Member,
@@ -87,7 +87,7 @@ fn one_back<N: Naming, R: Wait>(
 }
 
 /// Takes all back, in the order of the regions. What they told, summed up.
-pub(crate) fn take_back<N: Naming, R: Wait>(
+pub(crate) fn take_back<N: ServiceNaming, R: Wait>(
     rt: &R,
     service: &LogService<TestDisk, N>,
     crew: Vec<Member>,

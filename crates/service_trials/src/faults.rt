@@ -12,13 +12,13 @@ use crate::puts::{ask, put};
 use crate::trial::Trial;
 use append_ring::RingPass;
 use disk_fakes::{CallKind, Fail};
-use log_service::{Item, LogSeat, LogService, Naming, Waited};
+use log_service::{Item, LogSeat, LogService, ServiceNaming, Waited};
 use std::alloc::Global;
 use std::sync::Wait;
 use std::test::{Fail as TestFail, *};
 
 /// Three puts of which two are waited for, with a roll and a flush behind them. The last number that a wait called durable.
-pub(crate) fn small_script<N: Naming, R: Wait>(
+pub(crate) fn small_script<N: ServiceNaming, R: Wait>(
     rt: &R,
     alloc: Global,
     service: &LogService<TestDisk, N>,
@@ -40,7 +40,7 @@ pub(crate) fn small_script<N: Naming, R: Wait>(
     ask(rt, service, pass, 2)?;
     let second = service.wait_synced(rt, seat, 1, 2);
     put(rt, alloc, service, pass, 3, SMALL)?;
-    let _flushed = service.flush(rt, alloc, seat, 1, 3);
+    let _flushed = service.flush(rt, alloc, seat, 1, 3, None);
     match (first, second) {
         (Waited::Synced, Waited::Synced) => Some(2),
         (Waited::Synced, Waited::Broken) => Some(1),

@@ -11,13 +11,13 @@ use crate::puts::put;
 use crate::trial::Trial;
 use append_ring::RingPass;
 use disk_fakes::CallKind;
-use log_service::{Item, LogSeat, LogService, Naming};
+use log_service::{Item, LogSeat, LogService, ServiceNaming};
 use std::alloc::Global;
 use std::sync::Wait;
 use std::test::*;
 
 /// Five edits of one size are pushed, and one flush moves, commits and flushes them.
-pub(crate) fn five_edits<N: Naming, R: Wait>(
+pub(crate) fn five_edits<N: ServiceNaming, R: Wait>(
     rt: &R,
     alloc: Global,
     service: &LogService<TestDisk, N>,
@@ -37,7 +37,7 @@ pub(crate) fn five_edits<N: Naming, R: Wait>(
     put(rt, alloc, service, pass, 3, size)?;
     put(rt, alloc, service, pass, 4, size)?;
     put(rt, alloc, service, pass, 5, size)?;
-    service.flush(rt, alloc, seat, 1, 5).ok()
+    service.flush(rt, alloc, seat, 1, 5, None).ok()
 }
 
 #[test]

@@ -16,7 +16,7 @@ use crate::beside::while_held;
 use crate::watch::Watch;
 use disk_fakes::{MemDisk, WatchDisk};
 use log_device::Device;
-use log_service::{LogSeat, LogSeats, LogService, Naming, Rings, ServiceParts};
+use log_service::{LogSeat, LogSeats, LogService, Rings, ServiceNaming, ServiceParts};
 use std::alloc::Global;
 use std::marker::Brand;
 use std::process::Abort;
@@ -47,7 +47,7 @@ pub(crate) struct HeldEnd {
 }
 
 /// The two seats of a service.
-fn two_seats<N: Naming>(
+fn two_seats<N: ServiceNaming>(
     service: &LogService<HeldDisk, N>,
     mut seats: LogSeats,
 ) -> (LogSeats, LogSeat, LogSeat)
@@ -68,7 +68,7 @@ fn two_seats<N: Naming>(
 }
 
 /// Starts a service over a device, has a trial run on it, and closes it.
-fn over_held<N: Naming + Send + Sync, R: Wait + Threads + Sync + Abort>(
+fn over_held<N: ServiceNaming + Send + Sync, R: Wait + Threads + Sync + Abort>(
     rt: &R,
     alloc: Global,
     rings: Rings,
@@ -83,7 +83,7 @@ fn over_held<N: Naming + Send + Sync, R: Wait + Threads + Sync + Abort>(
     requires loads { (rings.loads.ring.capacity ≡ 2)
         × AreParts N.hand N.lasts rings.loads.ring.id rings.loads.consumer.pass.table_id (view rings.loads.consumer.pass) rings.loads.passes }
     requires device { IsFresh N.lasts device }
-    requires whole { ∥ ((h : History) × BeginsAs N.base N.lasts device (view_of (watched (disk_of device))) h) ∥₁ }
+    requires whole { ∥ ((h : History) × BeginsAs N.begun N.lasts device (view_of (watched (disk_of device))) h) ∥₁ }
     requires start { N.start ≡ (view_of (watched (disk_of device))).clock }
     requires past { (t : ℕ) (J : Files) → t ≤ N.start
         → ((view_of (watched (disk_of device))).image t J → N.past t J) × (N.past t J → (view_of (watched (disk_of device))).image t J) }

@@ -1,6 +1,6 @@
 //! Trials of the log service on a disk in memory that tells what it holds: what one commit costs, moves beside another thread's commit, a roll
-//! behind loads, a flush whose stage fills, and a fault of each disk call with what a crash leaves then. A library of tests alone, at the top,
-//! so that no crate waits for it.
+//! behind loads, a flush whose stage fills, flushes of one family, and a fault of each disk call with what a crash leaves then. A library of
+//! tests alone, at the top, so that no crate waits for it.
 #![tactic(auto)]
 
 #[cfg(test)]
@@ -13,6 +13,8 @@ mod crew;
 mod crowd;
 #[cfg(test)]
 mod entries;
+#[cfg(test)]
+mod families;
 #[cfg(test)]
 mod faults;
 #[cfg(test)]

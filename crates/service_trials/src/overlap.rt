@@ -11,13 +11,13 @@ use crate::image::has_numbers;
 use crate::puts::put;
 use crate::watch::Watch;
 use append_ring::RingPass;
-use log_service::{ConsumerTurn, Item, LogSeat, LogService, Naming};
+use log_service::{ConsumerTurn, Item, LogSeat, LogService, ServiceNaming};
 use std::alloc::Global;
 use std::sync::Wait;
 use std::test::*;
 
 /// Pushes the second edit, and moves it once the other thread is in its sync. How many items it moved while that thread was held back there.
-pub(crate) fn move_beside<N: Naming, R: Wait>(
+pub(crate) fn move_beside<N: ServiceNaming, R: Wait>(
     rt: &R,
     alloc: Global,
     service: &LogService<HeldDisk, N>,

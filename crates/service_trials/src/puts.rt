@@ -7,12 +7,12 @@ ghost use Rattle.log_service.specs.Items.{number_of};
 use crate::entries::{SMALL, Size, truck};
 use append_ring::RingPass;
 use disk_images::Disk;
-use log_service::{Item, LogService, Naming};
+use log_service::{Item, LogService, ServiceNaming};
 use std::alloc::Global;
 use std::sync::Wait;
 
 /// Pushes the next edit of the pass's region.
-pub(crate) fn put<D: Disk, N: Naming, R: Wait>(
+pub(crate) fn put<D: Disk, N: ServiceNaming, R: Wait>(
     rt: &R,
     alloc: Global,
     service: &LogService<D, N>,
@@ -37,7 +37,7 @@ pub(crate) fn put<D: Disk, N: Naming, R: Wait>(
 }
 
 /// Pushes the wish that the edits up to a number be durable.
-pub(crate) fn ask<D: Disk, N: Naming, R: Wait>(
+pub(crate) fn ask<D: Disk, N: ServiceNaming, R: Wait>(
     rt: &R,
     service: &LogService<D, N>,
     pass: &mut RingPass<Item>,
@@ -56,7 +56,7 @@ pub(crate) fn ask<D: Disk, N: Naming, R: Wait>(
 }
 
 /// Pushes the edits behind this number, up to another.
-pub(crate) fn put_all<D: Disk, N: Naming, R: Wait>(
+pub(crate) fn put_all<D: Disk, N: ServiceNaming, R: Wait>(
     rt: &R,
     alloc: Global,
     service: &LogService<D, N>,
@@ -78,7 +78,7 @@ pub(crate) fn put_all<D: Disk, N: Naming, R: Wait>(
 }
 
 /// Pushes wishes until the ring is full.
-pub(crate) fn fill<D: Disk, N: Naming, R: Wait>(
+pub(crate) fn fill<D: Disk, N: ServiceNaming, R: Wait>(
     rt: &R,
     service: &LogService<D, N>,
     pass: &mut RingPass<Item>,

@@ -11,7 +11,7 @@ use crate::image::has_numbers;
 use crate::puts::{put, put_all};
 use crate::watch::Watch;
 use append_ring::RingPass;
-use log_service::{Item, LogSeat, LogService, Naming};
+use log_service::{Item, LogSeat, LogService, ServiceNaming};
 use std::alloc::Global;
 use std::sync::Wait;
 use std::test::*;
@@ -26,7 +26,7 @@ const LAST: u64 = 1_031;
 const LOOKS: u64 = 20_000;
 
 /// Rolls. How many entries the closed log has.
-fn roll_once<N: Naming, R: Wait>(
+fn roll_once<N: ServiceNaming, R: Wait>(
     rt: &R,
     alloc: Global,
     service: &LogService<HeldDisk, N>,
@@ -42,7 +42,7 @@ fn roll_once<N: Naming, R: Wait>(
 }
 
 /// Pushes an edit once the ring has room.
-fn put_behind<N: Naming, R: Wait>(
+fn put_behind<N: ServiceNaming, R: Wait>(
     rt: &R,
     alloc: Global,
     service: &LogService<HeldDisk, N>,
@@ -66,7 +66,7 @@ fn put_behind<N: Naming, R: Wait>(
 }
 
 /// Pushes the last edits, each once the ring has room.
-fn put_last<N: Naming, R: Wait>(
+fn put_last<N: ServiceNaming, R: Wait>(
     rt: &R,
     alloc: Global,
     service: &LogService<HeldDisk, N>,
@@ -84,7 +84,7 @@ fn put_last<N: Naming, R: Wait>(
 }
 
 /// Once the other thread is in its sync: fills the ring, lets that thread go on, and rolls while a third one pushes six edits more.
-pub(crate) fn roll_full<N: Naming + Send + Sync, R: Wait + Threads + Sync>(
+pub(crate) fn roll_full<N: ServiceNaming + Send + Sync, R: Wait + Threads + Sync>(
     rt: &R,
     alloc: Global,
     service: &LogService<HeldDisk, N>,

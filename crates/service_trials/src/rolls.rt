@@ -12,14 +12,14 @@ use crate::image::has_numbers;
 use crate::puts::put;
 use crate::watch::Watch;
 use append_ring::RingPass;
-use log_service::{ConsumerTurn, Item, LogSeat, LogService, Naming, SyncTurn};
+use log_service::{ConsumerTurn, Item, LogSeat, LogService, ServiceNaming, SyncTurn};
 use std::alloc::Global;
 use std::sync::Wait;
 use std::test::*;
 
 /// Pushes four edits while another thread's commit is held back: two that are moved with their wish, each before a sync turn that finds
 /// the device busy, one that is moved only, and one that is not moved. None where it couldn't.
-fn leave_four<N: Naming, R: Wait>(
+fn leave_four<N: ServiceNaming, R: Wait>(
     rt: &R,
     alloc: Global,
     service: &LogService<HeldDisk, N>,
@@ -47,7 +47,7 @@ fn leave_four<N: Naming, R: Wait>(
 }
 
 /// Once the other thread is in its sync: leaves four edits, lets that thread go on, and rolls. How many entries the closed log has.
-pub(crate) fn roll_beside<N: Naming, R: Wait>(
+pub(crate) fn roll_beside<N: ServiceNaming, R: Wait>(
     rt: &R,
     alloc: Global,
     service: &LogService<HeldDisk, N>,

@@ -17,7 +17,7 @@ use disk_fakes::MemDisk;
 use disk_images::{Name, NameKind};
 use log_device::Device;
 use log_ledger::RegionBase;
-use log_service::{LogService, Naming, Rings, ServiceParts};
+use log_service::{LogService, Rings, ServiceNaming, ServiceParts};
 use std::alloc::Global;
 use std::marker::Brand;
 use std::snapshot::Snapshot;
@@ -45,7 +45,7 @@ fn least(numbers: &[u64]) -> u64 {
 }
 
 /// Starts a service over a device, has the threads put, and closes it.
-fn over_sixteen<N: Naming + Send + Sync, R: Wait + Threads + Sync>(
+fn over_sixteen<N: ServiceNaming + Send + Sync, R: Wait + Threads + Sync>(
     rt: &R,
     alloc: Global,
     rings: Rings,
@@ -59,7 +59,7 @@ fn over_sixteen<N: Naming + Send + Sync, R: Wait + Threads + Sync>(
     requires loads { (rings.loads.ring.capacity ≡ 2)
         × AreParts N.hand N.lasts rings.loads.ring.id rings.loads.consumer.pass.table_id (view rings.loads.consumer.pass) rings.loads.passes }
     requires device { IsFresh N.lasts device }
-    requires whole { ∥ ((h : History) × BeginsAs N.base N.lasts device (view_of (disk_of device)) h) ∥₁ }
+    requires whole { ∥ ((h : History) × BeginsAs N.begun N.lasts device (view_of (disk_of device)) h) ∥₁ }
     requires start { N.start ≡ (view_of (disk_of device)).clock }
     requires past { (t : ℕ) (J : Files) → t ≤ N.start
         → ((view_of (disk_of device)).image t J → N.past t J) × (N.past t J → (view_of (disk_of device)).image t J) }

@@ -7,11 +7,12 @@ ghost use Rattle.log_service.specs.Places.{IsSeatOf};
 
 use crate::bench::TestDisk;
 use crate::entries::{LARGE, SMALL};
+use crate::families::flush_families;
 use crate::faults::small_script;
 use crate::filling::five_edits;
 use crate::turns::two_puts;
 use append_ring::RingPass;
-use log_service::{Item, LogSeat, LogService, Naming};
+use log_service::{Item, LogSeat, LogService, ServiceNaming};
 use std::alloc::Global;
 use std::sync::Wait;
 
@@ -22,10 +23,11 @@ pub(crate) enum Trial {
     Script,
     SmallEdits,
     LargeEdits,
+    Families,
 }
 
 /// Runs a trial. None where an answer was another than the trial expects.
-pub(crate) fn run_trial<N: Naming, R: Wait>(
+pub(crate) fn run_trial<N: ServiceNaming, R: Wait>(
     rt: &R,
     alloc: Global,
     service: &LogService<TestDisk, N>,
@@ -46,5 +48,6 @@ pub(crate) fn run_trial<N: Naming, R: Wait>(
         Trial::Script => small_script(rt, alloc, service, pass, seat),
         Trial::SmallEdits => five_edits(rt, alloc, service, pass, seat, SMALL),
         Trial::LargeEdits => five_edits(rt, alloc, service, pass, seat, LARGE),
+        Trial::Families => flush_families(rt, alloc, service, pass, seat),
     }
 }

@@ -11,13 +11,13 @@ use crate::puts::{ask, put};
 use crate::trial::Trial;
 use append_ring::RingPass;
 use disk_fakes::CallKind;
-use log_service::{ConsumerTurn, Item, LogSeat, LogService, Naming, SyncTurn, Waited};
+use log_service::{ConsumerTurn, Item, LogSeat, LogService, ServiceNaming, SyncTurn, Waited};
 use std::alloc::Global;
 use std::sync::Wait;
 use std::test::*;
 
 /// Two puts are moved and committed together.
-pub(crate) fn two_puts<N: Naming, R: Wait>(
+pub(crate) fn two_puts<N: ServiceNaming, R: Wait>(
     rt: &R,
     alloc: Global,
     service: &LogService<TestDisk, N>,

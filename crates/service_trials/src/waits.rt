@@ -7,7 +7,7 @@ use crate::held::{HeldDisk, HeldTrial, run_held};
 use crate::puts::{ask, fill};
 use crate::watch::Watch;
 use append_ring::RingPass;
-use log_service::{Item, LogSeat, LogService, Naming, Waited};
+use log_service::{Item, LogSeat, LogService, ServiceNaming, Waited};
 use std::process::Abort;
 use std::sync::Wait;
 use std::test::*;
@@ -17,7 +17,7 @@ use std::thread::{Threads, join_mut};
 const LOOKS: u64 = 2_000;
 
 /// Pushes a wish once the full ring has room: then who waits for the log has moved items, since it found the device's turn taken.
-fn push_behind<N: Naming, R: Wait>(
+fn push_behind<N: ServiceNaming, R: Wait>(
     rt: &R,
     service: &LogService<HeldDisk, N>,
     pass: &mut RingPass<Item>,
@@ -35,7 +35,7 @@ fn push_behind<N: Naming, R: Wait>(
 }
 
 /// Waits for the first edit, and tells that it was answered.
-fn wait_first<N: Naming, R: Wait>(
+fn wait_first<N: ServiceNaming, R: Wait>(
     rt: &R,
     service: &LogService<HeldDisk, N>,
     seat: &mut LogSeat,
@@ -52,7 +52,7 @@ fn wait_first<N: Naming, R: Wait>(
 
 /// Lets the commit go on once the other thread waits for it. That thread has to be answered: else the test ends here, since nobody could wake
 /// it any more.
-fn let_go<N: Naming, R: Wait + Abort>(
+fn let_go<N: ServiceNaming, R: Wait + Abort>(
     rt: &R,
     service: &LogService<HeldDisk, N>,
     pass: &mut RingPass<Item>,
@@ -68,7 +68,7 @@ fn let_go<N: Naming, R: Wait + Abort>(
 }
 
 /// Once the other thread is in its sync: fills the ring, and waits for that commit while a third thread lets it go on.
-pub(crate) fn wait_beside<N: Naming + Send + Sync, R: Wait + Threads + Sync + Abort>(
+pub(crate) fn wait_beside<N: ServiceNaming + Send + Sync, R: Wait + Threads + Sync + Abort>(
     rt: &R,
     service: &LogService<HeldDisk, N>,
     pass: &mut RingPass<Item>,

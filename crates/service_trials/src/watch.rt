@@ -3,7 +3,7 @@
 ghost use Rattle.log_service.specs.Places.{IsSeatOf};
 
 use crate::held::HeldDisk;
-use log_service::{LogSeat, LogService, Naming, SyncTurn};
+use log_service::{LogSeat, LogService, ServiceNaming, SyncTurn};
 use std::sync::atomic::{AtomicU64, Ordering};
 use std::sync::{Arc, Wait};
 use std::thread;
@@ -100,7 +100,7 @@ impl Watch {
 }
 
 /// Takes a sync turn, and tells when it is back from it.
-pub(crate) fn commit_watched<N: Naming, R: Wait>(
+pub(crate) fn commit_watched<N: ServiceNaming, R: Wait>(
     rt: &R,
     service: &LogService<HeldDisk, N>,
     seat: &mut LogSeat,

@@ -11,8 +11,8 @@ use Rattle.log_tail.specs.Reads.{OnlyReads, IsDamagedAt, IsNoPosition}
 use Rattle.ship_queue.specs.Messages.{Message, Record_of, MayBeRecorded}
 use Rattle.ship_queue.specs.Sent.{HasSent, HasStopped}
 use Rattle.ship_queue.specs.Course.{counted, IsText, HasReadOn, IsAtEnd, LeadsTo}
-use Rattle.ship_queue.specs.Shipping.{ShipsBeginning, ShipsAll, IsPartShip, AreTexts}
-use Rattle.ship_queue.proofs.Records.{sent_is_ship, end_is_ship, end_is_whole, cut_is_part, end_is_part}
+use Rattle.ship_queue.specs.Shipping.{ShipsBeginning, ShipsUpTo, ShipsAll, IsPartShip, AreTexts}
+use Rattle.ship_queue.proofs.Records.{sent_is_ship, sent_up_to, end_is_ship, end_up_to, end_is_whole, cut_is_part, end_is_part}
 
 -- ---- reading
 
@@ -60,20 +60,23 @@ counted_on files p q xs n c a is none count =
 
 module _ {P : Type 0} (has : P → List Message → Type 0) (files : Files) (p q : Position) (first now : P) (xs : List Placed) (a : HasReadOn files p q xs) (ms : List Message) (h : has first ms) (m : ℕ) (lt : m < 64) where
   -- where it goes no further
-  pub ships_so_far : HasSent has first now 0 m xs → (more : List Message) × has now (ms ++ more) × ShipsBeginning files p more
-  ships_so_far sent = let s = sent ms h in (s.0, s.1, λ c is. sent_is_ship c p is.order s.0 xs (behind c q) (a.read c is) s.2 m s.3 lt)
+  pub ships_so_far : HasSent has first now 0 m xs → (more : List Message) × has now (ms ++ more) × ShipsBeginning files p more × ShipsUpTo files p more q
+  ships_so_far sent =
+      let s = sent ms h in
+      (s.0, s.1, λ c is. sent_is_ship c p is.order s.0 xs (behind c q) (a.read c is) s.2 m s.3 lt, λ c is. sent_up_to c p is.order s.0 xs (behind c q) (a.read c is) s.2)
 
   pub part_so_far : (c : List Placed) → IsChronicle files c → (ns : List Message) → HasStopped has first now xs → has now ns → IsPartShip c p ms ns
   part_so_far c is ns stopped k = cut_is_part c p is.order ms ns xs (behind c q) (a.read c is) (stopped ms ns h k)
 
   module _ (last : P) (sent : HasSent has first now 0 m xs) where
     pub ships_all : ((ls : List Message) → has now ls → has last (ls ++ Record_of q ∷ [])) → IsAtEnd files q
-        → (more : List Message) × has last (ms ++ more) × ShipsBeginning files p more × ShipsAll files p more q
+        → (more : List Message) × has last (ms ++ more) × ShipsBeginning files p more × ShipsUpTo files p more q × ShipsAll files p more q
     ships_all recorded end =
         let s = sent ms h in (
           s.0 ++ Record_of q ∷ [],
           subst (has last) (append_assoc ms s.0 (Record_of q ∷ [])) (recorded (ms ++ s.0) s.1),
           λ c is. end_is_ship c p is.order s.0 xs q (a.read c is) s.2 m s.3 lt,
+          λ c is. end_up_to c p is.order s.0 xs q (a.read c is) s.2,
           λ c is. end_is_whole c p is.order s.0 xs q (a.read c is) (end.none c is) s.2,
         )
 

@@ -35,6 +35,9 @@ module _ (c : List Placed) (p : Position) (o : IsOrdered c) where
       let split : behind c p ≡ shipped_in ms ++ rest = is ∙ ap (λ (l : List Placed). l ++ rest) (sym s.shipped) in
       record { begins = (rest, split); records = marks_are_records [] None ms rest split (inl refl) s.marks; each = each_so_far 0 m ms each lt }
 
+  pub sent_up_to : (ms : List Message) (xs rest : List Placed) → behind c p ≡ xs ++ rest → AreSent ms xs → behind c p ≡ shipped_in ms ++ rest
+  sent_up_to ms xs rest is s = is ∙ ap (λ (l : List Placed). l ++ rest) (sym s.shipped)
+
   -- one record more, at the end
   record_more : (done : List Placed) (ms : List Message) (q : Position) → AreRecords c p done ms → behind c p ≡ (done ++ shipped_in ms) ++ behind c q → AreRecords c p done (ms ++ Record_of q ∷ [])
   record_more done [] q a is = (is ∙ ap (λ (l : List Placed). l ++ behind c q) (append-nil done), tt)
@@ -44,6 +47,9 @@ module _ (c : List Placed) (p : Position) (o : IsOrdered c) where
 
   shipped_last : (ms : List Message) (q : Position) → shipped_in (ms ++ Record_of q ∷ []) ≡ shipped_in ms
   shipped_last ms q = shipped_append ms (Record_of q ∷ []) ∙ append-nil (shipped_in ms)
+
+  pub end_up_to : (ms : List Message) (xs : List Placed) (q : Position) → behind c p ≡ xs ++ behind c q → AreSent ms xs → behind c p ≡ shipped_in (ms ++ Record_of q ∷ []) ++ behind c q
+  end_up_to ms xs q is s = sent_up_to ms xs (behind c q) is s ∙ ap (λ (l : List Placed). l ++ behind c q) (sym (shipped_last ms q))
 
   pub end_is_ship : (ms : List Message) (xs : List Placed) (q : Position) → behind c p ≡ xs ++ behind c q → AreSent ms xs → (m : ℕ) → RecordsEach 0 ms m → m < 64 → IsShip c p (ms ++ Record_of q ∷ [])
   end_is_ship ms xs q is s m each lt =

@@ -37,6 +37,10 @@ pub record IsWholeShip (c : List Placed) (p : Position) (ms : List Message) (q :
 abbrev pub ShipsBeginning : Files → Position → List Message → Type 0
 ShipsBeginning files p ms = (c : List Placed) → IsChronicle files c → IsShip c p ms
 
+-- exactly what stands between the two positions
+abbrev pub ShipsUpTo : Files → Position → List Message → Position → Type 0
+ShipsUpTo files p ms q = (c : List Placed) → IsChronicle files c → behind c p ≡ shipped_in ms ++ behind c q
+
 abbrev pub ShipsAll : Files → Position → List Message → Position → Type 0
 ShipsAll files p ms q = (c : List Placed) → IsChronicle files c → IsWholeShip c p ms q
 

@@ -5,7 +5,7 @@ ghost use Rattle.std.specs.Prelude.{◌≡◌, [], ◌∷◌, ◌++◌, decimal,
 ghost use Rattle.disk_images.specs.Calls.{HasCause};
 
 use arrayvec::ArrayVec;
-use command_ends::write_all;
+use command_base::write_all;
 use disk_images::{Failed, Sink};
 use itoa::Buffer;
 

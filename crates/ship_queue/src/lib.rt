@@ -1,7 +1,7 @@
 //! Ships a log's entries to a peer, as HBase replicates its logs: `ship_all` reads what stands behind a position and ships it in
 //! order, and the peer records how far it has come. A call that begins at the recorded position ships no entry twice that
 //! stands before it, and leaves none out. Begin at `shipping`. A peer is whatever meets `Peer`: `MemPeer` keeps what it is
-//! shipped in memory, `SinkPeer` prints it. It is for programs that follow a store; no command uses it yet.
+//! shipped in memory, `SinkPeer` prints it, for the command `ship`.
 #![tactic(auto)]
 
 mod cells;

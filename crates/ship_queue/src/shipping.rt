@@ -9,7 +9,7 @@ ghost use Rattle.log_tail.specs.Reads.{IsDamagedAt, IsNoPosition, OnlyReads};
 ghost use Rattle.ship_queue.specs.Messages.{Message};
 ghost use Rattle.ship_queue.specs.Course.{counted, LeadsTo};
 ghost use Rattle.ship_queue.specs.Refusals.{IsOrFailure};
-ghost use Rattle.ship_queue.specs.Shipping.{ShipsBeginning, ShipsAll, IsPartShip, AreTexts, HasReadUpTo};
+ghost use Rattle.ship_queue.specs.Shipping.{ShipsBeginning, ShipsUpTo, ShipsAll, IsPartShip, AreTexts, HasReadUpTo};
 
 use crate::error::{ShipRefusal, Shipped};
 use crate::peer::Peer;
@@ -31,10 +31,11 @@ pub fn ship_all<R: Threads + Wait + Sync, D: Disk + Send, P: Peer>(
     disk: &mut D,
     peer: &mut P,
 ) -> Result<Shipped, ShipRefusal>
-    // Unless the peer fails, it was told a beginning of what stands behind the position, and after each 64 entries, and with Ok
-    // at the end, a record that is true of it.
+    // Unless the peer fails, it was told exactly what stands between the position and the tail's new one, and after each 64
+    // entries, and with Ok at the end, a record that is true of it.
     ensures ships { IsTrue D.told → (ms : List Message) → P.has peer.old ms → result ≢ Err ShipRefusal.PeerFault
         → (more : List Message) × P.has peer.new (ms ++ more) × ShipsBeginning (D.view disk.old).files tail.old more
+        × ShipsUpTo (D.view disk.old).files tail.old more tail.new
         × IfOk result (λ x. ShipsAll (D.view disk.old).files tail.old more (position_of x.position)) }
     // The logs from the position's on are texts, and what they have behind it was counted.
     ensures all { IsTrue D.told → OnOk result (AreTexts (D.view disk.old).files tail.old.file) }

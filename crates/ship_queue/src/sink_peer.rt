@@ -12,11 +12,23 @@ use std::snapshot::Snapshot;
 
 /// Writes to a sink the lines of what it is shipped, and of what it is to record. It takes no memory, and fails only where the
 /// sink does. Once a call has failed it tells nothing more, since a line may be torn.
-#[derive(Drop)]
 pub struct SinkPeer<'a, K: Sink> {
     pub out: &'a mut K,
     failed: bool,
     first: Snapshot<K>,
+}
+
+impl<'a, K: Sink> Drop for SinkPeer<'a, K> {
+    /// Lets the sink go as it stands.
+    fn drop(self)
+        ensures { self.exit.0.now ≡ self.entry.out.now }
+    {
+        let SinkPeer {
+            out: _,
+            failed: _,
+            first: _,
+        } = self;
+    }
 }
 
 impl<'a, K: Sink> SinkPeer<'a, K> {

@@ -3,7 +3,7 @@ use Rattle.std.proofs.Common.{inl, inr, ap, refl, List, ℕ}
 use Rattle.log_model.specs.Entry.{Entry}
 use Rattle.disk_images.specs.Crash.{DiskView}
 use Rattle.script_model.specs.Outputs.{show_text}
-use Rattle.command_ends.specs.Invocation.{invocation}
+use Rattle.command_base.specs.Invocation.{invocation}
 use Rattle.show_command.specs.Shown.{ShowDone}
 use Rattle.show_command.specs.Parts.{HasLogEntries}
 

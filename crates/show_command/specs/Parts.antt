@@ -2,7 +2,7 @@
 use Rattle.std.specs.Prelude.{◌≡◌, ℕ, ◌⊎◌, List, [], Option}
 use Rattle.log_model.specs.Entry.{Entry}
 use Rattle.log_model.specs.Files.{Files, IsAbsent}
-use Rattle.command_ends.specs.LogFiles.{log_name, IsFound}
+use Rattle.command_base.specs.LogFiles.{log_name, IsFound}
 
 -- log 1 has these entries, or isn't there and has none
 abbrev pub HasLogEntries : Files → List Entry → Type 0

@@ -3,10 +3,10 @@ use Rattle.std.specs.Prelude.{◌≡◌, ℕ, ◌⊎◌, List, [], Option}
 use Rattle.log_model.specs.Entry.{Entry}
 use Rattle.log_model.specs.Files.{IsAbsent}
 use Rattle.script_model.specs.Outputs.{show_text}
-use Rattle.command_ends.specs.Invocation.{Invocation}
-use Rattle.command_ends.specs.LogFiles.{log_name, IsFound}
-use Rattle.command_ends.specs.Ends.{Effects, EndsAs, reads}
-use Rattle.command_ends.specs.declared.status.Status.{Status}
+use Rattle.command_base.specs.Invocation.{Invocation}
+use Rattle.command_base.specs.LogFiles.{log_name, IsFound}
+use Rattle.command_base.specs.Ends.{Effects, EndsAs, reads}
+use Rattle.command_base.specs.declared.status.Status.{Status}
 
 -- The content of log 1's entries was printed, or nothing where it isn't there.
 abbrev pub ShowDone : Invocation → List ℕ → Type 0

@@ -3,15 +3,15 @@
 ghost use Rattle.std.specs.Prelude.{◌≡◌, ◌≢◌, ◌≤◌, [], ◌∷◌, ℕ, List, Option, Some, IsTrue, IfOk, IfErr, IsErrOf};
 ghost use Rattle.disk_images.specs.Calls.{Rose, HasCause};
 ghost use Rattle.script_model.specs.Outputs.{show_text, refused_memory};
-ghost use Rattle.command_ends.specs.Invocation.{invocation, IsUnchanged, KeepsImages};
-ghost use Rattle.command_ends.specs.LogFiles.{log_name, IsDamagedLog, IsLogDamage, IsLogRefusal, ReportsDamage};
-ghost use Rattle.command_ends.specs.Prints.{Prints};
-ghost use Rattle.command_ends.specs.Status.{refusal_line, IsDamageOf, IsOrEarlier, IsPrintEnd, IsReadingEnd};
+ghost use Rattle.command_base.specs.Invocation.{invocation, IsUnchanged, KeepsImages};
+ghost use Rattle.command_base.specs.LogFiles.{log_name, IsDamagedLog, IsLogDamage, IsLogRefusal, ReportsDamage};
+ghost use Rattle.command_base.specs.Prints.{Prints};
+ghost use Rattle.command_base.specs.Status.{refusal_line, IsDamageOf, IsOrEarlier, IsPrintEnd, IsReadingEnd};
 ghost use Rattle.show_command.specs.Parts.{HasLogEntries};
 ghost use Rattle.show_command.specs.Shown.{EndsShow};
 
 use crate::text::text_of;
-use command_ends::{Damage, LOG_1, Status, emit, find_log, refuse};
+use command_base::{Damage, LOG_1, Status, emit, find_log, refuse};
 use disk_images::{Disk, Sink};
 use kv_cell::NoMemory;
 use log_file::EntryList;

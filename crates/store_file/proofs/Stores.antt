@@ -7,7 +7,7 @@ use Rattle.disk_images.specs.OneFile.{IsShort, IsDurableFile}
 use Rattle.disk_images.specs.Gate.{IsFronted, IsFilled, ClosedOrOpen}
 use Rattle.disk_images.proofs.Moments.{at_once, more_time}
 use Rattle.disk_images.proofs.Torn.{only_unchanged, only_weaker, then_only}
-use Rattle.recovery.specs.Kept.{IsNotThere}
+use Rattle.recovery_laws.specs.Kept.{IsNotThere}
 use Rattle.store_file.specs.Whole.{IsWholeOrNot}
 
 -- a file whose first byte isn't 165 isn't there

@@ -12,7 +12,7 @@ use Rattle.disk_images.specs.OneFile.{IsDurableFile}
 use Rattle.disk_images.specs.Gate.{IsFilled, IsFronted}
 use Rattle.disk_images.proofs.Moments.{more_time}
 use Rattle.disk_images.proofs.Torn.{then_only}
-use Rattle.recovery.specs.Kept.{IsNotThere}
+use Rattle.recovery_laws.specs.Kept.{IsNotThere}
 use Rattle.store_file.specs.Open.{OpenStore, IsAlike, IsFilling, store_of, fields_text}
 use Rattle.store_file.specs.Whole.{IsWholeOrNot}
 use Rattle.store_file.proofs.Stores.{begun_filled, shut_still, shut_moments, or_whole}
@@ -26,17 +26,17 @@ joined_fields a b s c d e f = simp append_assoc
 
 -- the fields of a store
 abbrev pub fields_of : OpenStore → List ℕ
-fields_of o = fields_text o.name.region o.family o.from o.to o.count
+fields_of o = fields_text o.name.region o.scope o.family o.from o.to o.count
 
 same_fields : (o now : OpenStore) → IsAlike o now → fields_of now ≡ fields_of o
-same_fields o now same = λ i. fields_text (ap (λ (n : Name). n.region) same.name i) (same.family i) (same.from i) (same.to i) (same.count i)
+same_fields o now same = λ i. fields_text (ap (λ (n : Name). n.region) same.name i) (same.scope i) (same.family i) (same.from i) (same.to i) (same.count i)
 
-pub appended_fields : (x0 x1 x2 x3 x4 x5 x6 family : List ℕ) (region from to count : ℕ) → x1 ≡ x0 ++ (72 ∷ 87 ∷ 83 ∷ 50 ∷ []) → x2 ≡ x1 ++ big_bytes 4 region → x3 ≡ x2 ++ (0 ∷ (length family ∷ family)) → x4 ≡ x3 ++ big_bytes 8 from
-    → x5 ≡ x4 ++ big_bytes 8 to → x6 ≡ x5 ++ big_bytes 8 count → x6 ≡ x0 ++ fields_text region family from to count
+pub appended_fields : (x0 x1 x2 x3 x4 x5 x6 family : List ℕ) (region scope from to count : ℕ) → x1 ≡ x0 ++ (72 ∷ 87 ∷ 83 ∷ 50 ∷ []) → x2 ≡ x1 ++ big_bytes 4 region → x3 ≡ x2 ++ (scope ∷ (length family ∷ family)) → x4 ≡ x3 ++ big_bytes 8 from
+    → x5 ≡ x4 ++ big_bytes 8 to → x6 ≡ x5 ++ big_bytes 8 count → x6 ≡ x0 ++ fields_text region scope family from to count
 unfolding fields_text
-appended_fields x0 x1 x2 x3 x4 x5 x6 family region from to count e1 e2 e3 e4 e5 e6 =
-    let all : x6 ≡ (((((x0 ++ (72 ∷ 87 ∷ 83 ∷ 50 ∷ [])) ++ big_bytes 4 region) ++ (0 ∷ (length family ∷ family))) ++ big_bytes 8 from) ++ big_bytes 8 to) ++ big_bytes 8 count = cc in
-    all ∙ joined_left x0 (72 ∷ 87 ∷ 83 ∷ 50 ∷ []) (big_bytes 4 region) (0 ∷ (length family ∷ family)) (big_bytes 8 from) (big_bytes 8 to) (big_bytes 8 count)
+appended_fields x0 x1 x2 x3 x4 x5 x6 family region scope from to count e1 e2 e3 e4 e5 e6 =
+    let all : x6 ≡ (((((x0 ++ (72 ∷ 87 ∷ 83 ∷ 50 ∷ [])) ++ big_bytes 4 region) ++ (scope ∷ (length family ∷ family))) ++ big_bytes 8 from) ++ big_bytes 8 to) ++ big_bytes 8 count = cc in
+    all ∙ joined_left x0 (72 ∷ 87 ∷ 83 ∷ 50 ∷ []) (big_bytes 4 region) (scope ∷ (length family ∷ family)) (big_bytes 8 from) (big_bytes 8 to) (big_bytes 8 count)
 
 pub begun_filling : (o : OpenStore) (w : DiskView) → IsDurableFile w o.name (0 ∷ []) → o.at ≡ 1 → o.bytes ≡ fields_of o → o.filled ≡ 0 → IsFilling o w []
 begun_filling o w file at bytes none = record {
@@ -86,18 +86,18 @@ ShutMoments o v w = (cells : List NumberedCell) → IsFilling o v cells → Thro
 pub write_moments : (o : OpenStore) (v w : DiskView) → ((front text : List ℕ) → IsFilled v o.name front text → o.at ≡ length text → Throughout (OnlyAt o.name (IsFronted front) v) 1 v w) → ShutMoments o v w
 write_moments o v w over cells was = shut_moments o.name 1 v w (over (0 ∷ []) (0 ∷ was.written) was.file was.at)
 
-text_of : (o : OpenStore) (cells : List NumberedCell) → store_text Tagged (store_of o cells) ≡ 165 ∷ (fields_text o.name.region o.family o.from o.to (length cells) ++ pairs_text Tagged cells)
+text_of : (o : OpenStore) (cells : List NumberedCell) → store_text Tagged (store_of o cells) ≡ 165 ∷ (fields_text o.name.region o.scope o.family o.from o.to (length cells) ++ pairs_text Tagged cells)
 unfolding store_text fields_text
 text_of o cells =
-    ap (λ (l : List ℕ). 165 ∷ l) (sym (joined_fields (72 ∷ 87 ∷ 83 ∷ 50 ∷ []) (big_bytes 4 o.name.region) (0 ∷ (length o.family ∷ o.family)) (big_bytes 8 o.from) (big_bytes 8 o.to) (big_bytes 8 (length cells)) (pairs_text Tagged cells)))
+    ap (λ (l : List ℕ). 165 ∷ l) (sym (joined_fields (72 ∷ 87 ∷ 83 ∷ 50 ∷ []) (big_bytes 4 o.name.region) (o.scope ∷ (length o.family ∷ o.family)) (big_bytes 8 o.from) (big_bytes 8 o.to) (big_bytes 8 (length cells)) (pairs_text Tagged cells)))
 
 -- all is written
 whole_text : (o : OpenStore) (v : DiskView) (cells : List NumberedCell) → length cells ≡ o.count → o.bytes ≡ [] → (was : IsFilling o v cells) → 165 ∷ was.written ≡ store_text Tagged (store_of o cells)
 whole_text o v cells count none was =
-    ap (λ (l : List ℕ). 165 ∷ l) (sym (append-nil was.written) ∙ ap (λ (l : List ℕ). was.written ++ l) (sym none) ∙ was.text ∙ ap (λ (n : ℕ). fields_text o.name.region o.family o.from o.to n ++ pairs_text Tagged cells) (sym count)) ∙ sym (text_of o cells)
+    ap (λ (l : List ℕ). 165 ∷ l) (sym (append-nil was.written) ∙ ap (λ (l : List ℕ). was.written ++ l) (sym none) ∙ was.text ∙ ap (λ (n : ℕ). fields_text o.name.region o.scope o.family o.from o.to n ++ pairs_text Tagged cells) (sym count)) ∙ sym (text_of o cells)
 
 pub same_store : (o now : OpenStore) (cells : List NumberedCell) → IsAlike o now → store_of now cells ≡ store_of o cells
-same_store o now cells same = λ i. record { region = ap (λ (n : Name). n.region) same.name i; scope = 0; family = same.family i; from = same.from i; to = same.to i; cells = cells }
+same_store o now cells same = λ i. record { region = ap (λ (n : Name). n.region) same.name i; scope = same.scope i; family = same.family i; from = same.from i; to = same.to i; cells = cells }
 
 module _ (o now : OpenStore) (name : Name) (u v w : DiskView) (same : IsAlike o now) (named : name ≡ o.name) (none : now.bytes ≡ []) where
   pub written_file : (cells : List NumberedCell) → (was : IsFilling now v cells) → IsFilled v name (0 ∷ []) (0 ∷ was.written)

@@ -6,7 +6,7 @@ use Rattle.log_model.specs.declared.name.Name.{Name}
 use Rattle.log_model.specs.StoreText.{store_text}
 use Rattle.disk_images.specs.Crash.{DiskView, Throughout, OnlyAt}
 use Rattle.disk_images.specs.OneFile.{Touches, IsDurableFile}
-use Rattle.recovery.specs.Kept.{IsNotThere}
+use Rattle.recovery_laws.specs.Kept.{IsNotThere}
 use Rattle.store_file.specs.Open.{OpenStore, IsFilling, store_of}
 use Rattle.store_file.specs.Whole.{IsWholeOrNot}
 

@@ -8,10 +8,11 @@ use Rattle.log_model.specs.StoreText.{Store, pairs_text}
 use Rattle.disk_images.specs.Crash.{DiskView}
 use Rattle.disk_images.specs.Gate.{IsFilled}
 
--- its name, the family that it holds alone, if that isn't empty, the sequence ids that it covers, the number of cells that
--- it is to have, how many were put in, how many bytes stand on the disk, and those that wait to be written
+-- its name, its scope, the family that it holds alone, if that isn't empty, the sequence ids that it covers, the number of
+-- cells that it is to have, how many were put in, how many bytes stand on the disk, and those that wait to be written
 pub record OpenStore : Type 0 where
   pub name : Name
+  pub scope : ℕ
   pub family : List ℕ
   pub from : ℕ
   pub to : ℕ
@@ -27,8 +28,9 @@ pub record IsBounded (o : OpenStore) : Type 0 where
   pub counted : o.filled ≤ o.at + length o.bytes
 
 -- one that was begun with this name and these numbers
-pub record IsNew (name : Name) (family : List ℕ) (from to count : ℕ) (o : OpenStore) : Type 0 where
+pub record IsNew (name : Name) (scope : ℕ) (family : List ℕ) (from to count : ℕ) (o : OpenStore) : Type 0 where
   pub name_is : o.name ≡ name
+  pub scope_is : o.scope ≡ scope
   pub family_is : o.family ≡ family
   pub from_is : o.from ≡ from
   pub to_is : o.to ≡ to
@@ -38,25 +40,26 @@ pub record IsNew (name : Name) (family : List ℕ) (from to count : ℕ) (o : Op
 -- the same file, of which as much is to be written
 pub record IsAlike (o now : OpenStore) : Type 0 where
   pub name : now.name ≡ o.name
+  pub scope : now.scope ≡ o.scope
   pub family : now.family ≡ o.family
   pub from : now.from ≡ o.from
   pub to : now.to ≡ o.to
   pub count : now.count ≡ o.count
 
--- what stands behind the gate in front of the cells: `HWS2`, the region, the scope 0, the family behind its length, the two
+-- what stands behind the gate in front of the cells: `HWS2`, the region, the scope, the family behind its length, the two
 -- sequence ids, and the count
-unfoldable pub fields_text : ℕ → List ℕ → ℕ → ℕ → ℕ → List ℕ
-fields_text region family from to count =
-    (72 ∷ 87 ∷ 83 ∷ 50 ∷ []) ++ (big_bytes 4 region ++ ((0 ∷ (length family ∷ family)) ++ (big_bytes 8 from ++ (big_bytes 8 to ++ big_bytes 8 count))))
+unfoldable pub fields_text : ℕ → ℕ → List ℕ → ℕ → ℕ → ℕ → List ℕ
+fields_text region scope family from to count =
+    (72 ∷ 87 ∷ 83 ∷ 50 ∷ []) ++ (big_bytes 4 region ++ ((scope ∷ (length family ∷ family)) ++ (big_bytes 8 from ++ (big_bytes 8 to ++ big_bytes 8 count))))
 
 -- the store that it becomes with these cells
 abbrev pub store_of : OpenStore → List NumberedCell → Store
-store_of o cells = record { region = o.name.region; scope = 0; family = o.family; from = o.from; to = o.to; cells = cells }
+store_of o cells = record { region = o.name.region; scope = o.scope; family = o.family; from = o.from; to = o.to; cells = cells }
 
 -- The file stands behind a closed gate. What is written behind the gate and what waits are the fields and these cells.
 pub record IsFilling (o : OpenStore) (disk : DiskView) (cells : List NumberedCell) : Type 0 where
   pub written : List ℕ
   pub file : IsFilled disk o.name (0 ∷ []) (0 ∷ written)
   pub at : o.at ≡ length (0 ∷ written)
-  pub text : written ++ o.bytes ≡ fields_text o.name.region o.family o.from o.to o.count ++ pairs_text Tagged cells
+  pub text : written ++ o.bytes ≡ fields_text o.name.region o.scope o.family o.from o.to o.count ++ pairs_text Tagged cells
   pub filled : o.filled ≡ length cells

@@ -54,15 +54,23 @@ impl Buffer {
     }
 
     /// Adds the fields in front of a store's cells, for which there is room.
-    pub(crate) fn add_fields(&mut self, region: u32, family: &[u8], from: u64, to: u64, count: u64)
+    pub(crate) fn add_fields(
+        &mut self,
+        region: u32,
+        scope: u8,
+        family: &[u8],
+        from: u64,
+        to: u64,
+        count: u64,
+    )
         requires short { length family.now ≤ 127 }
         requires room { length self.old + (34 + length family.now) ≤ 262144 }
-        ensures bytes { self.new ≡ self.old ++ fields_text region family.now from to count }
+        ensures bytes { self.new ≡ self.old ++ fields_text region scope family.now from to count }
         ensures len { length self.new ≡ length self.old + (34 + length family.now) }
     {
         put(&mut self.bytes, b"HWS2");
         put_u32(&mut self.bytes, region);
-        put(&mut self.bytes, &[0, family.len() as u8]);
+        put(&mut self.bytes, &[scope, family.len() as u8]);
         put(&mut self.bytes, family);
         put_u64(&mut self.bytes, from);
         put_u64(&mut self.bytes, to);

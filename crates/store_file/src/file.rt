@@ -8,7 +8,7 @@ ghost use Rattle.log_model.specs.StoreText.{IsStore};
 ghost use Rattle.disk_images.specs.Crash.{Throughout, OnlyAt};
 ghost use Rattle.disk_images.specs.OneFile.{Touches};
 ghost use Rattle.disk_images.specs.Calls.{HasCause};
-ghost use Rattle.recovery.specs.Kept.{IsNotThere};
+ghost use Rattle.recovery_laws.specs.Kept.{IsNotThere};
 ghost use Rattle.store_file.specs.Open.{IsNew, IsAlike, IsFilling, store_of};
 ghost use Rattle.store_file.specs.Calls.{Begins, PutsIn, Commits};
 
@@ -25,6 +25,7 @@ use std::marker::Model;
 #[derive(Debug, Drop)]
 pub struct StoreFile {
     name: Name,
+    scope: u8,
     family: Octets,
     from: u64,
     to: u64,
@@ -39,20 +40,22 @@ impl Model for StoreFile {
 
     ghost Value = { OpenStore };
 
-    ghost view = { λ f. record { name = f.name; family = f.family; from = f.from; to = f.to; count = f.count; filled = f.filled; at = f.at; bytes = f.buffer } };
+    ghost view = { λ f. record { name = f.name; scope = f.scope; family = f.family; from = f.from; to = f.to; count = f.count; filled = f.filled; at = f.at; bytes = f.buffer } };
 
     ghost invariant = { λ f. IsBounded
-        (record { name = f.name; family = f.family; from = f.from; to = f.to; count = f.count; filled = f.filled; at = f.at; bytes = f.buffer }) };
+        (record { name = f.name; scope = f.scope; family = f.family; from = f.from; to = f.to; count = f.count; filled = f.filled; at = f.at; bytes = f.buffer }) };
 }
 
 impl StoreFile {
     /// Begins the file of a store that covers the sequence ids from `from` to `to`, with `count` cells, all of the family
-    /// (at most 127 bytes) or of any where it is empty. The name is neither there nor gone. Memory is taken before the
-    /// first disk call, of which there are three.
+    /// (at most 127 bytes) or of any where it is empty. The scope is 0, or it is 1 and the family is empty: then the store
+    /// stands in the place of all with lower numbers. The name is neither there nor gone. Memory is taken before the first
+    /// disk call, of which there are three.
     pub fn begin<D: Disk>(
         alloc: Global,
         disk: &mut D,
         name: Name,
+        scope: u8,
         family: &[u8],
         from: u64,
         to: u64,
@@ -60,6 +63,8 @@ impl StoreFile {
     ) -> Result<StoreFile, FileRefusal>
         requires absent { IsTrue D.told → IsAbsent (D.view disk.old).files name × (¬ (D.view disk.old).gone name) }
         requires kind { name.kind ≡ kinds.Store }
+        requires scope { scope ≤ 1 }
+        requires whole { scope ≡ 1 → family.now ≡ [] }
         requires family { length family.now ≤ 127 }
         requires range { (1 ≤ from) × (from ≤ to) × (to < 2 ^ 48) }
 
@@ -67,7 +72,7 @@ impl StoreFile {
         ensures begins { IsTrue D.told → Begins name result (D.view disk.old) (D.view disk.new) }
 
         // What the writer holds.
-        ensures shape { IfOk result (IsNew name family.now from to count) }
+        ensures shape { IfOk result (IsNew name scope family.now from to count) }
 
         // When it fails.
         ensures memory { IsErrOf result FileRefusal.Memory → disk.new ≡ disk.old }
@@ -75,7 +80,7 @@ impl StoreFile {
     {
         let buffer = Buffer::new(alloc)?;
         let family = Octets::copy_of(alloc, family)?;
-        let store = StoreFile::begin_with(disk, name, family, from, to, count, buffer)?;
+        let store = StoreFile::begin_with(disk, name, scope, family, from, to, count, buffer)?;
         Ok(store)
     }
 
@@ -83,6 +88,7 @@ impl StoreFile {
     fn begin_with<D: Disk>(
         disk: &mut D,
         name: Name,
+        scope: u8,
         family: Octets,
         from: u64,
         to: u64,
@@ -95,15 +101,16 @@ impl StoreFile {
         requires empty { buffer ≡ [] }
 
         ensures begins { IsTrue D.told → Begins name result (D.view disk.old) (D.view disk.new) }
-        ensures shape { IfOk result (IsNew name family from to count) }
+        ensures shape { IfOk result (IsNew name scope family from to count) }
         ensures cause { HasCause (D.faults disk.old) (D.faults disk.new) (IsErr result) }
     {
         // Until the sync a crash leaves no file, or one of at most this byte, a closed gate: neither is there.
         create_durably(disk, name, &[CLOSED_GATE])?;
         let mut buffer = buffer;
-        buffer.add_fields(name.region, family.as_slice(), from, to, count);
+        buffer.add_fields(name.region, scope, family.as_slice(), from, to, count);
         Ok(StoreFile {
             name,
+            scope,
             family,
             from,
             to,

@@ -8,7 +8,9 @@ ghost use Rattle.versions_trials.specs.AllShown.{IsOneMore};
 use kv_cell::{Batch, Cell, NoMemory};
 use mem_segments::{Base, Draft, Segment};
 use region_state::{Caller, Ended, RegionState};
-use region_versions::{History, Naming, Opened, Shower, Told, VersionParts, Viewer, versions};
+use region_versions::{
+    History, Opened, Shower, Told, VersionParts, VersionsNaming, Viewer, versions,
+};
 use std::alloc::Global;
 use std::marker::Model;
 use std::sync::{Arc, Wait};
@@ -16,7 +18,7 @@ use std::test::Fail;
 
 /// A region all of whose lines are completed, in its history and shown, and the cells that it is to be given.
 #[derive(Drop)]
-pub(crate) struct Region<N: Naming, W: Wait + Drop> {
+pub(crate) struct Region<N: VersionsNaming, W: Wait + Drop> {
     state: RegionState,
     history: History<N>,
     shower: Shower<N, W>,
@@ -24,7 +26,7 @@ pub(crate) struct Region<N: Naming, W: Wait + Drop> {
     batch: Arc<Batch, Global>,
 }
 
-impl<N: Naming, W: Wait + Drop> Model for Region<N, W> {
+impl<N: VersionsNaming, W: Wait + Drop> Model for Region<N, W> {
     ghost use Rattle.region_versions.specs.Histories.{Beginning, coded_beginning};
     ghost use Rattle.versions_trials.specs.AllShown.{IsAllShown};
 
@@ -34,7 +36,7 @@ impl<N: Naming, W: Wait + Drop> Model for Region<N, W> {
 
     ghost view = { λ r. r.history };
 
-    ghost invariant = { λ r. IsAllShown (N.base r.history.region) r.state r.history r.shower.shown };
+    ghost invariant = { λ r. IsAllShown (N.region_base r.history.region) r.state r.history r.shower.shown };
 }
 
 /// A region with no cell.
@@ -80,7 +82,7 @@ fn put(
 
 /// Puts the cells again, and shows them. An error is out of memory, or a call that isn't the next one, which no run
 /// shows.
-pub(crate) fn show_next<N: Naming, W: Wait + Drop>(
+pub(crate) fn show_next<N: VersionsNaming, W: Wait + Drop>(
     region: Region<N, W>,
     call: u32,
 ) -> Result<Region<N, W>, NoMemory>
@@ -112,7 +114,7 @@ pub(crate) fn show_next<N: Naming, W: Wait + Drop>(
     })
 }
 
-impl<N: Naming, W: Wait + Drop> Region<N, W> {
+impl<N: VersionsNaming, W: Wait + Drop> Region<N, W> {
     /// Tells what is shown.
     pub(crate) fn tell(&mut self) -> Told<N>
         ensures told { result.sight ≡ self.old }
@@ -124,7 +126,7 @@ impl<N: Naming, W: Wait + Drop> Region<N, W> {
 
 /// A region that shows its first version, and three that view it.
 #[derive(Drop)]
-pub(crate) struct Beginners<N: Naming, W: Wait + Drop> {
+pub(crate) struct Beginners<N: VersionsNaming, W: Wait + Drop> {
     pub(crate) region: Region<N, W>,
     pub(crate) one: Viewer<N>,
     pub(crate) two: Viewer<N>,
@@ -132,14 +134,14 @@ pub(crate) struct Beginners<N: Naming, W: Wait + Drop> {
 }
 
 /// Shows the first version of an empty region.
-pub(crate) fn begin<N: Naming, W: Wait + Drop>(
+pub(crate) fn begin<N: VersionsNaming, W: Wait + Drop>(
     rt: W,
     alloc: Global,
     opened: Opened,
     mut state: RegionState,
 ) -> Result<Beginners<N, W>, Fail>
     requires book { opened.seen.book ≡ N.book 1 }
-    requires base { state.base ≡ N.base 1 }
+    requires base { state.base ≡ N.region_base 1 }
     requires lines { state.lines ≡ [] }
     ensures region { IfOk result (λ b. b.region.region ≡ 1) }
     ensures viewers { IfOk result (λ b. (b.one.region ≡ 1) × (b.two.region ≡ 1) × (b.idle.region ≡ 1)) }

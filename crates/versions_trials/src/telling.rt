@@ -4,7 +4,7 @@ ghost use Rattle.std.specs.Prelude.{◌≡◌, []};
 
 use crate::region::{Beginners, begin, empty_region, show_next};
 use region_state::RegionState;
-use region_versions::{Naming, Opened};
+use region_versions::{Opened, VersionsNaming};
 use std::alloc::Global;
 use std::marker::Brand;
 use std::process::Abort;
@@ -12,14 +12,14 @@ use std::sync::Wait;
 use std::test::Fail;
 
 /// One viewer views. The two others look at nothing and learn what is told, one of them a version late.
-fn run<N: Naming, R: Wait + Abort>(
+fn run<N: VersionsNaming, R: Wait + Abort>(
     rt: &R,
     alloc: Global,
     opened: Opened,
     state: RegionState,
 ) -> Result<(), Fail>
     requires book { opened.seen.book ≡ N.book 1 }
-    requires base { state.base ≡ N.base 1 }
+    requires base { state.base ≡ N.region_base 1 }
     requires lines { state.lines ≡ [] }
 {
     let Beginners {

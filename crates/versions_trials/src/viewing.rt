@@ -5,7 +5,7 @@ ghost use Rattle.std.specs.Prelude.{◌≡◌, []};
 use crate::region::{Beginners, Region, begin, empty_region, show_next};
 use kv_cell::NoMemory;
 use region_state::RegionState;
-use region_versions::{Naming, Opened, Viewer};
+use region_versions::{Opened, VersionsNaming, Viewer};
 use std::alloc::Global;
 use std::marker::Brand;
 use std::process::Abort;
@@ -18,14 +18,16 @@ use std::thread::{Threads, join};
 const VIEWS: u32 = 100_000;
 
 /// Shows three versions, with the points 1, 2 and 3.
-fn show_three<N: Naming, W: Wait + Drop>(region: Region<N, W>) -> Result<Region<N, W>, NoMemory> {
+fn show_three<N: VersionsNaming, W: Wait + Drop>(
+    region: Region<N, W>,
+) -> Result<Region<N, W>, NoMemory> {
     let first = show_next(region, 1)?;
     let second = show_next(first, 2)?;
     show_next(second, 3)
 }
 
 /// Views until it finds the third version, and says whether a point fell.
-fn view_many<N: Naming>(mut viewer: Viewer<N>) -> (Viewer<N>, bool) {
+fn view_many<N: VersionsNaming>(mut viewer: Viewer<N>) -> (Viewer<N>, bool) {
     let mut fell = false;
     let mut last = 0;
     for _ in 0..VIEWS {
@@ -44,7 +46,7 @@ fn view_many<N: Naming>(mut viewer: Viewer<N>) -> (Viewer<N>, bool) {
 type Viewed<N> = ((Viewer<N>, bool), (Viewer<N>, bool));
 
 /// Views in two threads.
-fn view_both<N: Naming + Send + Sync, R: Threads + Sync>(
+fn view_both<N: VersionsNaming + Send + Sync, R: Threads + Sync>(
     rt: &R,
     one: Viewer<N>,
     two: Viewer<N>,
@@ -53,7 +55,7 @@ fn view_both<N: Naming + Send + Sync, R: Threads + Sync>(
 }
 
 /// Shows in one thread, and views in two.
-fn show_and_view<N: Naming + Send + Sync, R: Threads + Sync, W: Wait + Drop + Send>(
+fn show_and_view<N: VersionsNaming + Send + Sync, R: Threads + Sync, W: Wait + Drop + Send>(
     rt: &R,
     region: Region<N, W>,
     one: Viewer<N>,
@@ -63,14 +65,14 @@ fn show_and_view<N: Naming + Send + Sync, R: Threads + Sync, W: Wait + Drop + Se
 }
 
 /// Nothing is told to a viewer, so that it finds the third version by its own looks alone.
-fn run<N: Naming + Send + Sync, R: Threads + Wait + Abort + Sync>(
+fn run<N: VersionsNaming + Send + Sync, R: Threads + Wait + Abort + Sync>(
     rt: &R,
     alloc: Global,
     opened: Opened,
     state: RegionState,
 ) -> Result<(), Fail>
     requires book { opened.seen.book ≡ N.book 1 }
-    requires base { state.base ≡ N.base 1 }
+    requires base { state.base ≡ N.region_base 1 }
     requires lines { state.lines ≡ [] }
 {
     let Beginners {

@@ -8,8 +8,8 @@ use Rattle.log_model.specs.Files.{Files}
 use Rattle.log_model.specs.declared.name.Name.{Name}
 use Rattle.log_model.specs.StoreText.{Store}
 use Rattle.log_model.specs.Recovered.{IsGreatest, IsFor, FlushesTo, IsFlushed, HasFamily}
-use Rattle.recovery.specs.Laws.{IsFlushedEntry}
-use Rattle.recovery.proofs.Stores.{SameStores, flushes_kept}
+use Rattle.recovery_laws.specs.Laws.{IsFlushedEntry}
+use Rattle.recovery_laws.proofs.Stores.{SameStores, flushes_kept}
 use Rattle.found_files.specs.declared.found.FoundStore.{FoundStore}
 use Rattle.found_files.specs.Found.{store_of}
 use Rattle.found_files.specs.Counting.{AreCountingOf}

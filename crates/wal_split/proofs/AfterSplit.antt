@@ -17,8 +17,8 @@ use Rattle.disk_images.specs.Crash.{DiskView}
 use Rattle.disk_images.specs.Calls.{IsTrueDisk}
 use Rattle.disk_images.specs.Settled.{IsSettled}
 use Rattle.disk_images.proofs.Settled.{among_names, there_of, present_cases}
-use Rattle.recovery.specs.Change.{HasText}
-use Rattle.recovery.proofs.Stores.{counts_kept, flushes_kept}
+use Rattle.recovery_laws.specs.Change.{HasText}
+use Rattle.recovery_laws.proofs.Stores.{counts_kept, flushes_kept}
 use Rattle.found_files.specs.declared.found.FoundEntry.{FoundEntry}
 use Rattle.found_files.specs.declared.found.FoundStore.{FoundStore}
 use Rattle.found_files.specs.Found.{AreRead, store_of, place_in}

@@ -9,7 +9,7 @@ use Rattle.disk_images.specs.Crash.{DiskView, Throughout, OnlyAt}
 use Rattle.disk_images.specs.OneFile.{Touches, IsDurableFile}
 use Rattle.disk_images.proofs.Moments.{at_once, more_time}
 use Rattle.disk_images.proofs.Torn.{then_only, only_weaker, only_unchanged}
-use Rattle.recovery.specs.Change.{HasText, HasEntries}
+use Rattle.recovery_laws.specs.Change.{HasText, HasEntries}
 use Rattle.log_file.specs.Open.{OpenLog, IsOpen, IsStaged, HasEither}
 use Rattle.log_file.specs.LogText.{at_rest}
 use Rattle.log_file.specs.Calls.{IsSameFile}

@@ -6,10 +6,10 @@ use Rattle.log_model.specs.Entry.{Entry}
 use Rattle.log_model.specs.Files.{Files, content, IsLogFile}
 use Rattle.disk_images.specs.Crash.{DiskView, Throughout}
 use Rattle.disk_images.proofs.Moments.{joined}
-use Rattle.recovery.specs.Change.{HasText}
-use Rattle.recovery.specs.Laws.{IsFlushedEntry}
-use Rattle.recovery.proofs.Stores.{flushes_kept}
-use Rattle.recovery.specs.Alike.{AllAlike}
+use Rattle.recovery_laws.specs.Change.{HasText}
+use Rattle.recovery_laws.specs.Laws.{IsFlushedEntry}
+use Rattle.recovery_laws.proofs.Stores.{flushes_kept}
+use Rattle.recovery_laws.specs.Alike.{AllAlike}
 use Rattle.wal_split.specs.declared.job.EditsJob.{EditsJob}
 use Rattle.wal_split.specs.Jobs.{AreJobs, IsNoJob}
 use Rattle.wal_split.specs.Logs.{AreFree, LogsKept, log_name, old_name}

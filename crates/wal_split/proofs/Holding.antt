@@ -8,10 +8,10 @@ use Rattle.disk_images.specs.Crash.{DiskView, IsImageNow, Throughout, OnlyAt}
 use Rattle.disk_images.specs.OneFile.{Touches, IsDurableFile}
 use Rattle.disk_images.specs.Calls.{IsTrueDisk}
 use Rattle.disk_images.proofs.Moments.{at_end, weaker}
-use Rattle.recovery.proofs.Names.{name_cases, entries_no_old, store_no_old}
-use Rattle.recovery.specs.Alike.{AllAlike}
-use Rattle.recovery.proofs.Turns.{in_turn, but_old}
-use Rattle.recovery.proofs.OpeningProved.{copies_nothing}
+use Rattle.recovery_laws.proofs.Names.{name_cases, entries_no_old, store_no_old}
+use Rattle.recovery_laws.specs.Alike.{AllAlike}
+use Rattle.recovery_laws.proofs.Turns.{in_turn, but_old}
+use Rattle.recovery_laws.proofs.OpeningProved.{copies_nothing}
 use Rattle.disk_images.specs.Settled.{IsSettled}
 use Rattle.wal_split.specs.Held.{IsHeld}
 use Rattle.wal_split.specs.Some.{HasSome}

@@ -8,13 +8,13 @@ use Rattle.log_model.specs.Files.{Files, content, IsAbsent, HoldsEntries, IsLogF
 use Rattle.disk_images.specs.Crash.{DiskView, IsImageNow, Throughout}
 use Rattle.disk_images.specs.Calls.{Renames, Removes, MovedIn, RemovedIn, Renamed}
 use Rattle.disk_images.proofs.Moments.{in_one_call}
-use Rattle.recovery.specs.Change.{HasText}
-use Rattle.recovery.proofs.Names.{entries_no_old, store_no_old}
-use Rattle.recovery.specs.Laws.{IsFlushedEntry}
-use Rattle.recovery.specs.Alike.{AllAlike}
-use Rattle.recovery.specs.OpeningSteps.{AreKept}
-use Rattle.recovery.proofs.Turns.{in_turn, but_old}
-use Rattle.recovery.proofs.OpeningProved.{kept_may_go}
+use Rattle.recovery_laws.specs.Change.{HasText}
+use Rattle.recovery_laws.proofs.Names.{entries_no_old, store_no_old}
+use Rattle.recovery_laws.specs.Laws.{IsFlushedEntry}
+use Rattle.recovery_laws.specs.Alike.{AllAlike}
+use Rattle.recovery_laws.specs.OpeningSteps.{AreKept}
+use Rattle.recovery_laws.proofs.Turns.{in_turn, but_old}
+use Rattle.recovery_laws.proofs.OpeningProved.{kept_may_go}
 use Rattle.wal_split.specs.Held.{IsHeld}
 use Rattle.wal_split.proofs.Above.{entry_kept}
 
@@ -37,7 +37,7 @@ kept_on I J name holds others es kept e member = elim (kept e member) as (λ _. 
 ]
   where
     no_store : (m : Name) → m.kind ≡ kinds.Store → m ≡ name → ⊥
-    no_store m store at = Rattle.recovery.proofs.Names.store_apart m name store holds at
+    no_store m store at = Rattle.recovery_laws.proofs.Names.store_apart m name store holds at
 
 module _ (base : Files) (v w : DiskView) (held : IsHeld base v) where
   -- an image in which a file is gone whose entries are kept
@@ -86,7 +86,7 @@ module _ (base : Files) (v w : DiskView) (held : IsHeld base v) where
 
     pub renamed_held : Renamed from to v.files w.files → IsHeld base w
     renamed_held done = record {
-      stores = λ J now m store. step J now m (store_no_old m.kind store) (λ is. Rattle.recovery.proofs.Names.store_apart m from store (inl log) is) (λ I was. held.stores I was m store);
+      stores = λ J now m store. step J now m (store_no_old m.kind store) (λ is. Rattle.recovery_laws.proofs.Names.store_apart m from store (inl log) is) (λ I was. held.stores I was m store);
       there = λ J m now holds present.
           let other : m ≢ from = λ is. present (ap (content w.files) is ∙ done.left) in
           step J now m (entries_no_old m.kind holds) other (λ I was. held.there I m was holds (λ none. present (renames.others m other (λ is. entries_no_old m.kind holds (ap (λ (x : Name). x.kind) is ∙ old)) ∙ none)));
@@ -122,7 +122,7 @@ module _ (base : Files) (v w : DiskView) (held : IsHeld base v) where
 
     pub removed_held : IsAbsent w.files name → IsHeld base w
     removed_held done = record {
-      stores = λ J now m store. step J now m (λ is. Rattle.recovery.proofs.Names.store_apart m name store (inr edits) is) (λ I was. held.stores I was m store);
+      stores = λ J now m store. step J now m (λ is. Rattle.recovery_laws.proofs.Names.store_apart m name store (inr edits) is) (λ I was. held.stores I was m store);
       there = λ J m now holds present.
           let other : m ≢ name = λ is. present (ap (content w.files) is ∙ done) in
           step J now m other (λ I was. held.there I m was holds (λ none. present (removes.others m other ∙ none)));

@@ -15,8 +15,8 @@ use Rattle.disk_images.specs.Crash.{DiskView}
 use Rattle.disk_images.specs.Calls.{IsTrueDisk}
 use Rattle.disk_images.specs.Settled.{IsSettled}
 use Rattle.disk_images.proofs.Settled.{among_names, there_of, present_cases, read_of}
-use Rattle.recovery.specs.Alike.{AllAlike, StoresStand}
-use Rattle.recovery.specs.Laws.{IsFlushedEntry}
+use Rattle.recovery_laws.specs.Alike.{AllAlike, StoresStand}
+use Rattle.recovery_laws.specs.Laws.{IsFlushedEntry}
 use Rattle.found_files.specs.declared.found.FoundEntry.{FoundEntry}
 use Rattle.found_files.specs.declared.found.FoundStore.{FoundStore}
 use Rattle.found_files.specs.Found.{AreRead, place_in}

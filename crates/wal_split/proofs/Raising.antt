@@ -6,7 +6,7 @@ use Rattle.std.proofs.lemmas.Bool.{cases_eq, cases_lt}
 use Rattle.std.proofs.lemmas.List.{get_or_append_left}
 use Rattle.std.proofs.lemmas.List.Elements.{Contains-append_left, Contains-push, Contains-push_cases}
 use Rattle.log_model.specs.Recovered.{IsGreatest, IsFor}
-use Rattle.recovery.proofs.Lists.{for_cases}
+use Rattle.recovery_laws.proofs.Lists.{for_cases}
 use Rattle.found_files.specs.declared.found.FoundStore.{FoundStore}
 use Rattle.found_files.proofs.Greatest.{greatest_more, greatest_same}
 use Rattle.found_files.proofs.Placing.{none_in}

@@ -11,10 +11,10 @@ use Rattle.log_model.specs.Files.{Files, content, Reads, IsAbsent, IsLogFile}
 use Rattle.disk_images.specs.Crash.{DiskView, Throughout}
 use Rattle.disk_images.specs.Calls.{Renames, Renamed}
 use Rattle.disk_images.proofs.Moments.{at_once, joined}
-use Rattle.recovery.specs.Change.{HasText}
-use Rattle.recovery.specs.Laws.{IsFlushedEntry}
-use Rattle.recovery.specs.Alike.{AllAlike}
-use Rattle.recovery.specs.OpeningSteps.{AreKept}
+use Rattle.recovery_laws.specs.Change.{HasText}
+use Rattle.recovery_laws.specs.Laws.{IsFlushedEntry}
+use Rattle.recovery_laws.specs.Alike.{AllAlike}
+use Rattle.recovery_laws.specs.OpeningSteps.{AreKept}
 use Rattle.wal_split.specs.Held.{IsHeld}
 use Rattle.wal_split.proofs.Above.{entry_kept}
 use Rattle.wal_split.proofs.Moving.{rename_moments, renamed_held}

@@ -8,8 +8,8 @@ use Rattle.log_model.specs.Files.{Files, content, IsAbsent, IsLogged}
 use Rattle.disk_images.specs.Crash.{DiskView, Throughout}
 use Rattle.disk_images.specs.OneFile.{Touches}
 use Rattle.disk_images.proofs.Moments.{at_once, joined}
-use Rattle.recovery.specs.Change.{HasText}
-use Rattle.recovery.specs.Alike.{AllAlike}
+use Rattle.recovery_laws.specs.Change.{HasText}
+use Rattle.recovery_laws.specs.Alike.{AllAlike}
 use Rattle.wal_split.specs.Held.{IsHeld}
 use Rattle.wal_split.specs.declared.job.EditsJob.{EditsJob}
 use Rattle.wal_split.specs.Jobs.{AreJobs, AreFreeNames, AllLogged, IsNoJob}

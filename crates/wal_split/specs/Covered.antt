@@ -2,8 +2,8 @@
 use Rattle.std.specs.Prelude.{◌⊎◌, ℕ, List, Contains, Option}
 use Rattle.log_model.specs.Entry.{Entry}
 use Rattle.log_model.specs.Files.{Files, content}
-use Rattle.recovery.specs.Change.{HasText}
-use Rattle.recovery.specs.Laws.{IsFlushedEntry}
+use Rattle.recovery_laws.specs.Change.{HasText}
+use Rattle.recovery_laws.specs.Laws.{IsFlushedEntry}
 use Rattle.wal_split.specs.declared.job.EditsJob.{EditsJob}
 use Rattle.wal_split.specs.Logs.{log_name}
 

@@ -4,7 +4,7 @@ use Rattle.log_model.specs.declared.name.Name.{Name}
 use Rattle.log_model.specs.declared.name.NameKind.TheVariants as kinds
 use Rattle.log_model.specs.Files.{Files, content, HoldsEntries, IsPresent}
 use Rattle.disk_images.specs.Crash.{DiskView, IsImageNow}
-use Rattle.recovery.specs.Alike.{AllAlike, StoresStand}
+use Rattle.recovery_laws.specs.Alike.{AllAlike, StoresStand}
 
 -- Each image has the stores as they read, and each log and edits file that is there. Each is fit, and recovers to what the
 -- base does.

@@ -7,7 +7,7 @@ use Rattle.log_model.specs.Entry.{Entry, IsEntry}
 use Rattle.log_model.specs.StoreText.{Store, IsStore}
 use Rattle.log_model.specs.Files.{Files, content, name_cmp, IsAbsent, IsPresent, IsLogFile, IsLogged}
 use Rattle.log_model.specs.Recovered.{IsCounting}
-use Rattle.recovery.specs.Change.{HasText}
+use Rattle.recovery_laws.specs.Change.{HasText}
 use Rattle.found_files.specs.declared.found.FoundStore.{FoundStore}
 use Rattle.found_files.specs.Found.{store_of, AreInNameOrder}
 use Rattle.found_files.specs.Names.{IsBadAmong}

@@ -4,9 +4,9 @@ use Rattle.log_model.specs.declared.name.Name.{Name}
 use Rattle.log_model.specs.declared.name.NameKind.TheVariants as kinds
 use Rattle.log_model.specs.Entry.{Entry}
 use Rattle.log_model.specs.Files.{Files, content, Reads, IsAbsent, IsPresent}
-use Rattle.recovery.specs.Change.{HasText}
+use Rattle.recovery_laws.specs.Change.{HasText}
 use Rattle.disk_images.specs.Crash.{DiskView}
-use Rattle.recovery.specs.OpeningSteps.{AreKept}
+use Rattle.recovery_laws.specs.OpeningSteps.{AreKept}
 
 abbrev pub log_name : ℕ → Name
 log_name number = record { kind = kinds.Log; region = 0; number = number }

@@ -2,7 +2,7 @@
 use Rattle.std.specs.Prelude.{◌⊎◌, ℕ}
 use Rattle.log_model.specs.Files.{Files}
 use Rattle.disk_images.specs.Crash.{DiskView, IsImageNow, Throughout}
-use Rattle.recovery.specs.Alike.{AllAlike}
+use Rattle.recovery_laws.specs.Alike.{AllAlike}
 
 -- at each moment of some calls each image has P
 abbrev pub During : (Files → Type 0) → DiskView → DiskView → Type 0

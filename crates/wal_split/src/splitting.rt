@@ -4,10 +4,10 @@ ghost use Rattle.std.specs.Prelude.{◌≡◌, ℕ, Contains, None, IsTrue, OnOk
 ghost use Rattle.log_model.specs.declared.name.Name.{Name as TheName};
 ghost use Rattle.log_model.specs.Entry.{Entry as TheEntry};
 ghost use Rattle.log_model.specs.Files.{Files, IsAbsent, content};
-ghost use Rattle.recovery.specs.Change.{HasText};
+ghost use Rattle.recovery_laws.specs.Change.{HasText};
 ghost use Rattle.disk_images.specs.Crash.{Throughout};
 ghost use Rattle.disk_images.specs.Calls.{HasCause};
-ghost use Rattle.recovery.specs.Alike.{AllAlike};
+ghost use Rattle.recovery_laws.specs.Alike.{AllAlike};
 ghost use Rattle.wal_split.specs.Held.{IsHeld};
 ghost use Rattle.wal_split.specs.declared.job.EditsJob.{EditsJob as TheJob};
 ghost use Rattle.wal_split.specs.Jobs.{AreJobs, AreFreeNames, AllLogged, IsNoJob};

@@ -6,7 +6,7 @@ ghost use Rattle.log_model.specs.Files.{IsFit, IsSound};
 ghost use Rattle.log_model.specs.Damage.{IsDamage};
 ghost use Rattle.disk_images.specs.Calls.{HasCause};
 ghost use Rattle.disk_images.specs.Settled.{IsSettled};
-ghost use Rattle.recovery.specs.Alike.{AllAlike, StoresStand};
+ghost use Rattle.recovery_laws.specs.Alike.{AllAlike, StoresStand};
 ghost use Rattle.found_files.specs.Found.{AreRead};
 ghost use Rattle.found_files.specs.Sorted.{AreOrdered, AllAgree};
 ghost use Rattle.found_files.specs.Refusal.{IfDamage};

@@ -1,11 +1,11 @@
 use Rattle.std.proofs.Common.{sym, ap, subst, ◌∙◌, ◌∷◌, []}
-use Rattle.command_ends.specs.Invocation.{invocation}
-use Rattle.command_ends.specs.LogFiles.{IsLogRefusal}
-use Rattle.command_ends.specs.Status.{IsOrEarlier, refusal_line}
-use Rattle.command_ends.specs.declared.status.Status.{Status}
-use Rattle.command_ends.specs.declared.status.Status.TheVariants.{Damaged, DiskFault}
+use Rattle.command_base.specs.Invocation.{invocation}
+use Rattle.command_base.specs.LogFiles.{IsLogRefusal}
+use Rattle.command_base.specs.Status.{IsOrEarlier, refusal_line}
+use Rattle.command_base.specs.declared.status.Status.{Status}
+use Rattle.command_base.specs.declared.status.Status.TheVariants.{Damaged, DiskFault}
 use Rattle.log_model.specs.declared.damage.Damage.TheVariants.{Bytes}
-use Rattle.command_ends.proofs.Readers.{ends_printed, ends_refused, lined}
+use Rattle.command_base.proofs.Readers.{ends_printed, ends_refused, lined}
 use Rattle.dump_command.specs.Dumped.{DumpDone}
 use Rattle.dump_command.specs.Found.{found_text}
 use Rattle.dump_command.proofs.Dumps.{dumped}

@@ -1,10 +1,10 @@
 use Rattle.std.proofs.Common.{sym, subst, ◌∷◌, []}
 use Rattle.log_model.specs.declared.name.Name.{Name}
-use Rattle.command_ends.specs.LogFiles.{IsDamagedLog, IsLogDamage, IsFound}
-use Rattle.command_ends.specs.Status.{IsOrEarlier, IsDamageOf}
-use Rattle.command_ends.specs.declared.status.Status.TheVariants.{Damaged, DiskFault}
+use Rattle.command_base.specs.LogFiles.{IsDamagedLog, IsLogDamage, IsFound}
+use Rattle.command_base.specs.Status.{IsOrEarlier, IsDamageOf}
+use Rattle.command_base.specs.declared.status.Status.TheVariants.{Damaged, DiskFault}
 use Rattle.log_model.specs.declared.damage.Damage.TheVariants.{Bytes}
-use Rattle.command_ends.proofs.Endings.{keeps_on}
+use Rattle.command_base.proofs.Endings.{keeps_on}
 use Rattle.dump_command.proofs.Dumps.{no_damage, log_reported}
 use Rattle.dump_command.proofs.command.find_either.Goals as goal
 

@@ -1,8 +1,8 @@
 use Rattle.std.proofs.Common.{sym, subst, ◌∷◌, []}
 use Rattle.log_model.specs.declared.name.Name.{Name}
-use Rattle.command_ends.specs.LogFiles.{IsDamagedLog}
-use Rattle.command_ends.specs.Status.{IsOrEarlier}
-use Rattle.command_ends.specs.declared.status.Status.TheVariants.{Damaged, DiskFault}
+use Rattle.command_base.specs.LogFiles.{IsDamagedLog}
+use Rattle.command_base.specs.Status.{IsOrEarlier}
+use Rattle.command_base.specs.declared.status.Status.TheVariants.{Damaged, DiskFault}
 use Rattle.log_model.specs.declared.damage.Damage.TheVariants.{Bytes}
 use Rattle.dump_command.proofs.command.find_old.Goals as goal
 

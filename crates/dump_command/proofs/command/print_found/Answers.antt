@@ -1,6 +1,6 @@
 use Rattle.std.proofs.Common.{◌≡◌, List, ℕ, sym, ap, subst, ◌∙◌}
-use Rattle.command_ends.specs.Prints.{Prints}
-use Rattle.command_ends.specs.declared.status.Status.TheVariants.{SinkFault}
+use Rattle.command_base.specs.Prints.{Prints}
+use Rattle.command_base.specs.declared.status.Status.TheVariants.{SinkFault}
 use Rattle.dump_command.specs.Found.{found_text}
 use Rattle.dump_command.proofs.Dumps.{none_bytes}
 use Rattle.dump_command.proofs.command.print_found.Goals as goal

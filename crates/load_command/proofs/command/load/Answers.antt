@@ -2,11 +2,11 @@ use Rattle.std.proofs.Common.{◌≡◌, Err, [], ◌∷◌, sym, ap, ◌∙◌,
 use Rattle.std.specs.FinMap.{keys}
 use Rattle.log_model.specs.Files.{Files}
 use Rattle.disk_images.specs.Calls.{Rose}
-use Rattle.command_ends.specs.Status.{refusal_line, IsComplete, IsNotEmpty, IsOrEarlier}
-use Rattle.command_ends.specs.declared.status.Status.{Status}
-use Rattle.command_ends.specs.declared.status.Status.TheVariants.{NotEmpty, DiskFault}
+use Rattle.command_base.specs.Status.{refusal_line, IsComplete, IsNotEmpty, IsOrEarlier}
+use Rattle.command_base.specs.declared.status.Status.{Status}
+use Rattle.command_base.specs.declared.status.Status.TheVariants.{NotEmpty, DiskFault}
 use Rattle.run_model.specs.Headline.{MayKeep}
-use Rattle.command_ends.proofs.Endings.{time_of, unchanged}
+use Rattle.command_base.proofs.Endings.{time_of, unchanged}
 use Rattle.load_command.specs.Statuses.{IsLoadEnd}
 use Rattle.recover_command.specs.Recovered.{IsStoreDamage}
 use Rattle.load_command.proofs.Damages.{other_status, first_damage}

@@ -1,10 +1,10 @@
 use Rattle.std.proofs.Common.{refl, sym, ap, ◌∙◌, subst, inl, inr}
 use Rattle.recover_command.specs.Recovered.{IsStoreDamage}
 use Rattle.run_model.specs.Headline.{MayKeep}
-use Rattle.command_ends.proofs.Endings.{each_on, no_moment}
+use Rattle.command_base.proofs.Endings.{each_on, no_moment}
 use Rattle.script_model.specs.Outputs.{refused_memory}
 use Rattle.made_script.specs.Counts.{counts_of}
-use Rattle.command_ends.specs.Status.{refusal_line, IsComplete}
+use Rattle.command_base.specs.Status.{refusal_line, IsComplete}
 use Rattle.load_command.specs.Statuses.{IsClosedEnd}
 use Rattle.load_command.proofs.Damages.{other_status, opened_damage}
 use Rattle.load_command.proofs.Telling.{memory_ends}

@@ -1,8 +1,8 @@
 use Rattle.std.proofs.Common.{refl, sym, ap, subst, ◌∙◌}
 use Rattle.disk_images.specs.Calls.{Rose}
 use Rattle.script_model.specs.Outputs.{refused_memory}
-use Rattle.command_ends.specs.Status.{refusal_line, IsComplete}
-use Rattle.command_ends.specs.declared.status.Status.{Status}
+use Rattle.command_base.specs.Status.{refusal_line, IsComplete}
+use Rattle.command_base.specs.declared.status.Status.{Status}
 use Rattle.run_model.proofs.KeepsFound.{all_keep}
 use Rattle.load_command.specs.Ends.{HasEnded}
 use Rattle.recover_command.specs.Recovered.{IsStoreDamage}

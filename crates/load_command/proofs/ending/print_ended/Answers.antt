@@ -1,5 +1,5 @@
 use Rattle.std.proofs.Common.{◌≡◌, sym, ◌∙◌, inl, inr}
-use Rattle.command_ends.specs.declared.status.Status.TheVariants.{Memory, SinkFault}
+use Rattle.command_base.specs.declared.status.Status.TheVariants.{Memory, SinkFault}
 use Rattle.load_command.proofs.ending.print_ended.Goals as goal
 
 pub returns-in-Ok-clause-refusal : goal.returns-in-Ok-clause-refusal

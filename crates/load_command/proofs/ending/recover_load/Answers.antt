@@ -2,10 +2,10 @@ use Rattle.std.proofs.Common.{◌⊎◌, ◌-◌, ◌^◌, min, sum_by, Err, sym
 use Rattle.disk_images.specs.Calls.{Rose}
 use Rattle.load_model.specs.Text.{load_text, ended_text}
 use Rattle.load_model.specs.Loaded.{HasLoaded, HasBroken, HasStopped}
-use Rattle.command_ends.specs.Invocation.{invocation}
-use Rattle.command_ends.specs.Status.{refusal_line, IsComplete, IsReadingEnd}
-use Rattle.command_ends.specs.declared.status.Status.{Status}
-use Rattle.command_ends.proofs.Readers.{lined}
+use Rattle.command_base.specs.Invocation.{invocation}
+use Rattle.command_base.specs.Status.{refusal_line, IsComplete, IsReadingEnd}
+use Rattle.command_base.specs.declared.status.Status.{Status}
+use Rattle.command_base.proofs.Readers.{lined}
 use Rattle.recover_command.proofs.Telling.{reads_refused, fault_refused}
 use Rattle.recover_command.specs.Refusals.{refused_as}
 use Rattle.load_command.specs.Counted.{cells_of}

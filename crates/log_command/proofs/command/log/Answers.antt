@@ -1,5 +1,5 @@
 use Rattle.std.proofs.Common.{inl}
-use Rattle.command_ends.proofs.Endings.{no_moment}
+use Rattle.command_base.proofs.Endings.{no_moment}
 use Rattle.log_command.specs.Logged.{LogMayLeave}
 use Rattle.log_command.proofs.Ending.{input_refused, wider}
 use Rattle.log_command.proofs.command.log.Goals as goal

@@ -1,6 +1,6 @@
 use Rattle.std.proofs.Math.Logic.{∥∥₁_map, ∥∥₁_elim, ∥∥₁_prop}
 use Rattle.std.proofs.Common.{◌∙◌, arith}
-use Rattle.command_ends.proofs.Endings.{time_of, each_then}
+use Rattle.command_base.proofs.Endings.{time_of, each_then}
 use Rattle.log_command.specs.Logged.{entries_in, LogMayLeave}
 use Rattle.log_command.specs.Writing.{WasOrFirst}
 use Rattle.log_command.proofs.Ending.{absent_of, nothing_ends, stopped_ends, whole_ends, logged_of, failed_of, may_leave}

@@ -1,5 +1,5 @@
 use Rattle.disk_images.specs.Calls.{Rose}
-use Rattle.command_ends.proofs.Endings.{goes_on, rose_from}
+use Rattle.command_base.proofs.Endings.{goes_on, rose_from}
 use Rattle.log_command.proofs.Ending.{ends_from, refused_ends, looked_only, moments_from}
 use Rattle.log_command.proofs.command.log_script.Goals as goal
 

@@ -3,7 +3,7 @@ use Rattle.std.proofs.Common.{◌≡◌, ◌∙◌, ◌*◌, ◌+◌, ◌∷◌,
 use Rattle.std.proofs.lemmas.List.{length-map}
 use Rattle.log_model.specs.Entry.{Entry, entry_frame}
 use Rattle.log_file.specs.Open.{IsOpen}
-use Rattle.command_ends.specs.LogFiles.{log_name}
+use Rattle.command_base.specs.LogFiles.{log_name}
 use Rattle.log_command.proofs.Committing.{frame_at, step_to, either_log, committed_on, open_first}
 use Rattle.disk_images.proofs.Moments.{more_time, at_once}
 use Rattle.log_command.specs.Logged.{HasFirst}

@@ -5,7 +5,7 @@ use Rattle.log_model.specs.Files.{content, IsAbsent}
 use Rattle.disk_images.specs.Crash.{Throughout, OnlyAt}
 use Rattle.disk_images.specs.OneFile.{Touches}
 use Rattle.disk_images.proofs.Moments.{more_time}
-use Rattle.recovery.specs.Change.{HasEntries}
+use Rattle.recovery_laws.specs.Change.{HasEntries}
 use Rattle.log_file.specs.Open.{OpenLog, IsOpen, IsStaged}
 use Rattle.log_ledger.specs.History.{History}
 use Rattle.log_device.specs.Bears.{Bears}

@@ -4,7 +4,7 @@ use Rattle.log_model.specs.declared.name.Name.{Name}
 use Rattle.log_model.specs.Files.{content}
 use Rattle.disk_images.specs.Crash.{Throughout}
 use Rattle.disk_images.proofs.Moments.{more_time}
-use Rattle.recovery.specs.Change.{RecoversSome}
+use Rattle.recovery_laws.specs.Change.{RecoversSome}
 use Rattle.log_device.specs.Bears.{Bears}
 use Rattle.log_device.specs.Keeps.{log_name}
 use Rattle.log_device.specs.Opened.{log_number}

@@ -2,8 +2,22 @@ use Rattle.std.proofs.Common.{◌<◌, ℕ, List, length, get_or, refl, sym, sub
 use Rattle.std.proofs.Math.Logic.{∥∥₁_map}
 use Rattle.log_ledger.specs.History.{committed_in, closed_in}
 use Rattle.log_device.specs.Whole.{disk_of, books_of, IsBegunAfter}
-use Rattle.log_service.proofs.Tied.{ties_committed, ties_archived, few_same, one_higher}
+use Rattle.log_service.proofs.Tied.{ties_committed, ties_archived, one_higher}
+use Rattle.log_service.proofs.Stored.{numbers_rolled, numbers_archived}
 use Rattle.log_service.proofs.archived.roll_archived.Goals as goal
+
+pub returns-in-Err-clause-numbers : goal.returns-in-Err-clause-numbers
+returns-in-Err-clause-numbers g c = numbers_rolled c.roll.result c.args.device.now c.roll.new.self c.roll.ensures.books
+
+pub returns-in-Ok-archive-clause-numbers : goal.returns-in-Ok-archive-clause-numbers
+returns-in-Ok-archive-clause-numbers g c =
+    numbers_archived c.archive.result c.args.device.now c.roll.new.self c.archive.new.self
+    (numbers_rolled c.roll.result c.args.device.now c.roll.new.self c.roll.ensures.books) c.archive.ensures.books c.archive.ensures.broken
+
+pub returns-in-Err-archive-clause-numbers : goal.returns-in-Err-archive-clause-numbers
+returns-in-Err-archive-clause-numbers g c =
+    numbers_archived c.archive.result c.args.device.now c.roll.new.self c.archive.new.self
+    (numbers_rolled c.roll.result c.args.device.now c.roll.new.self c.roll.ensures.books) c.archive.ensures.books c.archive.ensures.broken
 
 pub returns-in-Err-clause-ties : goal.returns-in-Err-clause-ties
 returns-in-Err-clause-ties g c told =
@@ -13,7 +27,7 @@ returns-in-Err-clause-ties g c told =
     let u = g.D.Disk.view (disk_of mid) in
     ties_committed old mid v u (g.met.D.Disk.is_true (disk_of old) told) (λ h whole. (11, (c.roll.ensures.rolls told h whole).any_moment))
     (λ h file whole is. (11, (c.roll.ensures.rolls told h whole).names file is))
-    (few_same (books_of old) (books_of mid) c.roll.ensures.books.next_store c.roll.ensures.books.stored) (λ h whole unbroken. (c.in-Err.ensures.rolls told h whole).refused unbroken)
+    c.roll.ensures.books.few (λ h whole unbroken. (c.in-Err.ensures.rolls told h whole).refused unbroken)
     record { synced = c.roll.ensures.books.synced_either; stored = λ _. c.roll.ensures.books.stored; closed = c.roll.ensures.books.closed_broken }
 
 pub archive-requires : goal.archive-requires
@@ -30,11 +44,11 @@ returns-in-Ok-archive-clause-ties g c told =
     ties_archived old mid new v u w (g.met.D.Disk.is_true (disk_of old) told) (g.met.D.Disk.is_true (disk_of mid) told) (λ h whole. (11, (c.roll.ensures.rolls told h whole).any_moment))
     (λ h whole. (closed_in (committed_in h) c.in-Ok.rolled.closed, (c.in-Ok.ensures.rolls told h whole).rolled.0, record { base = refl; first = λ r. refl; durable = refl; staged = refl }))
     (λ r is. subst (λ (l : List ℕ). 0 < get_or l r 0) (sym c.roll.ensures.books.next_store) is)
-    (few_same (books_of old) (books_of mid) c.roll.ensures.books.next_store c.roll.ensures.books.stored)
+    c.roll.ensures.books.few
     (λ h whole. (c.archive.ensures.archives told h whole).any_moment)
     (λ h file whole is. (length h.logs, one_higher h.kept.base (books_of mid).next_store file.name.number (length h.logs) u w ((c.archive.ensures.archives told h whole).names file is)))
     (λ h whole unbroken. let a = (c.in-Ok-archive.ensures.archives told h whole).archived in (a.0, a.1, a.3))
-    record { synced = c.archive.ensures.books.synced; stored = c.archive.ensures.books.stored; closed = c.archive.ensures.books.closed; next_store = c.archive.ensures.books.next_store }
+    record { synced = c.archive.ensures.books.synced; stored = c.archive.ensures.books.stored; closed = c.archive.ensures.books.closed; few = c.archive.ensures.books.few }
 
 pub returns-in-Err-archive-clause-ties : goal.returns-in-Err-archive-clause-ties
 returns-in-Err-archive-clause-ties g c told =
@@ -47,11 +61,11 @@ returns-in-Err-archive-clause-ties g c told =
     ties_archived old mid new v u w (g.met.D.Disk.is_true (disk_of old) told) (g.met.D.Disk.is_true (disk_of mid) told) (λ h whole. (11, (c.roll.ensures.rolls told h whole).any_moment))
     (λ h whole. (closed_in (committed_in h) c.in-Ok.rolled.closed, (c.in-Ok.ensures.rolls told h whole).rolled.0, record { base = refl; first = λ r. refl; durable = refl; staged = refl }))
     (λ r is. subst (λ (l : List ℕ). 0 < get_or l r 0) (sym c.roll.ensures.books.next_store) is)
-    (few_same (books_of old) (books_of mid) c.roll.ensures.books.next_store c.roll.ensures.books.stored)
+    c.roll.ensures.books.few
     (λ h whole. (c.archive.ensures.archives told h whole).any_moment)
     (λ h file whole is. (length h.logs, one_higher h.kept.base (books_of mid).next_store file.name.number (length h.logs) u w ((c.archive.ensures.archives told h whole).names file is)))
     (λ h whole unbroken. absurd (unbroken (c.in-Err-archive.ensures.broken.0 refl)))
-    record { synced = c.archive.ensures.books.synced; stored = c.archive.ensures.books.stored; closed = c.archive.ensures.books.closed; next_store = c.archive.ensures.books.next_store }
+    record { synced = c.archive.ensures.books.synced; stored = c.archive.ensures.books.stored; closed = c.archive.ensures.books.closed; few = c.archive.ensures.books.few }
 
 pub returns-in-Ok-archive-clause-rolled : goal.returns-in-Ok-archive-clause-rolled
 returns-in-Ok-archive-clause-rolled g c file is =

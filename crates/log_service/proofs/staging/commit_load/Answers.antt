@@ -1,4 +1,4 @@
-use Rattle.std.proofs.Common.{◌≡◌, ℕ, List, [], ◌++◌, length, sym, ap, subst, arith}
+use Rattle.std.proofs.Common.{◌≡◌, ℕ, List, [], ◌++◌, length, get_or, sym, ap, subst, arith}
 use Rattle.std.proofs.Math.Logic.{∥∥₁_map₂}
 use Rattle.log_model.specs.declared.name.Name.{Name}
 use Rattle.log_model.specs.Entry.{Entry}
@@ -72,3 +72,15 @@ returns-in-Err-clause-names g c told h es file whole held is =
     let now = c.stage_all.ensures.file file is in
     names_from g.D.Disk.view h.kept.base (books_of c.args.device.now).next_store (books_of mid).next_store (disk_of c.args.device.now) (disk_of mid) (g.D.Disk.view (disk_of c.sync.new.self)) now.0.name file.name
     c.stage_all.ensures.same.next_store c.stage_all.ensures.disk now.3 ((c.sync.ensures.syncs told (all_staged_in h es) staged).names now.0 now.1)
+
+pub returns-in-Ok-clause-few : goal.returns-in-Ok-clause-few
+returns-in-Ok-clause-few g c limit few = c.sync.ensures.books.few limit (c.stage_all.ensures.same.few limit few)
+
+pub returns-in-Err-clause-few : goal.returns-in-Err-clause-few
+returns-in-Err-clause-few g c limit few = c.sync.ensures.books.few limit (c.stage_all.ensures.same.few limit few)
+
+pub returns-in-Ok-clause-rises : goal.returns-in-Ok-clause-rises
+returns-in-Ok-clause-rises g c r = let same = ap (λ (l : List ℕ). get_or l r 0) c.stage_all.ensures.same.synced in omega (arith, same, c.sync.ensures.books.never_falls r)
+
+pub returns-in-Err-clause-rises : goal.returns-in-Err-clause-rises
+returns-in-Err-clause-rises g c r = let same = ap (λ (l : List ℕ). get_or l r 0) c.stage_all.ensures.same.synced in omega (arith, same, c.sync.ensures.books.never_falls r)

@@ -1,4 +1,5 @@
 use Rattle.std.proofs.Common.{◌≡◌, ℕ, List, [], ◌∷◌, ◌++◌, length, refl, sym, ap, ◌∙◌, subst, arith, append_assoc}
+use Rattle.std.proofs.Math.Logic.{∥∥₁_map}
 use Rattle.log_model.specs.Entry.{Entry}
 use Rattle.log_file.specs.Open.{OpenLog}
 use Rattle.log_trucks.specs.Held.{Held, held_of, AreHeld}
@@ -21,13 +22,13 @@ loop-truck-init g c = record {
   disk = refl;
   file = λ file is. (file, is, refl, refl);
   drawn = λ r. refl;
-  same = record { synced = refl; stored = refl; closed = refl; next_store = refl };
+  same = record { synced = refl; stored = refl; closed = refl; next_store = refl; few = λ limit few. few };
 }
 
 pub stage-requires-clause-entry : goal.stage-requires-clause-entry
 stage-requires-clause-entry g c =
     let was = c.loop-truck.invariant in
-    (subst AreSpelled c.in-Some.ensures.first was.spelled).0
+    ∥∥₁_map (subst AreSpelled c.in-Some.ensures.first was.spelled).0 (λ x. (x.0, record { entry = x.1.entry; bytes = x.1.bytes; region = x.1.region; number = x.1.number; families = x.1.families }))
 
 pub unreachable-requires : goal.unreachable-requires
 unreachable-requires g c =
@@ -73,5 +74,5 @@ loop-truck-preserved g c =
           let len = ap length here in
           (s.now, s.is, omega (arith, s.staged, w.2, len), s.name ∙ w.3);
       drawn = λ r. come_same (drawn_in (books_of new)) (onward (drawn_in (books_of old)) lone) drawn next r ∙ (ap (λ (l : List Held). come_to (drawn_in (books_of old)) l r) (sym here) ∙ was.drawn r);
-      same = record { synced = ok.books.synced ∙ was.same.synced; stored = ok.books.stored ∙ was.same.stored; closed = ok.books.closed ∙ was.same.closed; next_store = ok.books.next_store ∙ was.same.next_store };
+      same = record { synced = ok.books.synced ∙ was.same.synced; stored = ok.books.stored ∙ was.same.stored; closed = ok.books.closed ∙ was.same.closed; next_store = ok.books.next_store ∙ was.same.next_store; few = λ limit few. ok.books.few limit (was.same.few limit few) };
     }

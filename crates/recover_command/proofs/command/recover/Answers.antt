@@ -1,11 +1,11 @@
 use Rattle.std.proofs.Common.{Err, sym, ap, subst, ◌≡◌, ◌∙◌, ◌∷◌, []}
 use Rattle.disk_images.specs.Calls.{Rose}
 use Rattle.script_model.specs.Outputs.{recover_text}
-use Rattle.command_ends.specs.Invocation.{invocation}
-use Rattle.command_ends.specs.Status.{refusal_line, IfDamaged, IsDamageOf, IsReadingEnd, IsOrEarlier}
-use Rattle.command_ends.specs.declared.status.Status.{Status}
-use Rattle.command_ends.specs.declared.status.Status.TheVariants.{Damaged, DiskFault}
-use Rattle.command_ends.proofs.Readers.{lined}
+use Rattle.command_base.specs.Invocation.{invocation}
+use Rattle.command_base.specs.Status.{refusal_line, IfDamaged, IsDamageOf, IsReadingEnd, IsOrEarlier}
+use Rattle.command_base.specs.declared.status.Status.{Status}
+use Rattle.command_base.specs.declared.status.Status.TheVariants.{Damaged, DiskFault}
+use Rattle.command_base.proofs.Readers.{lined}
 use Rattle.recover_command.specs.Lines.{lines_from}
 use Rattle.recover_command.specs.Recovered.{EndsRecover}
 use Rattle.recover_command.proofs.Leaving.{recovered, opens_again}

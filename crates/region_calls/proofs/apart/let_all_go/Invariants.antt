@@ -13,7 +13,7 @@ invariant-letting g l = record {
   known : map knows l.passes.items ≡ map knows l.fn.passes.items;
   of : (the : Place) → AllOf the l.fn.passes.items → AllOf the l.passes.items;
   taken : (k : ℕ) → k < length l.yielded
-      → (base : Base) × (xs : List Line) × IsTaken g.N.Naming-3.base g.N.Naming-1.handlers g.N.Naming-2.ring (map knows l.fn.passes.items) l.places k base xs × (slice_index l.lasts k ≡ base.last);
+      → (base : Base) × (xs : List Line) × IsTaken g.N.VersionsNaming.region_base g.N.LockNaming.handlers g.N.ServiceNaming.ring (map knows l.fn.passes.items) l.places k base xs × (slice_index l.lasts k ≡ base.last);
   out : (j : ℕ) → length l.yielded ≤ j → j < length l.places → slice_get l.places j ≡ Some None;
   all : length l.places ≡ length l.fn.regions.items;
   rest : l.yielded ++ into_iter_items l.lock-iterator ≡ l.fn.regions.items;

@@ -44,11 +44,11 @@ taking-preserved g c =
     let ys = c.taking.yielded in
     let one : Taken = c.take_region-one.result in
     let old : List Taken = c.taking.taken.items in
-    let was : List (Pass g.row.N.Denot g.N.Naming-1) = c.args.passes.now.items in
+    let was : List (Pass g.row.N.Denot g.N.LockNaming) = c.args.passes.now.items in
     let done = c.take_region-one.ensures in
-    let bases = g.N.Naming-3.base in
-    let handlers = g.N.Naming-1.handlers in
-    let ring = g.N.Naming-2.ring in
+    let bases = g.N.VersionsNaming.region_base in
+    let handlers = g.N.LockNaming.handlers in
+    let ring = g.N.ServiceNaming.ring in
     let steps = c.in-Some.ensures.steps.0 in
     let longer = length-append ys (c.in-Some.lock ∷ []) in
     record {

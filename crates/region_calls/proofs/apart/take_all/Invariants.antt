@@ -11,7 +11,7 @@ abbrev pub invariant-taking : goal.invariant-taking
 invariant-taking g l = record {
   known : map knows l.passes.items ≡ map knows l.fn.passes.items;
   of : (the : Place) → AllOf the l.fn.passes.items → AllOf the l.passes.items;
-  taken : (k : ℕ) (t : Taken) → slice_get l.taken.items k ≡ Some t → IsTaken g.N.Naming-3.base g.N.Naming-1.handlers g.N.Naming-2.ring (map knows l.fn.passes.items) l.places k t.base t.lines.items;
+  taken : (k : ℕ) (t : Taken) → slice_get l.taken.items k ≡ Some t → IsTaken g.N.VersionsNaming.region_base g.N.LockNaming.handlers g.N.ServiceNaming.ring (map knows l.fn.passes.items) l.places k t.base t.lines.items;
   out : (j : ℕ) → length l.yielded ≤ j → j < length l.places → slice_get l.places j ≡ Some None;
   all : length l.places ≡ length l.fn.regions.items;
   rest : l.yielded ++ into_iter_items l.lock-iterator ≡ l.fn.regions.items;

@@ -22,12 +22,12 @@ returns-clause-taken g c =
     let here : pass.region - 1 ≡ place = omega (arith, parts.ring.1, of) in
     record {
       met = record {
-        base_is = base ∙ parts.base.1 ∙ ap g.N.Naming-3.base of;
+        base_is = base ∙ parts.base.1 ∙ ap g.N.VersionsNaming.region_base of;
         journal = subst (λ (r : ℕ). IsJournal r c.into_parts-base.result.0 (edits_in r c.into_parts-base.result.1.items)) of
             (subst (λ (b : Base). IsJournal c.into_part.result.state.region b (edits_in c.into_part.result.state.region c.into_parts-base.result.1.items)) (sym base)
             (subst (λ (l : List Line). IsJournal c.into_part.result.state.region c.into_part.result.state.base (edits_in c.into_part.result.state.region l)) (sym lines) parts.journal));
         limit = subst (λ (b : Base). last_in b c.into_parts-base.result.1.items < 2 ^ 48) (sym base) (subst (λ (l : List Line). last_in c.into_part.result.state.base l < 2 ^ 48) (sym lines) parts.limit);
-        owners = subst (λ (l : List Line). AreOwned g.N.Naming-1.handlers l) (sym lines) parts.owners;
+        owners = subst (λ (l : List Line). AreOwned g.N.LockNaming.handlers l) (sym lines) parts.owners;
         each = λ p has.
             let met = c.meet_all-met.ensures.met c.sure-2.ensures p has in
             subst (λ (b : Base). IsMet b (edits_in (place + 1) c.into_parts-base.result.1.items) p.handler (p.known (place + 1))) (sym (base ∙ ap (λ (q : Part). q.state.base) whole))

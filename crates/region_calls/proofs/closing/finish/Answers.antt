@@ -19,13 +19,13 @@ use Rattle.region_calls.proofs.closing.finish.Goals as goal
 pub take_all-taken-requires-clause-passes : goal.take_all-taken-requires-clause-passes
 take_all-taken-requires-clause-passes g c =
     let the = c.server.inside.service in
-    let of = subst (λ (p : Place). ArePassesOf p g.N.Naming-2.handlers c.args.passes) (sym c.server.view_is) c.requires.back.0.of in
+    let of = subst (λ (p : Place). ArePassesOf p g.N.LockNaming.handlers c.args.passes) (sym c.server.view_is) c.requires.back.0.of in
     (the, of.back, omega (arith, c.server.invariant.1.locks))
 
 pub shut-disk-requires-clause-back : goal.shut-disk-requires-clause-back
 shut-disk-requires-clause-back g c =
     let the = c.server.inside.service in
-    let of = subst (λ (p : Place). ArePassesOf p g.N.Naming-2.handlers c.args.passes) (sym c.server.view_is) c.requires.back.0.of in
+    let of = subst (λ (p : Place). ArePassesOf p g.N.LockNaming.handlers c.args.passes) (sym c.server.view_is) c.requires.back.0.of in
     c.take_all-taken.ensures.of the of.back
 
 pub shut-disk-requires-clause-passes : goal.shut-disk-requires-clause-passes
@@ -45,7 +45,7 @@ returns-clause-numbers g c =
     let done = c.take_all-taken.ensures in
     let cs = c.word_all-regions.result.items in
     let begun = c.server.invariant.0 in
-    let count : length cs ≡ g.N.Naming-1.name.regions = omega (arith, c.word_all-regions.ensures.count, done.count.0, c.server.invariant.1.locks, begun.all, ap (λ (n : Naming). n.regions) begun.named) in
+    let count : length cs ≡ g.N.ServerNaming.name.regions = omega (arith, c.word_all-regions.ensures.count, done.count.0, c.server.invariant.1.locks, begun.all, ap (λ (n : Naming). n.regions) begun.named) in
     subst (λ (n : ℕ). map (λ x. x.region) cs ≡ range_with_len 1 n) count
     (numbers_are cs 1 (λ k x at. let w = c.word_all-regions.ensures.each k x at in omega (arith, w.2.region)))
 
@@ -54,17 +54,17 @@ returns-clause-regions g c x has =
     let the = c.server.inside.service in
     let done = c.take_all-taken.ensures in
     let begun = c.server.invariant.0 in
-    let bases = g.N.Naming-4.base in
-    let handlers = g.N.Naming-2.handlers in
-    let ring = g.N.Naming-3.ring in
-    let back : List (Pass g.row.N.Denot g.N.Naming-2) = c.args.passes.back.items in
-    let now : List (Pass g.row.N.Denot g.N.Naming-2) = c.take_all-taken.new.passes.items in
+    let bases = g.N.VersionsNaming.region_base in
+    let handlers = g.N.LockNaming.handlers in
+    let ring = g.N.ServiceNaming.ring in
+    let back : List (Pass g.row.N.Denot g.N.LockNaming) = c.args.passes.back.items in
+    let now : List (Pass g.row.N.Denot g.N.LockNaming) = c.take_all-taken.new.passes.items in
     let passes : List ThePass = map knows back in
     let words : List ℕ = c.shut-disk.result.synced in
     let of = subst (λ (p : Place). ArePassesOf p handlers c.args.passes) (sym c.server.view_is) c.requires.back.0.of in
     let count : length c.take_all-taken.result.items ≡ the.regions = omega (arith, done.count.0, c.server.invariant.1.locks) in
     let made = made_at bases handlers ring passes c.take_all-taken.new.places the.regions words c.take_all-taken.result.items c.word_all-regions.result.items c.as_slice.result.now count c.as_slice.ensures done.taken c.word_all-regions.ensures.each x has in
-    closed_made bases handlers ring passes c.take_all-taken.new.places the.regions words g.N.Naming-1.name x (ap (λ (n : Naming). n.bases) begun.named) made c.requires.back.1
+    closed_made bases handlers ring passes c.take_all-taken.new.places the.regions words g.N.ServerNaming.name x (ap (λ (n : Naming). n.bases) begun.named) made c.requires.back.1
     (λ r low high p is. all_seen the now words c.shut-disk.result.broken (done.of the of.back) c.shut-disk.ensures.saw r low high p (subst (λ (l : List ThePass). Contains l p) (sym done.knows) is))
 
 pub returns-clause-survives : goal.returns-clause-survives
@@ -72,15 +72,15 @@ returns-clause-survives g c told x has =
     let the = c.server.inside.service in
     let done = c.take_all-taken.ensures in
     let begun = c.server.invariant.0 in
-    let bases = g.N.Naming-4.base in
-    let handlers = g.N.Naming-2.handlers in
-    let ring = g.N.Naming-3.ring in
-    let back : List (Pass g.row.N.Denot g.N.Naming-2) = c.args.passes.back.items in
+    let bases = g.N.VersionsNaming.region_base in
+    let handlers = g.N.LockNaming.handlers in
+    let ring = g.N.ServiceNaming.ring in
+    let back : List (Pass g.row.N.Denot g.N.LockNaming) = c.args.passes.back.items in
     let passes : List ThePass = map knows back in
     let words : List ℕ = c.shut-disk.result.synced in
     let count : length c.take_all-taken.result.items ≡ the.regions = omega (arith, done.count.0, c.server.invariant.1.locks) in
     let made = made_at bases handlers ring passes c.take_all-taken.new.places the.regions words c.take_all-taken.result.items c.word_all-regions.result.items c.as_slice.result.now count c.as_slice.ensures done.taken c.word_all-regions.ensures.each x has in
-    survives_made bases handlers ring passes c.take_all-taken.new.places the.regions words g.N.Naming-1.found g.N.Naming-3.base g.N.Naming-3.lasts begun.lasts_are (begun.alike told) (begun.recovered told) (g.D.Disk.view c.shut-disk.result.disk) c.shut-disk.result.broken x made
+    survives_made bases handlers ring passes c.take_all-taken.new.places the.regions words g.N.ServerNaming.found g.N.ServiceNaming.begun g.N.ServiceNaming.lasts begun.lasts_are (begun.alike told) (begun.recovered told) (g.D.Disk.view c.shut-disk.result.disk) c.shut-disk.result.broken x made
     (c.shut-disk.ensures.commits told)
 
 pub returns-clause-survived : goal.returns-clause-survived
@@ -88,40 +88,40 @@ returns-clause-survived g c told x has =
     let the = c.server.inside.service in
     let done = c.take_all-taken.ensures in
     let begun = c.server.invariant.0 in
-    let bases = g.N.Naming-4.base in
-    let handlers = g.N.Naming-2.handlers in
-    let ring = g.N.Naming-3.ring in
-    let back : List (Pass g.row.N.Denot g.N.Naming-2) = c.args.passes.back.items in
+    let bases = g.N.VersionsNaming.region_base in
+    let handlers = g.N.LockNaming.handlers in
+    let ring = g.N.ServiceNaming.ring in
+    let back : List (Pass g.row.N.Denot g.N.LockNaming) = c.args.passes.back.items in
     let passes : List ThePass = map knows back in
     let words : List ℕ = c.shut-disk.result.synced in
     let count : length c.take_all-taken.result.items ≡ the.regions = omega (arith, done.count.0, c.server.invariant.1.locks) in
     let made = made_at bases handlers ring passes c.take_all-taken.new.places the.regions words c.take_all-taken.result.items c.word_all-regions.result.items c.as_slice.result.now count c.as_slice.ensures done.taken c.word_all-regions.ensures.each x has in
-    survived_made bases handlers ring passes c.take_all-taken.new.places the.regions words g.N.Naming-1.found g.N.Naming-3.base g.N.Naming-3.lasts begun.lasts_are (begun.alike told) (begun.recovered told) g.N.Naming-3.start (g.D.Disk.view c.shut-disk.result.disk) x made
+    survived_made bases handlers ring passes c.take_all-taken.new.places the.regions words g.N.ServerNaming.found g.N.ServiceNaming.begun g.N.ServiceNaming.lasts begun.lasts_are (begun.alike told) (begun.recovered told) g.N.ServiceNaming.start (g.D.Disk.view c.shut-disk.result.disk) x made
     (c.shut-disk.ensures.since told)
 
 pub returns-clause-elapsed : goal.returns-clause-elapsed
 returns-clause-elapsed g c told =
     let begun = c.server.invariant.0 in
     let v = g.D.Disk.view c.shut-disk.result.disk in
-    let start = g.N.Naming-3.start in
-    let count : c.server.inside.service.regions ≡ g.N.Naming-1.name.regions = omega (arith, begun.all, ap (λ (n : Naming). n.regions) begun.named) in
+    let start = g.N.ServiceNaming.start in
+    let count : c.server.inside.service.regions ≡ g.N.ServerNaming.name.regions = omega (arith, begun.all, ap (λ (n : Naming). n.regions) begun.named) in
     ∥∥₁_map₂ (c.shut-disk.ensures.goes_on told) (c.shut-disk.ensures.others_since told) (λ on since.
-    subst (λ (n : ℕ). HasElapsed start g.N.Naming-3.past g.N.Naming-1.found n v) count
-    (elapsed_of start g.N.Naming-3.past g.N.Naming-1.found g.N.Naming-3.base v c.server.inside.service.regions (begun.alike told) on since))
+    subst (λ (n : ℕ). HasElapsed start g.N.ServiceNaming.past g.N.ServerNaming.found n v) count
+    (elapsed_of start g.N.ServiceNaming.past g.N.ServerNaming.found g.N.ServiceNaming.begun v c.server.inside.service.regions (begun.alike told) on since))
 
 pub returns-clause-leaves : goal.returns-clause-leaves
 returns-clause-leaves g c told =
     let begun = c.server.invariant.0 in
     let v = g.D.Disk.view c.shut-disk.result.disk in
-    let count : c.server.inside.service.regions ≡ g.N.Naming-1.name.regions = omega (arith, begun.all, ap (λ (n : Naming). n.regions) begun.named) in
+    let count : c.server.inside.service.regions ≡ g.N.ServerNaming.name.regions = omega (arith, begun.all, ap (λ (n : Naming). n.regions) begun.named) in
     ∥∥₁_map (c.shut-disk.ensures.leaves told) (λ l.
-    subst (λ (n : ℕ). Leaves g.N.Naming-1.found v c.shut-disk.result.broken n) count
-    (leaves_of g.N.Naming-1.found g.N.Naming-3.base v c.shut-disk.result.broken c.server.inside.service.regions (begun.cleared told) (begun.alike told) (begun.higher told) l))
+    subst (λ (n : ℕ). Leaves g.N.ServerNaming.found v c.shut-disk.result.broken n) count
+    (leaves_of g.N.ServerNaming.found g.N.ServiceNaming.begun v c.shut-disk.result.broken c.server.inside.service.regions (begun.cleared told) (begun.alike told) (begun.higher told) l))
 
 pub returns-clause-seen_broken : goal.returns-clause-seen_broken
 returns-clause-seen_broken g c p has =
     let the = c.server.inside.service in
     let done = c.take_all-taken.ensures in
-    let of = subst (λ (q : Place). ArePassesOf q g.N.Naming-2.handlers c.args.passes) (sym c.server.view_is) c.requires.back.0.of in
-    let now : List (Pass g.row.N.Denot g.N.Naming-2) = c.take_all-taken.new.passes.items in
+    let of = subst (λ (q : Place). ArePassesOf q g.N.LockNaming.handlers c.args.passes) (sym c.server.view_is) c.requires.back.0.of in
+    let now : List (Pass g.row.N.Denot g.N.LockNaming) = c.take_all-taken.new.passes.items in
     all_broken the now c.shut-disk.result.synced c.shut-disk.result.broken (done.of the of.back) c.shut-disk.ensures.saw p (subst (λ (l : List ThePass). Contains l p) (sym done.knows) has)

@@ -40,7 +40,7 @@ dealing-preserved g c =
         | inr (other, was) ↦ inv.rest k e (omega (arith, behind)) was
       ];
       count = length_set ds i new ∙ inv.count;
-      hands = subst (λ (l : List (RegionPass g.row.N.Denot g.N.Naming-1)). AreNewHands h l) (sym pushed)
+      hands = subst (λ (l : List (RegionPass g.row.N.Denot g.N.LockNaming)). AreNewHands h l) (sym pushed)
           (hands_more h c.dealing.hands.items c.next.result inv.hands (subst (λ n. IsNewHand (n + 1) h c.next.result) (sym inv.made) hand));
       made = ap length pushed ∙ omega (arith, length-append c.dealing.hands.items (c.next.result ∷ []), inv.made);
       room = omega (arith, inv.room, c.push_reserved.ensures.capacity);

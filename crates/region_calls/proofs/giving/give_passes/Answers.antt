@@ -16,8 +16,8 @@ put_back-requires g c =
 pub giving-preserved : goal.giving-preserved
 giving-preserved g c =
     let inv = c.giving.invariant in
-    let ys : List (Pass g.row.N.Denot g.N.Naming-1) = c.giving.yielded in
-    let p : Pass g.row.N.Denot g.N.Naming-1 = c.in-Some.pass in
+    let ys : List (Pass g.row.N.Denot g.N.LockNaming) = c.giving.yielded in
+    let p : Pass g.row.N.Denot g.N.LockNaming = c.in-Some.pass in
     let steps = c.in-Some.ensures.steps.0 in
     let n = ap length steps in
     let behind = c.put_back.ensures.back in
@@ -27,7 +27,7 @@ giving-preserved g c =
     record {
       of = λ the a b.
           let o = inv.of the a b in
-          let all = subst (λ (l : List (Pass g.row.N.Denot g.N.Naming-1)). AllOf the l) steps o.1 in
+          let all = subst (λ (l : List (Pass g.row.N.Denot g.N.LockNaming)). AllOf the l) steps o.1 in
           let more = ap length behind.0 ∙ length-append old.consumers.seats (p.seat.consumer ∷ []) in
           let too = ap length behind.1 ∙ length-append old.devices.seats (p.seat.device ∷ []) in (
             record {
@@ -42,7 +42,7 @@ giving-preserved g c =
           ∙ ap (λ (l : List Standing). l ++ p.seat.device ∷ []) inv.back
           ∙ append_assoc first (device_seats (seats_of ys)) (p.seat.device ∷ [])
           ∙ ap (λ (l : List Standing). first ++ l) (sym (passes_snoc ys p));
-      rest = append_assoc ys (p ∷ []) (into_iter_items c.next.new.self) ∙ ap (λ (l : List (Pass g.row.N.Denot g.N.Naming-1)). ys ++ l) (sym steps) ∙ inv.rest;
+      rest = append_assoc ys (p ∷ []) (into_iter_items c.next.new.self) ∙ ap (λ (l : List (Pass g.row.N.Denot g.N.LockNaming)). ys ++ l) (sym steps) ∙ inv.rest;
       len = omega (arith, c.in-Some.ensures.steps.1, n, inv.len);
     }
 

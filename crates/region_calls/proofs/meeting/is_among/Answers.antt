@@ -10,4 +10,4 @@ returns-then-passes-at g c t =
     let ps = c.args.passes.now in
     let x = c.index-passes-at.result in
     let low : c.seeking.at < length ps = omega (arith, c.seeking-test.true, c.seeking.auto.at-end) in
-    (knows x, map_contains (knows {N = g.row.N.Denot} {g = g.N.Naming-1}) ps c.seeking.at x (slice_get_read ps (length ps) c.seeking.at x refl low c.index-passes-at.is), ap (λ (p : Pass g.row.N.Denot g.N.Naming-1). p.handler) c.index-passes-at.is ∙ c.if-passes-at.true)
+    (knows x, map_contains (knows {N = g.row.N.Denot} {g = g.N.LockNaming}) ps c.seeking.at x (slice_get_read ps (length ps) c.seeking.at x refl low c.index-passes-at.is), ap (λ (p : Pass g.row.N.Denot g.N.LockNaming). p.handler) c.index-passes-at.is ∙ c.if-passes-at.true)

@@ -27,7 +27,7 @@ returns-then-not-meet_one-clause-knows g c =
     let inv = c.meeting.invariant in
     let low : c.meeting.at < length ps = omega (arith, c.meeting-test.true, c.len-at-end.ensures, c.args.passes.now.ok.0, inv.count) in
     let here = slice_get_read ps (length ps) c.meeting.at c.index_mut.result.now refl low c.index_mut.ensures.value in
-    map_set (knows {N = g.row.N.Denot} {g = g.N.Naming-1}) ps c.meeting.at c.meet_one.new.pass c.index_mut.result.now here c.meet_one.ensures.knows ∙ inv.known
+    map_set (knows {N = g.row.N.Denot} {g = g.N.LockNaming}) ps c.meeting.at c.meet_one.new.pass c.index_mut.result.now here c.meet_one.ensures.knows ∙ inv.known
 
 pub returns-then-not-meet_one-clause-of : goal.returns-then-not-meet_one-clause-of
 returns-then-not-meet_one-clause-of g c the all =
@@ -42,13 +42,13 @@ meeting-preserved g c =
     let ps = c.meeting.passes.items in
     let at = c.meeting.at in
     let inv = c.meeting.invariant in
-    let old : List (Pass g.row.N.Denot g.N.Naming-1) = c.args.passes.now.items in
+    let old : List (Pass g.row.N.Denot g.N.LockNaming) = c.args.passes.now.items in
     let low : at < length ps = omega (arith, c.meeting-test.true, c.len-at-end.ensures, c.args.passes.now.ok.0, inv.count) in
     let here = slice_get_read ps (length ps) at c.index_mut.result.now refl low c.index_mut.ensures.value in
     let s = c.args.locked.now.state in
     record {
       same = c.meet_one.ensures.same ∙ inv.same;
-      known = map_set (knows {N = g.row.N.Denot} {g = g.N.Naming-1}) ps at c.meet_one.new.pass c.index_mut.result.now here c.meet_one.ensures.knows ∙ inv.known;
+      known = map_set (knows {N = g.row.N.Denot} {g = g.N.LockNaming}) ps at c.meet_one.new.pass c.index_mut.result.now here c.meet_one.ensures.knows ∙ inv.known;
       of = λ the all. all_set the ps at c.meet_one.new.pass (inv.of the all) (c.meet_one.ensures.of the (all_get the ps at c.index_mut.result.now (inv.of the all) here));
       count = length_set ps at c.meet_one.new.pass ∙ inv.count;
       met = λ k p before is. elim (cases_lt k at) as (λ _. IsMet s.base (edits_in s.region s.lines) p.handler (p.known (c.args.place + 1))) [
@@ -56,7 +56,7 @@ meeting-preserved g c =
         | inr high ↦
             let same : k ≡ at = omega (arith, before, high) in
             let mine : knows c.index_mut.result.now ≡ p =
-            same_of (knows c.index_mut.result.now) p (sym (map_at (knows {N = g.row.N.Denot} {g = g.N.Naming-1}) ps at c.index_mut.result.now here) ∙ ap (λ (l : List ThePass). slice_get l at) inv.known ∙ ap (λ i. slice_get (map knows old) i) (sym same) ∙ is) in
+            same_of (knows c.index_mut.result.now) p (sym (map_at (knows {N = g.row.N.Denot} {g = g.N.LockNaming}) ps at c.index_mut.result.now here) ∙ ap (λ (l : List ThePass). slice_get l at) inv.known ∙ ap (λ i. slice_get (map knows old) i) (sym same) ∙ is) in
             subst (λ (q : ThePass). IsMet s.base (edits_in s.region s.lines) q.handler (q.known (c.args.place + 1))) mine
             (subst (λ (l : Part). IsMet l.state.base (edits_in l.state.region l.state.lines) (knows c.index_mut.result.now).handler ((knows c.index_mut.result.now).known (c.args.place + 1))) inv.same (c.meet_one.ensures.met (c.if-not-meet_one.false)))
       ];
@@ -66,4 +66,4 @@ pub returns-clause-met : goal.returns-clause-met
 returns-clause-met g c t p has =
     let inv = c.meeting.invariant in
     let r = contains_get (map knows c.args.passes.now.items) p has in
-    inv.met r.0 p (omega (arith, r.1, length-map c.args.passes.now.items (knows {N = g.row.N.Denot} {g = g.N.Naming-1}), c.meeting-test.false, c.len-at-end.ensures, c.args.passes.now.ok.0)) r.2
+    inv.met r.0 p (omega (arith, r.1, length-map c.args.passes.now.items (knows {N = g.row.N.Denot} {g = g.N.LockNaming}), c.meeting-test.false, c.len-at-end.ensures, c.args.passes.now.ok.0)) r.2

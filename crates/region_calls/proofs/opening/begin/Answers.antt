@@ -1,7 +1,7 @@
-use Rattle.std.proofs.Common.{◌≡◌, ℕ, List, length, map, take, refl, sym, ap, ◌∙◌, subst, arith}
+use Rattle.std.proofs.Common.{◌≡◌, ◌+◌, ◌^◌, ℕ, List, length, map, take, refl, sym, ap, ◌∙◌, subst, arith}
 use Rattle.std.proofs.lemmas.List.{length-take-le}
 use Rattle.crossbeam_queue.specs.Passes.{view}
-use Rattle.recovery.specs.Alike.{AllAlike}
+use Rattle.recovery_laws.specs.Alike.{AllAlike}
 use Rattle.disk_images.specs.Crash.{DiskView}
 use Rattle.log_model.specs.Files.{Files}
 use Rattle.log_device.specs.Opened.{IsOpened}
@@ -9,14 +9,14 @@ use Rattle.region_replay.specs.Ready.{Found}
 use Rattle.region_replay.specs.Cleared.{IsReady}
 use Rattle.region_replay.specs.Opened.{AreOf, AtMostOneHigher}
 use Rattle.log_ledger.specs.declared.base.RegionBase.{RegionBase}
-use Rattle.log_ledger.specs.Bases.{AreNumbersOf}
+use Rattle.log_ledger.specs.Bases.{AreRegions}
 use Rattle.log_ledger.specs.History.{started_in}
 use Rattle.log_service.specs.Begun.{AreNewParts}
 use Rattle.region_calls.specs.Bases.{AreBasesOf}
 use Rattle.region_calls.specs.Cleared.{AreCleared}
 use Rattle.region_calls.specs.Seeds.{base_of, bases_found, lasts_of, marks_from, flushed_of}
 use Rattle.region_calls.proofs.Marks.{flushed_in, bases_of}
-use Rattle.region_calls.proofs.Begun.{is_opened, moments, len_map, is_fresh, begins_as, few_stores}
+use Rattle.region_calls.proofs.Begun.{is_opened, moments, len_map, is_fresh, begins_as, few_marks}
 use Rattle.region_calls.proofs.opening.begin.Goals as goal
 
 -- the marks are those of the regions that were found
@@ -58,7 +58,7 @@ returns-in-Ok-start-clause-store g c =
       each = c.in-Ok.ensures.seeds.0;
       items = (c.in-Ok.ensures.items.0, subst (λ (l : List ℕ). AreNewParts rings.items.ring.id l rings.items.consumer.pass.table_id (view rings.items.consumer.pass) rings.items.passes) lasts c.in-Ok.ensures.items.1);
       loads = (c.in-Ok.ensures.loads.0, subst (λ (l : List ℕ). AreNewParts rings.loads.ring.id l rings.loads.consumer.pass.table_id (view rings.loads.consumer.pass) rings.loads.passes) lasts c.in-Ok.ensures.loads.1);
-      fresh = is_fresh n xs ms first d is firsts c.in-Ok-start.ensures.unbroken c.in-Ok-start.ensures.idle c.in-Ok-start.ensures.served c.in-Ok-start.ensures.drawn c.in-Ok-start.ensures.numbers.0;
+      fresh = is_fresh n xs ms first d is firsts c.in-Ok-start.ensures.unbroken c.in-Ok-start.ensures.idle c.in-Ok-start.ensures.served c.in-Ok-start.ensures.drawn c.in-Ok-start.ensures.numbers.0 c.in-Ok-start.ensures.numbers.1;
       begins = λ told.
           let v = g.D.Disk.view c.args.disk in
           let opened = opened_at v _ n xs ms is (c.requires.ready told) (c.requires.recovered told) c.requires.all in
@@ -66,7 +66,7 @@ returns-in-Ok-start-clause-store g c =
           ∣ (
             started_in v.files (flushed_in xs),
             begins_as n xs ms first d v.files (g.D.Disk.view d.disk) is firsts
-                (few_stores n xs ms d _ v.files is (c.requires.recovered told) c.in-Ok-start.ensures.next_store (subst (λ (l : List ℕ). AreNumbersOf (λ m. m.flushed) ms l) (sym c.in-Ok-start.ensures.numbers.1) c.in-Ok-start.ensures.drawn))
+                (λ limit up. c.in-Ok-start.ensures.few (limit + 2 ^ 48) (few_marks n xs ms _ v.files limit is (c.requires.recovered told) (subst AreRegions (sym c.as_slice.ensures.value) c.in-Ok.ensures.marks.1) up))
                 (c.in-Ok-start.ensures.started told (flushed_in xs) opened),
           ) ∣₁;
       alike = λ told. subst (λ e. AllAlike (g.D.Disk.view c.args.found.value).files (g.D.Disk.view e).files) (sym c.of-split.ensures) (c.requires.alike told);

@@ -1,5 +1,5 @@
 use Rattle.std.proofs.Common.{sym, subst}
-use Rattle.recovery.specs.Alike.{AllAlike}
+use Rattle.recovery_laws.specs.Alike.{AllAlike}
 use Rattle.region_replay.specs.Opened.{AtMostOneHigher}
 use Rattle.region_calls.proofs.opening.open.Goals as goal
 

@@ -28,5 +28,5 @@ returns-in-Ok-clause-puts g c =
     let n = c.args.service.now.regions in
     let at = c.args.at.now in
     let seat = c.args.seat.now in
-    puts_of (g.N.Naming-3.base at.viewer.region) at.viewer.region (is_sync c.args.durability) (put_answer c.put_in.result) (known_of n at seat) (known_of n c.put_in.new.at c.put_in.new.seat)
+    puts_of (g.N.VersionsNaming.region_base at.viewer.region) at.viewer.region (is_sync c.args.durability) (put_answer c.put_in.result) (known_of n at seat) (known_of n c.put_in.new.at c.put_in.new.seat)
     seat.device.knows.broken c.put_in.new.seat.device.knows.broken (line_of 0 c.in-Ok.job) (pending 0 c.args.caller c.args.time c.args.batch) (c.in-Ok.ensures.of 0) c.put_in.ensures.puts

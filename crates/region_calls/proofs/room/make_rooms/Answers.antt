@@ -12,7 +12,7 @@ making-preserved g c =
     let v = c.in_ok-room.room in
     let pushed = c.push_reserved.ensures.items in
     record {
-      rooms = subst (λ (l : List (Vec (RegionPass g.row.N.Denot g.N.Naming-1))). AreRooms c.args.regions l) (sym pushed) (rooms_more c.args.regions vs v inv.rooms c.in_ok-room.ensures.items c.in_ok-room.ensures.capacity);
+      rooms = subst (λ (l : List (Vec (RegionPass g.row.N.Denot g.N.LockNaming))). AreRooms c.args.regions l) (sym pushed) (rooms_more c.args.regions vs v inv.rooms c.in_ok-room.ensures.items c.in_ok-room.ensures.capacity);
       count = ap length pushed ∙ omega (arith, length-append vs (v ∷ []), inv.count);
       room = omega (arith, inv.room, c.push_reserved.ensures.capacity);
     }

@@ -8,7 +8,7 @@ use Rattle.region_calls.proofs.room.name_regions.Given as goal
 abbrev pub invariant-naming : goal.invariant-naming
 invariant-naming g l = record {
   seeds : AreSeeds l.handlers (length l.yielded + 1) (into_iter_items l.one-iterator);
-  named : AreNamedSeeds g.N.Naming-1.desk g.N.Naming-1.spent g.N.Naming-3.book g.N.Naming-3.base g.N.Naming-2.lasts (into_iter_items l.one-iterator);
+  named : AreNamedSeeds g.N.LockNaming.desk g.N.LockNaming.spent g.N.VersionsNaming.book g.N.VersionsNaming.region_base g.N.ServiceNaming.lasts (into_iter_items l.one-iterator);
   unlocked : AreFrom 1 l.unlocked.items;
   hands : AreDeals 1 l.handlers l.hands.items;
   regions : length l.unlocked.items ≡ length l.yielded;

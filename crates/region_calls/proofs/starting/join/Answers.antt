@@ -16,7 +16,7 @@ returns-clause-passes g c =
     let seats = c.args.parts.seats in
     let room = c.args.room in
     let h = c.args.handlers in
-    let H = g.N.Naming-2.handlers in
+    let H = g.N.LockNaming.handlers in
     let of : h ≡ H = c.requires.handlers.2 in
     let one = c.in-Some.ensures in
     let two = c.in-Some-next.ensures in
@@ -32,7 +32,7 @@ returns-clause-passes g c =
     let n2 = ap length two.1 ∙ length-append c.next-2.new.self.devices.seats (c.in-Some-next.second.device ∷ []) in
     let left : h ≡ H - 0 = omega (arith, of) in (
       refl,
-      ap (λ (l : List (Pass g.row.N.Denot g.N.Naming-2)). map knows l) c.requires.back.0,
+      ap (λ (l : List (Pass g.row.N.Denot g.N.LockNaming)). map knows l) c.requires.back.0,
       record {
         count = c.requires.regions.3;
         deals = subst (λ m. AreDeals 1 m room.hands.items) left c.requires.regions.2;
@@ -41,7 +41,7 @@ returns-clause-passes g c =
         consumers = cs2.0;
         devices = (ds2.0, omega (arith, n0, n1, n2, of));
         room = (omega (arith, c.requires.seats.room.0, one.2, two.2, of), omega (arith, c.requires.seats.room.1, one.3, two.3, of));
-        back = subst (λ (l : List (Pass g.row.N.Denot g.N.Naming-2)). AllOf place l) (sym c.requires.back.0) tt;
+        back = subst (λ (l : List (Pass g.row.N.Denot g.N.LockNaming)). AllOf place l) (sym c.requires.back.0) tt;
         within = (omega (arith, room.back.ok.0, ap length c.requires.back.0), omega (arith, c.requires.back.1, of));
       },
     )

@@ -27,7 +27,7 @@ unreachable-requires g c =
     let ys : List ℕ = c.locking.yielded in
     let inv = c.locking.invariant in
     let low : length ys < length c.locking.passes = omega (arith, inv.all, ap length inv.rest, length-append ys (into_iter_items c.locking.region-iterator), ap length c.in-Some.ensures.steps.0) in
-    let r = next_new g.N.Naming-2.ring g.N.Naming-2.lasts 0 (length ys) c.locking.passes inv.passes low in
+    let r = next_new g.N.ServiceNaming.ring g.N.ServiceNaming.lasts 0 (length ys) c.locking.passes inv.passes low in
     absurd (cc (sym c.in_default.is ∙ c.next-in-locking.ensures.given ∙ r.1))
 
 pub with_pass-requires : goal.with_pass-requires
@@ -35,8 +35,8 @@ with_pass-requires g c =
     let ys : List ℕ = c.locking.yielded in
     let x : ℕ = c.in-Some.region in
     let inv = c.locking.invariant in
-    let ring = g.N.Naming-2.ring in
-    let lasts = g.N.Naming-2.lasts in
+    let ring = g.N.ServiceNaming.ring in
+    let lasts = g.N.ServiceNaming.lasts in
     let low : length ys < length c.locking.passes = omega (arith, inv.all, ap length inv.rest, length-append ys (into_iter_items c.locking.region-iterator), ap length c.in-Some.ensures.steps.0) in
     let r = next_new ring lasts 0 (length ys) c.locking.passes inv.passes low in
     let regions = subst (λ (l : List ℕ). AreFrom (length ys + 1) l) c.in-Some.ensures.steps.0 inv.regions in
@@ -50,8 +50,8 @@ locking-preserved g c =
     let x : ℕ = c.in-Some.region in
     let rest : List ℕ = into_iter_items c.next.new.self in
     let inv = c.locking.invariant in
-    let ring = g.N.Naming-2.ring in
-    let lasts = g.N.Naming-2.lasts in
+    let ring = g.N.ServiceNaming.ring in
+    let lasts = g.N.ServiceNaming.lasts in
     let steps = c.in-Some.ensures.steps.0 in
     let low : length ys < length c.locking.passes = omega (arith, inv.all, ap length inv.rest, length-append ys (into_iter_items c.locking.region-iterator), ap length steps) in
     let r = next_new ring lasts 0 (length ys) c.locking.passes inv.passes low in
@@ -74,4 +74,4 @@ returns-clause-passes g c =
     let ys : List ℕ = c.locking.yielded in
     let inv = c.locking.invariant in
     let all : length ys ≡ length c.locking.passes = omega (arith, inv.all, ap length inv.rest, length-append ys (into_iter_items c.locking.region-iterator), inv.len, c.in-None.ensures.steps.0) in
-    ((none_left g.N.Naming-2.ring g.N.Naming-2.lasts 0 (length ys) c.locking.passes inv.passes all).1, inv.all ∙ sym c.requires.passes.1)
+    ((none_left g.N.ServiceNaming.ring g.N.ServiceNaming.lasts 0 (length ys) c.locking.passes inv.passes all).1, inv.all ∙ sym c.requires.passes.1)

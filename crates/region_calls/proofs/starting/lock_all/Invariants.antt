@@ -6,7 +6,7 @@ use Rattle.region_calls.proofs.starting.lock_all.Given as goal
 
 abbrev pub invariant-locking : goal.invariant-locking
 invariant-locking g l = record {
-  passes : AreNewAfter g.N.Naming-2.ring g.N.Naming-2.lasts 0 (length l.yielded) l.passes;
+  passes : AreNewAfter g.N.ServiceNaming.ring g.N.ServiceNaming.lasts 0 (length l.yielded) l.passes;
   all : length l.passes ≡ length l.fn.unlocked.items;
   regions : AreFrom (length l.yielded + 1) (into_iter_items l.region-iterator);
   rest : l.yielded ++ into_iter_items l.region-iterator ≡ l.fn.unlocked.items;

@@ -10,8 +10,8 @@ use Rattle.region_lock.proofs.flush.look.Goals as goal
 pub returns-then-seen-write_point-clause-looked : goal.returns-then-seen-write_point-clause-looked
 returns-then-seen-write_point-clause-looked g c =
     let i = c.looking.invariant in
-    let flushes = g.N.Naming-1.flushes in
-    let seen = last_in (g.N.Naming-3.base c.args.at.now.viewer.region) c.args.at.now.viewer.lines in
+    let flushes = g.N.LockNaming.flushes in
+    let seen = last_in (g.N.VersionsNaming.region_base c.args.at.now.viewer.region) c.args.at.now.viewer.lines in
     let there : c.deref_mut.result.now.state.region ≡ c.args.at.now.viewer.region = ap (λ (p : Part). p.state.region) (c.deref_mut.ensures.value ∙ sym c.deref.ensures) ∙ sym c.region.ensures ∙ c.if-region.true ∙ c.region-region.ensures in
     let point : write_point c.deref_mut.result.now.state ≡ c.write_point.result = ap (λ (p : Part). write_point p.state) (c.deref_mut.ensures.value ∙ sym c.deref-then-region.ensures) ∙ sym c.write_point.ensures.point in
     let within : seen ≤ write_point c.deref_mut.result.now.state = omega (arith, c.seen-seen.ensures, c.if-seen-write_point.true, point) in

@@ -30,5 +30,5 @@ attempt-requires-clause-caller g c =
 pub returns-in-Ok-clause-drawn : goal.returns-in-Ok-clause-drawn
 returns-in-Ok-clause-drawn g c =
     let i = c.trying.invariant in
-    let point = ap (λ (b : Beginning). last_in (g.N.Naming-3.base b.region) b.lines) i.0.0 in
+    let point = ap (λ (b : Beginning). last_in (g.N.VersionsNaming.region_base b.region) b.lines) i.0.0 in
     drawn_from _ _ c.trying.job c.args.job _ _ _ _ _ _ c.in-Ok.drawn _ point i.6 i.1 i.2 c.in-Ok.ensures.drawn

@@ -28,7 +28,7 @@ returns-then-not-await_log-clause-puts g c =
     let below : AreBelow n own = subst (λ (m : ℕ). AreBelow m own) (sym nn) d.4 in
     let whole = not_before c.args.seat.now.device.knows.broken c.broken.new.seat.device.knows.broken (λ b. (c.broken.ensures.later.fault b).0) (sym c.broken.ensures.broken ∙ c.if-broken.false) in
     let words = later_trans _ _ c.await_log.new.seat (later_trans c.args.seat.now c.broken.new.seat c.draw.new.seat c.broken.ensures.later c.draw.ensures.later) c.await_log.ensures.later in
-    let base = g.N.Naming-3.base c.args.at.now.viewer.region in
+    let base = g.N.VersionsNaming.region_base c.args.at.now.viewer.region in
     let ended = c.end-left in
     let same : ended.new.at.viewer.region ≡ c.args.at.now.viewer.region = ended.ensures.pass.0 ∙ ap (λ (b : Beginning). b.region) c.draw.ensures.same.0 in
     let begins : IsPrefix c.args.at.now.viewer.lines ended.new.at.viewer.lines = subst (λ (b : Beginning). IsPrefix b.lines ended.new.at.viewer.lines) c.draw.ensures.same.0 ended.ensures.lines in
@@ -49,14 +49,14 @@ returns-in-Nothing-clause-puts g c =
     let below : AreBelow n own = subst (λ (m : ℕ). AreBelow m own) (sym nn) d.4 in
     let whole = not_before c.args.seat.now.device.knows.broken c.broken.new.seat.device.knows.broken (λ b. (c.broken.ensures.later.fault b).0) (sym c.broken.ensures.broken ∙ c.if-broken.false) in
     let words = later_trans _ _ c.await_log.new.seat (later_trans c.args.seat.now c.broken.new.seat c.draw.new.seat c.broken.ensures.later c.draw.ensures.later) c.await_log.ensures.later in
-    let base = g.N.Naming-3.base c.args.at.now.viewer.region in
+    let base = g.N.VersionsNaming.region_base c.args.at.now.viewer.region in
     let ended = c.end-left-2 in
     let same : ended.new.at.viewer.region ≡ c.args.at.now.viewer.region = ended.ensures.pass.0 ∙ ap (λ (b : Beginning). b.region) c.draw.ensures.same.0 in
     let begins : IsPrefix c.args.at.now.viewer.lines ended.new.at.viewer.lines = subst (λ (b : Beginning). IsPrefix b.lines ended.new.at.viewer.lines) c.draw.ensures.same.0 ended.ensures.lines in
     let synced : is_sync c.args.durability ≡ true → n ≤ seen_synced c.await_log.new.seat.device.knows c.args.at.now.viewer.region = λ s.
     subst (λ (k : ℕ). n ≤ seen_synced c.await_log.new.seat.device.knows k) c.region-region.ensures (c.if-not-await_log.ensures.logged s) in
     let seen : HasSeen base n ended.new.at.hand.record.list ended.new.at.viewer.lines = subst (λ (m : ℕ). HasSeen base m ended.new.at.hand.record.list ended.new.at.viewer.lines) (sym nn)
-    (subst (λ (k : ℕ). HasSeen (g.N.Naming-3.base k) c.in_ok-entry.entry ended.new.at.hand.record.list ended.new.at.viewer.lines) same (ended.ensures.seen c.in-Nothing.is)) in
+    (subst (λ (k : ℕ). HasSeen (g.N.VersionsNaming.region_base k) c.in_ok-entry.entry ended.new.at.hand.record.list ended.new.at.viewer.lines) same (ended.ensures.seen c.in-Nothing.is)) in
     put_at c.args.service.now.regions base job.time c.args.at.now.viewer.region ended.new.at.viewer.region n (is_sync c.args.durability) (arc_value job.batch) job.caller (PutOk n) own c.draw.new.at.hand.record.list ended.new.at.hand.record.list
     c.args.at.now.viewer.lines ended.new.at.viewer.lines c.args.at.now.told.record.list ended.new.at.told.record.list c.args.seat.now c.await_log.new.seat
     same drew ended.ensures.own (ended.ensures.told ∙ d.1) begins words (omega (arith, d.2, nn)) below refl refl (λ m e. absurd (cc e)) (λ m e. seen) (λ s e. synced s) (λ f. absurd f) whole
@@ -72,7 +72,7 @@ returns-in-Ok-clause-puts g c =
     let below : AreBelow n own = subst (λ (m : ℕ). AreBelow m own) (sym nn) d.4 in
     let whole = not_before c.args.seat.now.device.knows.broken c.broken.new.seat.device.knows.broken (λ b. (c.broken.ensures.later.fault b).0) (sym c.broken.ensures.broken ∙ c.if-broken.false) in
     let words = later_trans _ _ c.await_log.new.seat (later_trans c.args.seat.now c.broken.new.seat c.draw.new.seat c.broken.ensures.later c.draw.ensures.later) c.await_log.ensures.later in
-    let base = g.N.Naming-3.base c.args.at.now.viewer.region in
+    let base = g.N.VersionsNaming.region_base c.args.at.now.viewer.region in
     let ended = c.end-left-2 in
     let same : ended.new.at.viewer.region ≡ c.args.at.now.viewer.region = ended.ensures.pass.0 ∙ ap (λ (b : Beginning). b.region) c.draw.ensures.same.0 in
     let begins : IsPrefix c.args.at.now.viewer.lines ended.new.at.viewer.lines = subst (λ (b : Beginning). IsPrefix b.lines ended.new.at.viewer.lines) c.draw.ensures.same.0 ended.ensures.lines in
@@ -85,7 +85,7 @@ returns-in-Ok-clause-puts g c =
     let first = c.if-not-await_log.ensures.logged s in
     let second = c.show.ensures.later.words (c.region-region.result - 1) in
     subst (λ (k : ℕ). n ≤ seen_synced c.show.new.seat.device.knows k) c.region-region.ensures (omega (arith, first, second)) in
-    let seen : HasSeen base n c.show.new.at.hand.record.list c.show.new.at.viewer.lines = subst (λ (k : ℕ). HasSeen (g.N.Naming-3.base k) n c.show.new.at.hand.record.list c.show.new.at.viewer.lines) region c.in-Ok.ensures.seen in
+    let seen : HasSeen base n c.show.new.at.hand.record.list c.show.new.at.viewer.lines = subst (λ (k : ℕ). HasSeen (g.N.VersionsNaming.region_base k) n c.show.new.at.hand.record.list c.show.new.at.viewer.lines) region c.in-Ok.ensures.seen in
     put_at c.args.service.now.regions base job.time c.args.at.now.viewer.region c.show.new.at.viewer.region n (is_sync c.args.durability) (arc_value job.batch) job.caller (PutOk n) own c.draw.new.at.hand.record.list c.show.new.at.hand.record.list
     c.args.at.now.viewer.lines c.show.new.at.viewer.lines c.args.at.now.told.record.list c.show.new.at.told.record.list c.args.seat.now c.show.new.seat
     region drew done told later all (omega (arith, d.2, nn)) below refl refl (λ m e. absurd (cc e)) (λ m e. seen) (λ s e. synced s) (λ f. absurd f) whole
@@ -101,7 +101,7 @@ returns-in-Err-clause-puts g c =
     let below : AreBelow n own = subst (λ (m : ℕ). AreBelow m own) (sym nn) d.4 in
     let whole = not_before c.args.seat.now.device.knows.broken c.broken.new.seat.device.knows.broken (λ b. (c.broken.ensures.later.fault b).0) (sym c.broken.ensures.broken ∙ c.if-broken.false) in
     let words = later_trans _ _ c.await_log.new.seat (later_trans c.args.seat.now c.broken.new.seat c.draw.new.seat c.broken.ensures.later c.draw.ensures.later) c.await_log.ensures.later in
-    let base = g.N.Naming-3.base c.args.at.now.viewer.region in
+    let base = g.N.VersionsNaming.region_base c.args.at.now.viewer.region in
     let ended = c.end-left-2 in
     let same : ended.new.at.viewer.region ≡ c.args.at.now.viewer.region = ended.ensures.pass.0 ∙ ap (λ (b : Beginning). b.region) c.draw.ensures.same.0 in
     let begins : IsPrefix c.args.at.now.viewer.lines ended.new.at.viewer.lines = subst (λ (b : Beginning). IsPrefix b.lines ended.new.at.viewer.lines) c.draw.ensures.same.0 ended.ensures.lines in

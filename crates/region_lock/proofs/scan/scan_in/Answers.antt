@@ -9,12 +9,12 @@ use Rattle.region_lock.proofs.scan.scan_in.Goals as goal
 
 pub returns-in_default-clause-scans : goal.returns-in_default-clause-scans
 returns-in_default-clause-scans g c n seat =
-    scan_none n (g.N.Naming-2.base c.args.at.now.viewer.region) c.args.from.now c.args.to.now _ _ _ _ _ _ _ _ seat
+    scan_none n (g.N.VersionsNaming.region_base c.args.at.now.viewer.region) c.args.from.now c.args.to.now _ _ _ _ _ _ _ _ seat
     c.view_in.ensures.region (ap (λ (h : HandView Line). h.record.list) c.view_in.ensures.hand.0) (ap (λ (h : HandView ℕ). h.record.list) c.view_in.ensures.hand.1) c.view_in.ensures.later
 
 pub returns-clause-scans : goal.returns-clause-scans
 returns-clause-scans g c n seat =
-    scan_none n (g.N.Naming-2.base c.args.at.now.viewer.region) c.args.from.now c.args.to.now _ _ _ _ _ _ _ _ seat
+    scan_none n (g.N.VersionsNaming.region_base c.args.at.now.viewer.region) c.args.from.now c.args.to.now _ _ _ _ _ _ _ _ seat
     c.view_in.ensures.region (ap (λ (h : HandView Line). h.record.list) c.view_in.ensures.hand.0) (ap (λ (h : HandView ℕ). h.record.list) c.view_in.ensures.hand.1) c.view_in.ensures.later
 
 pub returns-in-Ok-cells_of-clause-scans : goal.returns-in-Ok-cells_of-clause-scans
@@ -23,7 +23,7 @@ returns-in-Ok-cells_of-clause-scans g c n seat =
     let from = c.args.from.now in
     let to = c.args.to.now in
     let v : Shown = arc_value c.in-Ok.version in
-    let base = g.N.Naming-2.base c.args.at.now.viewer.region in
+    let base = g.N.VersionsNaming.region_base c.args.at.now.viewer.region in
     let lines = c.view_in.new.at.viewer.lines in
     let of : v.base ≡ base = c.in-Ok.ensures.version.0 in
     let cut : v.cut ≡ lines = c.in-Ok.ensures.version.1 in

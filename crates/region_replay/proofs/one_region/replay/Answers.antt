@@ -6,7 +6,7 @@ use Rattle.log_model.specs.declared.name.NameKind.TheVariants as kinds
 use Rattle.log_model.specs.Files.{Files, content, IsPresent}
 use Rattle.disk_images.specs.Crash.{IsImageNow}
 use Rattle.disk_images.proofs.Moments.{joined, weaker}
-use Rattle.recovery.specs.Alike.{AllAlike}
+use Rattle.recovery_laws.specs.Alike.{AllAlike}
 use Rattle.found_files.specs.declared.found.RegionFinding.{RegionFinding}
 use Rattle.found_files.specs.OfRegion.{IsDamageIn}
 use Rattle.found_files.proofs.Sound.{of_same_files}

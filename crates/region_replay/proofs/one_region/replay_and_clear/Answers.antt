@@ -1,7 +1,7 @@
 use Rattle.std.proofs.Common.{◌+◌, ◌∙◌, sym, ap, subst}
 use Rattle.log_model.specs.Files.{Files, content}
 use Rattle.disk_images.proofs.Moments.{joined}
-use Rattle.recovery.specs.Alike.{AllAlike}
+use Rattle.recovery_laws.specs.Alike.{AllAlike}
 use Rattle.region_replay.specs.Ready.{IsOf}
 use Rattle.region_replay.proofs.one_region.replay_and_clear.Goals as goal
 

@@ -2,7 +2,7 @@ use Rattle.std.proofs.Common.{◌≡◌, ◌∙◌, IsTrue, refl, sym, ap, subst
 use Rattle.log_model.specs.declared.name.Name.{Name}
 use Rattle.log_model.specs.Files.{content}
 use Rattle.disk_images.proofs.Moments.{at_once}
-use Rattle.recovery.specs.Alike.{AllAlike}
+use Rattle.recovery_laws.specs.Alike.{AllAlike}
 use Rattle.region_replay.specs.Names.{store_name}
 use Rattle.region_replay.specs.Ready.{IsOf}
 use Rattle.region_replay.proofs.Passing.{else_same}

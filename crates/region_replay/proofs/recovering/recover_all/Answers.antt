@@ -3,8 +3,8 @@ use Rattle.std.proofs.lemmas.Result.{on_ok_weaker}
 use Rattle.log_model.specs.declared.name.Name.{Name}
 use Rattle.disk_images.proofs.Moments.{joined, weaker}
 use Rattle.disk_images.proofs.Settled.{there_of}
-use Rattle.recovery.specs.Alike.{AllAlike}
-use Rattle.recovery.proofs.Turns.{in_turn}
+use Rattle.recovery_laws.specs.Alike.{AllAlike}
+use Rattle.recovery_laws.proofs.Turns.{in_turn}
 use Rattle.wal_split.specs.Moments.{WasOrAlike}
 use Rattle.wal_split.specs.Logs.{old_name}
 use Rattle.region_replay.proofs.recovering.recover_all.Goals as goal

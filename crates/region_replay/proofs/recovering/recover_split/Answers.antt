@@ -1,6 +1,6 @@
 use Rattle.std.proofs.Common.{IsTrue, List, sym, subst}
 use Rattle.disk_images.proofs.Moments.{at_once}
-use Rattle.recovery.specs.Alike.{AllAlike}
+use Rattle.recovery_laws.specs.Alike.{AllAlike}
 use Rattle.region_replay.specs.Opened.{AreOf}
 use Rattle.region_replay.specs.Ready.{Found}
 use Rattle.region_replay.proofs.AllFound.{each_in_order, are_apart, are_all_found, one_above, all_told}

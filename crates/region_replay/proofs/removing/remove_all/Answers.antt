@@ -4,7 +4,7 @@ use Rattle.std.proofs.lemmas.List.Elements.{Contains-get_or}
 use Rattle.log_model.specs.declared.name.Name.{Name}
 use Rattle.log_model.specs.declared.name.NameKind.TheVariants as kinds
 use Rattle.disk_images.proofs.Moments.{more_time}
-use Rattle.recovery.specs.Alike.{AllAlike}
+use Rattle.recovery_laws.specs.Alike.{AllAlike}
 use Rattle.region_replay.proofs.Leaving.{none_gone, same_now, moments_on, one_gone, all_taken, all_else}
 use Rattle.region_replay.proofs.removing.remove_all.Goals as goal
 

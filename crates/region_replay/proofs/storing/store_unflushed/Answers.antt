@@ -2,7 +2,7 @@ use Rattle.std.proofs.Common.{ℕ, ◌+◌, Err, sym, ap, subst, ◌∙◌, leng
 use Rattle.disk_images.specs.Crash.{Throughout}
 use Rattle.flush_snapshot.specs.Cut.{ordered_cells}
 use Rattle.file_base.specs.declared.error.FileRefusal.{FileRefusal}
-use Rattle.recovery.specs.Alike.{AllAlike}
+use Rattle.recovery_laws.specs.Alike.{AllAlike}
 use Rattle.region_replay.proofs.Cutting.{cut_moments, cut_held, cut_flushes, none_written}
 use Rattle.region_replay.proofs.storing.store_unflushed.Goals as goal
 

@@ -1,7 +1,7 @@
 use Rattle.std.proofs.Common.{◌+◌, ◌∙◌, ap}
 use Rattle.log_model.specs.Files.{Files, content}
 use Rattle.disk_images.proofs.Moments.{joined}
-use Rattle.recovery.specs.Alike.{AllAlike}
+use Rattle.recovery_laws.specs.Alike.{AllAlike}
 use Rattle.disk_images.proofs.Moments.{at_end}
 use Rattle.region_replay.proofs.InTurn.{none_logged, ready}
 use Rattle.region_replay.proofs.whole.replay_all.Goals as goal

@@ -5,7 +5,7 @@ use Rattle.region_versions.proofs.front.append.Goals as goal
 
 pub compare_exchange-found-requires : goal.compare_exchange-found-requires
 compare_exchange-found-requires g c =
-    let h = c.requires.head ∙ ap (λ (b : Beginning). head_of (g.N.Naming.book b.region)) (sym c.front.view_is) in
+    let h = c.requires.head ∙ ap (λ (b : Beginning). head_of (g.N.VersionsNaming.book b.region)) (sym c.front.view_is) in
     let offer = c.plain-offer.ensures in
     let pen = c.no_pen-pen.ensures in (
       ap (λ w. w.tracked) h,

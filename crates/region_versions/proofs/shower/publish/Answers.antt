@@ -13,8 +13,8 @@ publish_as-requires g c next is =
     let o = c.in-Ok.ensures in
     let y : state_of next ≡ state_of c.args.next = is ∙ after_pending (state_of c.append.new.self.desk.shown.value) (drop c.append.new.self.behind c.append.new.self.log.items) (drop c.args.writer.behind c.args.writer.log.items) c.args.next o.pending in
     let up : IsPrefix (cut c.append.new.self.desk.shown.value) (cut next) = rw (ap (λ (s : State). s.version.cut) y, o.desk) c.requires.later in
-    let same : IsOf g.N.Naming.book g.N.Naming.base next = rw (ap (λ (s : State). s.seen.book) y, ap (λ (s : State). s.version.base) y, ap (λ (s : State). s.region) y) c.requires.of in
-    rises g.N.Naming.book g.N.Naming.base c.append.new.self.desk.place.id (view c.append.new.self.desk.place) c.append.new.self.desk.shown.value next same up
+    let same : IsOf g.N.VersionsNaming.book g.N.VersionsNaming.region_base next = rw (ap (λ (s : State). s.seen.book) y, ap (λ (s : State). s.version.base) y, ap (λ (s : State). s.region) y) c.requires.of in
+    rises g.N.VersionsNaming.book g.N.VersionsNaming.region_base c.append.new.self.desk.place.id (view c.append.new.self.desk.place) c.append.new.self.desk.shown.value next same up
 
 pub returns : goal.returns
 returns g c = elim c.match-append.branch [

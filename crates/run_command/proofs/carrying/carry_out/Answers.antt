@@ -7,7 +7,7 @@ use Rattle.region_calls.specs.Store.{bases_of, disk_found, disk_now, handlers_of
 use Rattle.run_model.specs.Closed.{flushes_in}
 use Rattle.wal_split.specs.Moments.{During, WasOrAlike}
 use Rattle.run_model.specs.Headline.{KeepsFound, KeepsThroughout}
-use Rattle.command_ends.proofs.Endings.{rose_from}
+use Rattle.command_base.proofs.Endings.{rose_from}
 use Rattle.script_run.specs.Rooms.{script_in}
 use Rattle.script_run.proofs.Elapsed.{opened_throughout}
 use Rattle.run_command.proofs.Leaving.{all_named, stays_throughout, untouched, closed_ran, not_opened}

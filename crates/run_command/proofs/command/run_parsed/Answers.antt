@@ -1,9 +1,9 @@
 use Rattle.std.proofs.Common.{◌≡◌, [], ◌∷◌, sym, ap, ◌∙◌, subst}
 use Rattle.disk_images.specs.Calls.{Rose}
 use Rattle.recover_command.specs.Recovered.{IsStoreDamage}
-use Rattle.command_ends.specs.Status.{refusal_line, IfDamaged, IsDamageOf, IsOrEarlier}
-use Rattle.command_ends.specs.declared.status.Status.{Status}
-use Rattle.command_ends.specs.declared.status.Status.TheVariants.{Damaged, DiskFault}
+use Rattle.command_base.specs.Status.{refusal_line, IfDamaged, IsDamageOf, IsOrEarlier}
+use Rattle.command_base.specs.declared.status.Status.{Status}
+use Rattle.command_base.specs.declared.status.Status.TheVariants.{Damaged, DiskFault}
 use Rattle.run_command.specs.Ends.{IsParsedEnd, IsRunComplete}
 use Rattle.run_command.proofs.Standing.{closed_ends, left_ends, refused_ends}
 use Rattle.run_command.proofs.Telling.{report_refuses, report_undamaged, report_damage, report_parsed, report_complete, memory_first, refused_parsed, refused_fault, refused_leaves, refused_damage, refused_first, refused_complete}

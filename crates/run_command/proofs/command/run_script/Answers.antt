@@ -2,11 +2,11 @@ use Rattle.std.proofs.Common.{[], ◌∷◌, Err, sym, ap, subst}
 use Rattle.disk_images.specs.Calls.{Rose}
 use Rattle.script_model.specs.Script.{script_fault}
 use Rattle.script_model.specs.declared.command.Command.TheVariants.{Run}
-use Rattle.command_ends.specs.Invocation.{invocation}
-use Rattle.command_ends.specs.Status.{IsOrEarlier}
-use Rattle.command_ends.specs.declared.status.Status.{Status}
-use Rattle.command_ends.specs.declared.status.Status.TheVariants.{Damaged, DiskFault, SourceFault}
-use Rattle.command_ends.proofs.Endings.{same_disk}
+use Rattle.command_base.specs.Invocation.{invocation}
+use Rattle.command_base.specs.Status.{IsOrEarlier}
+use Rattle.command_base.specs.declared.status.Status.{Status}
+use Rattle.command_base.specs.declared.status.Status.TheVariants.{Damaged, DiskFault, SourceFault}
+use Rattle.command_base.proofs.Endings.{same_disk}
 use Rattle.run_command.specs.Ends.{RunEnds, IsRunComplete}
 use Rattle.run_command.proofs.Leaving.{stays_throughout}
 use Rattle.run_command.proofs.Telling.{run_ends, run_leaves, run_end, run_script_right, run_source, wider, input_ends, input_first, input_complete}

@@ -9,17 +9,17 @@ use Rattle.script_handlers.proofs.getting.get_row.Goals as goal
 
 pub returns-in_default-clause-gets : goal.returns-in_default-clause-gets
 returns-in_default-clause-gets g c =
-    scans_nothing g.N.Naming-1.name (Newest c.args.versions) c.args.region c.args.row.now (c.args.row.now ++ 0 ∷ []) (knows c.args.pass.now)
+    scans_nothing g.N.ServerNaming.name (Newest c.args.versions) c.args.region c.args.row.now (c.args.row.now ++ 0 ∷ []) (knows c.args.pass.now)
 
 pub of_get-requires : goal.of_get-requires
 of_get-requires g c = record {
-  order = scan_rises g.N.Naming-1.name c.args.region c.as_slice-row.result.now c.as_slice.result.now (knows c.args.pass.now) (knows c.scan-scanned.new.pass) c.scan-scanned.result
+  order = scan_rises g.N.ServerNaming.name c.args.region c.as_slice-row.result.now c.as_slice.result.now (knows c.args.pass.now) (knows c.scan-scanned.new.pass) c.scan-scanned.result
       c.scan-scanned.ensures.scans;
 }
 
 pub returns-clause-gets : goal.returns-clause-gets
 returns-clause-gets g c =
-    let name = g.N.Naming-1.name in
+    let name = g.N.ServerNaming.name in
     let old = knows c.args.pass.now in
     let new = knows c.scan-scanned.new.pass in
     let row : c.as_slice-row.result.now ≡ c.args.row.now = c.as_slice-row.ensures in

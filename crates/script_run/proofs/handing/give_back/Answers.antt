@@ -12,7 +12,7 @@ pub put_back-requires-clause-of : goal.put_back-requires-clause-of
 put_back-requires-clause-of g c =
     let place = c.requires.of.0 in
     let o = c.loop-handler.invariant.of place c.requires.of.1 c.requires.of.2 in
-    (place, o.0, (subst (λ (l : List (Handler (Pass g.row.N.Denot g.N.Naming-1))). AllOfPlace place l) c.in-Some.ensures.steps.0 o.1).0)
+    (place, o.0, (subst (λ (l : List (Handler (Pass g.row.N.Denot g.N.LockNaming))). AllOfPlace place l) c.in-Some.ensures.steps.0 o.1).0)
 
 pub loop-handler-preserved : goal.loop-handler-preserved
 loop-handler-preserved g c =
@@ -29,7 +29,7 @@ loop-handler-preserved g c =
       spent = c.first_of-first.ensures ∙ ap (λ o. first_of o (spent_in h)) inv.spent ∙ sym (ap first_of_all (map-append spent_in ys (h ∷ [])) ∙ first_all_push (map spent_in ys) (spent_in h));
       of = λ place a b.
           let o = inv.of place a b in
-          let all = subst (λ (l : List (Handler (Pass g.row.N.Denot g.N.Naming-1))). AllOfPlace place l) c.in-Some.ensures.steps.0 o.1 in
+          let all = subst (λ (l : List (Handler (Pass g.row.N.Denot g.N.LockNaming))). AllOfPlace place l) c.in-Some.ensures.steps.0 o.1 in
           (c.put_back.ensures.of place o.0 all.0, all.1);
     }
 

@@ -14,6 +14,6 @@ invariant-loop-handler g l = record {
   len : vec_len l.parts ≡ length l.yielded;
   room : vec_capacity l.parts ≡ vec_capacity l.initial.parts;
   spent : l.first ≡ first_of_all (map spent_in l.yielded);
-  of : (place : Place) → ArePassesOf place g.N.Naming-1.handlers l.fn.passes → AllOfPlace place l.fn.handlers.items
-      → ArePassesOf place g.N.Naming-1.handlers l.passes × AllOfPlace place (into_iter_items l.handler-iterator);
+  of : (place : Place) → ArePassesOf place g.N.LockNaming.handlers l.fn.passes → AllOfPlace place l.fn.handlers.items
+      → ArePassesOf place g.N.LockNaming.handlers l.passes × AllOfPlace place (into_iter_items l.handler-iterator);
 }

@@ -19,7 +19,7 @@ loop-room-preserved g c =
     let long = length-append c.loop-room.yielded (c.in-Some.room ∷ []) in
     let number : passes_out c.loop-room.passes + 1 ≡ 1 + length c.loop-room.yielded = omega (arith, inv.out) in
     let fresh = subst (λ n. IsFresh n (knows c.in-Some-next.pass)) number some.2 in
-    let h : Handler (Pass g.row.N.Denot g.N.Naming-1) = record { pass = c.in-Some-next.pass; calls = c.in-Some.room.calls; replies = c.in-Some.room.replies; spent = None } in
+    let h : Handler (Pass g.row.N.Denot g.N.LockNaming) = record { pass = c.in-Some-next.pass; calls = c.in-Some.room.calls; replies = c.in-Some.room.replies; spent = None } in
     let pushed = taken_push 1 c.loop-room.yielded c.in-Some.room c.loop-room.handlers.items h inv.taken (record { fresh = fresh; calls = refl; replies = refl; spent = refl }) in
     record {
       taken = subst (AreTaken 1 (c.loop-room.yielded ++ c.in-Some.room ∷ [])) (sym c.push_reserved.ensures.items) pushed;
@@ -30,5 +30,5 @@ loop-room-preserved g c =
       of = λ place a.
           let o = inv.of place a in
           let n = c.in-Some-next.ensures.of place o.0 in
-          (n.0, subst (λ (l : List (Handler (Pass g.row.N.Denot g.N.Naming-1))). AllOfPlace place l) (sym c.push_reserved.ensures.items) (of_push place c.loop-room.handlers.items h o.1 n.1));
+          (n.0, subst (λ (l : List (Handler (Pass g.row.N.Denot g.N.LockNaming))). AllOfPlace place l) (sym c.push_reserved.ensures.items) (of_push place c.loop-room.handlers.items h o.1 n.1));
     }

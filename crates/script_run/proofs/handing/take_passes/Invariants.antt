@@ -12,5 +12,5 @@ invariant-loop-room g l = record {
   back : passes_back l.passes ≡ passes_back l.initial.passes;
   len : vec_len l.handlers ≡ length l.yielded;
   room : vec_capacity l.handlers ≡ vec_capacity l.initial.handlers;
-  of : (place : Place) → ArePassesOf place g.N.Naming-1.handlers l.fn.passes → ArePassesOf place g.N.Naming-1.handlers l.passes × AllOfPlace place l.handlers.items;
+  of : (place : Place) → ArePassesOf place g.N.LockNaming.handlers l.fn.passes → ArePassesOf place g.N.LockNaming.handlers l.passes × AllOfPlace place l.handlers.items;
 }

@@ -36,7 +36,7 @@ run_on-handlers-requires-clause-seats g c κs within =
 pub run_on-handlers-requires-clause-ready : goal.run_on-handlers-requires-clause-ready
 run_on-handlers-requires-clause-ready g c κs within =
     let place = c.in-Ok-named.field-0.server in
-    all_ready g.N.Naming-1.name place c.args.time (regions_of c.args.opened) c.args.rooms.items c.take_passes.new.handlers.items c.requires.script c.requires.named c.requires.rooms c.take_passes.ensures.taken
+    all_ready g.N.ServerNaming.name place c.args.time (regions_of c.args.opened) c.args.rooms.items c.take_passes.new.handlers.items c.requires.script c.requires.named c.requires.rooms c.take_passes.ensures.taken
     (c.take_passes.ensures.of place c.in-Ok-named.ensures.passes.2).1
 
 pub give_back-spent-requires-clause-none : goal.give_back-spent-requires-clause-none
@@ -49,7 +49,7 @@ give_back-spent-requires-clause-of g c =
     let place = c.in-Ok-named.field-0.server in (
       place,
       (c.take_passes.ensures.of place c.in-Ok-named.ensures.passes.2).0,
-      all_of g.N.Naming-1.name place c.args.time c.take_passes.new.handlers.items c.run_on-handlers.result.0.items c.run_on-handlers.ensures.run,
+      all_of g.N.ServerNaming.name place c.args.time c.take_passes.new.handlers.items c.run_on-handlers.result.0.items c.run_on-handlers.ensures.run,
     )
 
 pub give_back-spent-requires-clause-passes : goal.give_back-spent-requires-clause-passes
@@ -68,7 +68,7 @@ close-requires g c =
     record {
       back = record {
         of = c.give_back-spent.ensures.of place (c.take_passes.ensures.of place c.in-Ok-named.ensures.passes.2).0
-            (all_of g.N.Naming-1.name place c.args.time c.take_passes.new.handlers.items c.run_on-handlers.result.0.items c.run_on-handlers.ensures.run);
+            (all_of g.N.ServerNaming.name place c.args.time c.take_passes.new.handlers.items c.run_on-handlers.result.0.items c.run_on-handlers.ensures.run);
         out = c.give_back-spent.ensures.out;
         back = omega (arith, back, c.run_on-handlers.ensures.run.len, taken, c.requires.few, c.requires.handlers, c.args.rooms.ok);
         seats = (
@@ -89,7 +89,7 @@ returns-in-Ok-close-clause-served g c told =
     let place = c.in-Ok-named.field-0.server in
     let files : Files = (g.D.Disk.view (disk_found c.args.opened)).files in
     let left = g.D.Disk.view c.in-Ok-close.field-0.disk in
-    let name : Naming = g.N.Naming-1.name in
+    let name : Naming = g.N.ServerNaming.name in
     let count = length-map c.args.opened.seeds.items base_of in
     let bases = bases_found files (bases_of c.args.opened) name (regions_of c.args.opened) (c.requires.store.recovered told) (omega (arith, count, c.requires.store.count))
     (λ r low high. ap (λ (n : Naming). n.bases r) c.requires.name ∙ (c.requires.regions r low high).base_is) in
@@ -98,9 +98,9 @@ returns-in-Ok-close-clause-served g c told =
     c.give_back-spent.ensures.parts c.give_back-spent.ensures.spent (c.requires.sound told) bases e.numbers e.regions (e.survives told) (subst (λ (f : Files). ∥ Leaves f left c.in-Ok-close.field-0.broken name.regions ∥₁) c.requires.found.0 (e.leaves told))
     e.seen_broken in (
       closed,
-      closed_throughout (g.D.Disk.view (disk_found c.args.opened)) (g.D.Disk.view (disk_now c.args.opened)) left g.N.Naming-3.start g.N.Naming-3.past c.requires.begun.1 c.requires.past (c.requires.any_moment told) c.in-Ok-close.field-0.regions.items closed.closed (e.survived told)
-          (subst (λ (k : ℕ). ∥ HasElapsed g.N.Naming-3.start g.N.Naming-3.past files k left ∥₁) c.requires.named.regions
-          (subst (λ (f : Files). ∥ HasElapsed g.N.Naming-3.start g.N.Naming-3.past f name.regions left ∥₁) c.requires.found.0 (e.elapsed told))),
+      closed_throughout (g.D.Disk.view (disk_found c.args.opened)) (g.D.Disk.view (disk_now c.args.opened)) left g.N.ServiceNaming.start g.N.ServiceNaming.past c.requires.begun.1 c.requires.past (c.requires.any_moment told) c.in-Ok-close.field-0.regions.items closed.closed (e.survived told)
+          (subst (λ (k : ℕ). ∥ HasElapsed g.N.ServiceNaming.start g.N.ServiceNaming.past files k left ∥₁) c.requires.named.regions
+          (subst (λ (f : Files). ∥ HasElapsed g.N.ServiceNaming.start g.N.ServiceNaming.past f name.regions left ∥₁) c.requires.found.0 (e.elapsed told))),
     )
 
 pub returns-in-Ok-close-clause-any_moment : goal.returns-in-Ok-close-clause-any_moment
@@ -109,7 +109,7 @@ returns-in-Ok-close-clause-any_moment g c told =
     let place = c.in-Ok-named.field-0.server in
     let files : Files = (g.D.Disk.view (disk_found c.args.opened)).files in
     let left = g.D.Disk.view c.in-Ok-close.field-0.disk in
-    let name : Naming = g.N.Naming-1.name in
+    let name : Naming = g.N.ServerNaming.name in
     let count = length-map c.args.opened.seeds.items base_of in
     let bases = bases_found files (bases_of c.args.opened) name (regions_of c.args.opened) (c.requires.store.recovered told) (omega (arith, count, c.requires.store.count))
     (λ r low high. ap (λ (n : Naming). n.bases r) c.requires.name ∙ (c.requires.regions r low high).base_is) in
@@ -117,33 +117,33 @@ returns-in-Ok-close-clause-any_moment g c told =
     (passes_back c.give_back-spent.new.passes) c.give_back-spent.new.parts.items c.give_back-spent.result c.requires.script c.requires.named c.take_passes.ensures.taken c.run_on-handlers.ensures.run c.give_back-spent.ensures.back
     c.give_back-spent.ensures.parts c.give_back-spent.ensures.spent (c.requires.sound told) bases e.numbers e.regions (e.survives told) (subst (λ (f : Files). ∥ Leaves f left c.in-Ok-close.field-0.broken name.regions ∥₁) c.requires.found.0 (e.leaves told))
     e.seen_broken in
-    closed_moments (g.D.Disk.view (disk_found c.args.opened)) (g.D.Disk.view (disk_now c.args.opened)) left g.N.Naming-3.start g.N.Naming-3.past c.requires.begun.1 c.requires.past (c.requires.any_moment told) c.in-Ok-close.field-0.regions.items closed.closed (e.survived told)
-    (subst (λ (k : ℕ). ∥ HasElapsed g.N.Naming-3.start g.N.Naming-3.past files k left ∥₁) c.requires.named.regions
-    (subst (λ (f : Files). ∥ HasElapsed g.N.Naming-3.start g.N.Naming-3.past f name.regions left ∥₁) c.requires.found.0 (e.elapsed told)))
+    closed_moments (g.D.Disk.view (disk_found c.args.opened)) (g.D.Disk.view (disk_now c.args.opened)) left g.N.ServiceNaming.start g.N.ServiceNaming.past c.requires.begun.1 c.requires.past (c.requires.any_moment told) c.in-Ok-close.field-0.regions.items closed.closed (e.survived told)
+    (subst (λ (k : ℕ). ∥ HasElapsed g.N.ServiceNaming.start g.N.ServiceNaming.past files k left ∥₁) c.requires.named.regions
+    (subst (λ (f : Files). ∥ HasElapsed g.N.ServiceNaming.start g.N.ServiceNaming.past f name.regions left ∥₁) c.requires.found.0 (e.elapsed told)))
 
 pub returns-in-Err-close-clause-served : goal.returns-in-Err-close-clause-served
 returns-in-Err-close-clause-served g c told =
     let files : Files = (g.D.Disk.view (disk_found c.args.opened)).files in
     let left = g.D.Disk.view c.into_disk-in-Err-close.result in
-    let name : Naming = g.N.Naming-1.name in
+    let name : Naming = g.N.ServerNaming.name in
     let count = length-map c.args.opened.seeds.items base_of in
     let bases = bases_found files (bases_of c.args.opened) name (regions_of c.args.opened) (c.requires.store.recovered told) (omega (arith, count, c.requires.store.count))
     (λ r low high. ap (λ (n : Naming). n.bases r) c.requires.name ∙ (c.requires.regions r low high).base_is) in
-    left_of name (g.D.Disk.view (disk_found c.args.opened)) left (passes_back c.in-Err-close.refusal.passes) (regions_of c.args.opened) c.requires.script.some_region c.requires.named.regions bases g.N.Naming-3.start (c.into_disk-in-Err-close.ensures.left told)
+    left_of name (g.D.Disk.view (disk_found c.args.opened)) left (passes_back c.in-Err-close.refusal.passes) (regions_of c.args.opened) c.requires.script.some_region c.requires.named.regions bases g.N.ServiceNaming.start (c.into_disk-in-Err-close.ensures.left told)
     (subst (λ (f : Files). ∥ Leaves f left true name.regions ∥₁) c.requires.found.0 (c.into_disk-in-Err-close.ensures.leaves told))
 
 pub returns-in-Err-close-clause-any_moment : goal.returns-in-Err-close-clause-any_moment
 returns-in-Err-close-clause-any_moment g c told =
     let files : Files = (g.D.Disk.view (disk_found c.args.opened)).files in
     let left = g.D.Disk.view c.into_disk-in-Err-close.result in
-    let name : Naming = g.N.Naming-1.name in
+    let name : Naming = g.N.ServerNaming.name in
     let count = length-map c.args.opened.seeds.items base_of in
     let bases = bases_found files (bases_of c.args.opened) name (regions_of c.args.opened) (c.requires.store.recovered told) (omega (arith, count, c.requires.store.count))
     (λ r low high. ap (λ (n : Naming). n.bases r) c.requires.name ∙ (c.requires.regions r low high).base_is) in
-    left_moments (g.D.Disk.view (disk_found c.args.opened)) (g.D.Disk.view (disk_now c.args.opened)) left g.N.Naming-3.start g.N.Naming-3.past c.requires.begun.1 c.requires.past (c.requires.any_moment told) name
+    left_moments (g.D.Disk.view (disk_found c.args.opened)) (g.D.Disk.view (disk_now c.args.opened)) left g.N.ServiceNaming.start g.N.ServiceNaming.past c.requires.begun.1 c.requires.past (c.requires.any_moment told) name
     (passes_back c.in-Err-close.refusal.passes) (regions_of c.args.opened) c.requires.script.some_region c.requires.named.regions bases
-    (subst (λ (k : ℕ). ∥ HasElapsed g.N.Naming-3.start g.N.Naming-3.past files k left ∥₁) c.requires.named.regions
-    (subst (λ (f : Files). ∥ HasElapsed g.N.Naming-3.start g.N.Naming-3.past f name.regions left ∥₁) c.requires.found.0 (c.into_disk-in-Err-close.ensures.elapsed told)))
+    (subst (λ (k : ℕ). ∥ HasElapsed g.N.ServiceNaming.start g.N.ServiceNaming.past files k left ∥₁) c.requires.named.regions
+    (subst (λ (f : Files). ∥ HasElapsed g.N.ServiceNaming.start g.N.ServiceNaming.past f name.regions left ∥₁) c.requires.found.0 (c.into_disk-in-Err-close.ensures.elapsed told)))
     (c.into_disk-in-Err-close.ensures.left told)
 
 pub returns-in_default-clause-any_moment : goal.returns-in_default-clause-any_moment

@@ -1,7 +1,7 @@
 use Rattle.std.proofs.Common.{get_or, refl, arith}
 use Rattle.std.proofs.lemmas.List.{get_or_default}
 use Rattle.seq_accounting.proofs.OrderLaws.{nothing}
-use Rattle.seq_accounting.proofs.MarkLaws.{flushed_more, flushed_all}
+use Rattle.seq_accounting.proofs.RegionLaws.{flushed_more, flushed_all}
 use Rattle.seq_accounting.proofs.numbers.flushed_by.Goals as goal
 
 pub loop-mark-init : goal.loop-mark-init

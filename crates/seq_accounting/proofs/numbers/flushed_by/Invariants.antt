@@ -1,4 +1,4 @@
-use Rattle.seq_accounting.proofs.MarkLaws.{AreFlushedTo}
+use Rattle.seq_accounting.proofs.RegionLaws.{AreFlushedTo}
 use Rattle.seq_accounting.proofs.numbers.flushed_by.Given as goal
 
 abbrev pub invariant-loop-mark : goal.invariant-loop-mark

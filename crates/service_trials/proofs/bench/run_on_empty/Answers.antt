@@ -1,4 +1,4 @@
-use Rattle.std.proofs.Common.{◌≡◌, ◌<◌, ◌≤◌, inl, inr, ℕ, List, [], ◌∷◌, length, get_or, Contains, refl, sym, ap, ◌∙◌, subst, arith}
+use Rattle.std.proofs.Common.{◌≡◌, ◌+◌, ◌^◌, ◌<◌, ◌≤◌, inl, inr, ℕ, List, [], ◌∷◌, length, get_or, Contains, refl, sym, ap, ◌∙◌, subst, arith}
 use Rattle.std.proofs.lemmas.List.Elements.{Contains-push, Contains-push_cases}
 use Rattle.append_ring.specs.Rules.{base_of}
 use Rattle.log_ledger.specs.declared.base.RegionBase.{RegionBase}
@@ -29,6 +29,7 @@ over-ended-requires-clause-device g c =
           let at : 1 ≡ r = omega (arith, low, high) in
           subst (λ (q : ℕ). get_or (books_of d).drawn q 0 ≡ base_of (0 ∷ []) q) at (c.in-Ok-start.ensures.drawn.named one (Contains-push [] one));
       synced = c.in-Ok-start.ensures.numbers.0;
+      stored = c.in-Ok-start.ensures.numbers.1;
     }
 
 pub over-ended-requires-clause-whole : goal.over-ended-requires-clause-whole
@@ -48,6 +49,6 @@ over-ended-requires-clause-whole g c =
         none_durable = refl;
         none_staged = refl;
         no_logs = refl;
-        few = few_first (one ∷ []) (view_of c.of-found.result.value).files (books_of d) (λ m has. sym (ap (λ (b : RegionBase). b.next_store) (is_one m has))) c.in-Ok-start.ensures.next_store;
+        few = λ n up. c.in-Ok-start.ensures.few (n + 2 ^ 48) (few_first (one ∷ []) n (λ m has. sym (ap (λ (b : RegionBase). b.next_store) (is_one m has))));
       },
     ) ∣₁

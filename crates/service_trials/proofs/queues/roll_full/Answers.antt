@@ -9,4 +9,4 @@ use Rattle.service_trials.proofs.queues.roll_full.Goals as goal
 
 pub join_mut-rolled-requires-send-F : goal.join_mut-rolled-requires-send-F
 join_mut-rolled-requires-send-F g c κs within =
-    four_send 1 _ no _ _ _ _ _ (shr_send _ _ _ c.type_bounds.sync-R) (shr_send _ _ _ sync) (shr_send _ _ _ (service_sync _ (param 0 g.row.N) _ g.N.Naming disk_send)) (mut_send _ _ _ log_seat_send)
+    four_send 1 _ no _ _ _ _ _ (shr_send _ _ _ c.type_bounds.sync-R) (shr_send _ _ _ sync) (shr_send _ _ _ (service_sync _ (param 0 g.row.N) _ g.N.ServiceNaming disk_send)) (mut_send _ _ _ log_seat_send)

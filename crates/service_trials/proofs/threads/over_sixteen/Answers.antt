@@ -13,7 +13,7 @@ hand_out-requires-clause-none g c =
     let lasts = c.requires.lasts in
     let ok = c.in-Ok.ensures in
     record {
-      passes = subst (λ (id : TableId). AreNew id (replicate 16 0) 0 c.in-Ok.field-0.passes) (sym ok.service.0) (subst (λ (l : List ℕ). AreNew g.N.Naming.ring l 0 c.in-Ok.field-0.passes) lasts (subst (λ ps. AreNew g.N.Naming.ring g.N.Naming.lasts 0 ps) (sym ok.passes) parts.new));
+      passes = subst (λ (id : TableId). AreNew id (replicate 16 0) 0 c.in-Ok.field-0.passes) (sym ok.service.0) (subst (λ (l : List ℕ). AreNew g.N.ServiceNaming.ring l 0 c.in-Ok.field-0.passes) lasts (subst (λ ps. AreNew g.N.ServiceNaming.ring g.N.ServiceNaming.lasts 0 ps) (sym ok.passes) parts.new));
       all = ap length ok.passes ∙ parts.all ∙ ap length lasts;
       seats = seats_new c.in-Ok.field-0.service c.in-Ok.field-0.seats.consumers c.in-Ok.field-0.seats.devices _ _ ok.consumers.0 ok.consumers.1 ok.devices.0 ok.devices.1;
     }

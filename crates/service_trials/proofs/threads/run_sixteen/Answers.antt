@@ -1,4 +1,4 @@
-use Rattle.std.proofs.Common.{◌≡◌, ◌≤◌, ◌-◌, ℕ, get_or, refl, sym, ap, ◌∙◌, arith}
+use Rattle.std.proofs.Common.{◌≡◌, ◌+◌, ◌^◌, ◌≤◌, ◌-◌, ℕ, get_or, refl, sym, ap, ◌∙◌, arith}
 use Rattle.log_ledger.specs.History.{started_in}
 use Rattle.log_device.specs.Whole.{disk_of, books_of}
 use Rattle.disk_fakes.specs.Views.{view_of}
@@ -30,6 +30,7 @@ over_sixteen-ended-requires-clause-device g c κs within =
           let m = has_region 0 16 r low high in
           ap (λ (q : ℕ). get_or (books_of d).drawn q 0) (sym m.2) ∙ c.in-Ok.ensures.drawn.named m.0 m.1 ∙ sym (nothing_stored 0 16 m.0 m.1).0 ∙ sym (zeros 16 (r - 1));
       synced = c.in-Ok.ensures.numbers.0;
+      stored = c.in-Ok.ensures.numbers.1;
     }
 
 pub over_sixteen-ended-requires-clause-whole : goal.over_sixteen-ended-requires-clause-whole
@@ -46,6 +47,6 @@ over_sixteen-ended-requires-clause-whole g c κs within =
         none_durable = refl;
         none_staged = refl;
         no_logs = refl;
-        few = few_first (regions_from 0 16) (view_of c.of-found.result.value).files (books_of d) (λ m has. sym (nothing_stored 0 16 m has).1) c.in-Ok.ensures.next_store;
+        few = λ n up. c.in-Ok.ensures.few (n + 2 ^ 48) (few_first (regions_from 0 16) n (λ m has. sym (nothing_stored 0 16 m has).1));
       },
     ) ∣₁

@@ -8,7 +8,7 @@ use Rattle.log_tail.specs.Reads.{IsRead, placed_behind}
 use Rattle.chronicle_model.specs.Chronicle.{Placed, Position, behind}
 use Rattle.ship_queue.specs.declared.reading.Reading.{Reading}
 use Rattle.ship_queue.specs.Course.{HasReadOn, IsAtEnd, counted, LeadsTo, IsRefusedAt}
-use Rattle.ship_queue.specs.Shipping.{ShipsAll}
+use Rattle.ship_queue.specs.Shipping.{ShipsUpTo, ShipsAll}
 use Rattle.ship_queue.specs.declared.error.ShipRefusal.TheVariants as ships
 use Rattle.ship_queue.proofs.Ends.{none_of, err_of, same_err, never_peer, was_disk, was_damaged, was_no_position}
 use Rattle.ship_queue.proofs.Going.{read_none, looks_none, looks_both, all_texts, ships_so_far, part_so_far, ships_all, part_at_end, joined_read, damaged_on, no_position_on, end_on}
@@ -58,7 +58,7 @@ pub returns-in_err-reading-clause-ships : goal.returns-in_err-reading-clause-shi
 returns-in_err-reading-clause-ships g c told ms h not_peer =
     let was = c.loop-round.invariant in
     let s = ships_so_far g.P.Peer.has (g.D.Disk.view c.args.disk.now).files c.args.tail.now c.loop-round.tail c.args.peer.now c.loop-round.peer was.xs (was.read told) ms h c.loop-round.count.unrecorded c.loop-round.count.within was.sent in
-    (s.0, s.1, s.2, none_of c.from_residual.result (λ x. ShipsAll (g.D.Disk.view c.args.disk.now).files c.args.tail.now s.0 (position_of x.position)) c.from_residual.ensures.0)
+    (s.0, s.1, s.2, subst (ShipsUpTo (g.D.Disk.view c.args.disk.now).files c.args.tail.now s.0) (sym (c.in_err-reading.ensures.same (refl {a = true}))) s.3, none_of c.from_residual.result (λ x. ShipsAll (g.D.Disk.view c.args.disk.now).files c.args.tail.now s.0 (position_of x.position)) c.from_residual.ensures.0)
 
 pub returns-in_err-reading-clause-tail : goal.returns-in_err-reading-clause-tail
 returns-in_err-reading-clause-tail g c told chronicle is =
@@ -138,7 +138,8 @@ returns-then-reading-clause-ships g c told ms h not_peer =
     let stays : c.read_next.new.tail ≡ c.loop-round.tail = c.in_ok-reading.ensures.stays (search rules) in
     let read : HasReadOn files c.args.tail.now q was.xs = subst (λ (r : Position). HasReadOn files c.args.tail.now r was.xs) (sym (same ∙ stays)) (was.read told) in
     let end : IsAtEnd files q = end_on (g.D.Disk.view c.args.disk.now) (g.D.Disk.view c.loop-round.disk) c.read_next.new.tail q (was.looks told) same (c.in_ok-reading.ensures.last told (search rules)) in
-    ships_all g.P.Peer.has files c.args.tail.now q c.args.peer.now c.loop-round.peer was.xs read ms h c.loop-round.count.unrecorded c.loop-round.count.within c.confirm.new.self was.sent c.in_ok-confirm.ensures.recorded end
+    let s = ships_all g.P.Peer.has files c.args.tail.now q c.args.peer.now c.loop-round.peer was.xs read ms h c.loop-round.count.unrecorded c.loop-round.count.within c.confirm.new.self was.sent c.in_ok-confirm.ensures.recorded end in
+    (s.0, s.1, s.2, subst (ShipsUpTo files c.args.tail.now s.0) same s.3, s.4)
 
 pub returns-then-reading-clause-all : goal.returns-then-reading-clause-all
 returns-then-reading-clause-all g c told =

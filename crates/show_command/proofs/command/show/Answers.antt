@@ -1,12 +1,12 @@
 use Rattle.std.proofs.Common.{sym, ap, subst, ◌∙◌, ◌∷◌, []}
 use Rattle.script_model.specs.Outputs.{show_text}
-use Rattle.command_ends.specs.Invocation.{invocation}
-use Rattle.command_ends.specs.LogFiles.{log_name, IsLogRefusal}
-use Rattle.command_ends.specs.Status.{IsOrEarlier, refusal_line}
-use Rattle.command_ends.specs.declared.status.Status.{Status}
-use Rattle.command_ends.specs.declared.status.Status.TheVariants.{Damaged, DiskFault}
+use Rattle.command_base.specs.Invocation.{invocation}
+use Rattle.command_base.specs.LogFiles.{log_name, IsLogRefusal}
+use Rattle.command_base.specs.Status.{IsOrEarlier, refusal_line}
+use Rattle.command_base.specs.declared.status.Status.{Status}
+use Rattle.command_base.specs.declared.status.Status.TheVariants.{Damaged, DiskFault}
 use Rattle.log_model.specs.declared.damage.Damage.TheVariants.{Bytes}
-use Rattle.command_ends.proofs.Readers.{ends_printed, ends_refused, lined}
+use Rattle.command_base.proofs.Readers.{ends_printed, ends_refused, lined}
 use Rattle.show_command.specs.Shown.{ShowDone}
 use Rattle.show_command.proofs.Shows.{shown}
 use Rattle.show_command.proofs.command.show.Goals as goal

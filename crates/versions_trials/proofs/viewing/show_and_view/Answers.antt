@@ -8,7 +8,7 @@ use Rattle.kv_cell.proofs.batch.Batch.TheSendSync as batch
 use Rattle.region_state.proofs.state.RegionState.TheSendSync as state
 use Rattle.region_versions.proofs.history.History.TheSendSync as history
 use Rattle.region_versions.proofs.Crossing.{shower_send}
-use Rattle.region_versions.specs.declared.naming.Naming.{Ghosts}
+use Rattle.region_versions.specs.declared.naming.VersionsNaming.{Ghosts}
 use Rattle.region_versions.specs.contracts.history.History as histories
 use Rattle.region_state.specs.contracts.state.RegionState as states
 use Rattle.versions_trials.specs.contracts.region.Region as region

@@ -5,7 +5,7 @@ use Rattle.disk_images.specs.OneFile.{Touches}
 use Rattle.disk_images.proofs.Moments.{more_time}
 use Rattle.disk_images.proofs.Torn.{then_only}
 use Rattle.log_file.specs.LogText.{at_rest}
-use Rattle.recovery.specs.Alike.{AllAlike}
+use Rattle.recovery_laws.specs.Alike.{AllAlike}
 use Rattle.wal_split.specs.Some.{HasSome}
 use Rattle.wal_split.proofs.Holding.{held_moments, still_held, copies_in}
 use Rattle.wal_split.proofs.Copies.{begun_some, commit_some, open_text, open_durable, touches_on}

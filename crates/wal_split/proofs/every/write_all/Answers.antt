@@ -3,7 +3,7 @@ use Rattle.log_model.specs.declared.name.NameKind.TheVariants as kinds
 use Rattle.log_model.specs.Entry.{Entry}
 use Rattle.log_model.specs.Files.{content, IsAbsent}
 use Rattle.disk_images.specs.OneFile.{Touches}
-use Rattle.recovery.specs.Change.{HasText}
+use Rattle.recovery_laws.specs.Change.{HasText}
 use Rattle.log_file.specs.Open.{AreEntriesOf}
 use Rattle.wal_split.specs.declared.job.EditsJob.{EditsJob}
 use Rattle.wal_split.proofs.Writing.{none_yet, among, absent_now, not_gone_now, moments_on, one_written, all_written, all_else}

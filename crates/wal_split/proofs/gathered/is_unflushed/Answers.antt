@@ -3,7 +3,7 @@ use Rattle.std.proofs.lemmas.List.{nil_from_length}
 use Rattle.std.specs.declared.vec.Vec.{Vec}
 use Rattle.std.specs.Global.{Global}
 use Rattle.log_model.specs.Entry.{Entry, IsEntry}
-use Rattle.recovery.proofs.Lists.{some_family}
+use Rattle.recovery_laws.proofs.Lists.{some_family}
 use Rattle.wal_split.specs.Flushed.{alone_in}
 use Rattle.wal_split.proofs.gathered.is_unflushed.Goals as goal
 

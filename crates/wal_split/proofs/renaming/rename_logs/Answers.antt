@@ -1,7 +1,7 @@
 use Rattle.std.proofs.Common.{◌+◌, IsTrue, length, get_or, arith}
 use Rattle.std.proofs.Math.Logic.{∥∥₁_map, ∥∥₁_elim}
 use Rattle.disk_images.proofs.Moments.{more_time}
-use Rattle.recovery.specs.Alike.{AllAlike}
+use Rattle.recovery_laws.specs.Alike.{AllAlike}
 use Rattle.log_model.specs.Files.{content}
 use Rattle.wal_split.specs.Logs.{old_name}
 use Rattle.wal_split.proofs.Turning.{none_renamed, reads_log, old_absent, old_not_gone, moments_on, one_renamed, absent_by, all_taken, all_other}

@@ -1,7 +1,7 @@
 use Rattle.std.proofs.Common.{ℕ, List, Option, None, length, sym, ap, subst, ◌∙◌}
 use Rattle.log_model.specs.declared.name.Name.{Name}
 use Rattle.std.proofs.Math.Logic.{∥∥₁_map}
-use Rattle.recovery.specs.Change.{HasText}
+use Rattle.recovery_laws.specs.Change.{HasText}
 use Rattle.wal_split.specs.Logs.{log_name}
 use Rattle.wal_split.proofs.Turning.{edits_other}
 use Rattle.wal_split.proofs.Covering.{still_free, now_kept, then_both}

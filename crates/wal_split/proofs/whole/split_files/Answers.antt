@@ -3,8 +3,8 @@ use Rattle.log_model.specs.declared.name.Name.{Name}
 use Rattle.log_model.specs.Entry.{Entry}
 use Rattle.log_model.specs.Files.{IsAbsent, content}
 use Rattle.disk_images.proofs.Moments.{at_once}
-use Rattle.recovery.specs.Change.{HasText}
-use Rattle.recovery.specs.Alike.{AllAlike}
+use Rattle.recovery_laws.specs.Change.{HasText}
+use Rattle.recovery_laws.specs.Alike.{AllAlike}
 use Rattle.found_files.specs.declared.found.FoundStore.{FoundStore}
 use Rattle.wal_split.specs.declared.job.EditsJob.{EditsJob}
 use Rattle.wal_split.specs.declared.split_files.SplitFiles.{SplitFiles}

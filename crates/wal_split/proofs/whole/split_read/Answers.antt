@@ -3,7 +3,7 @@ use Rattle.std.proofs.lemmas.Result.{on_ok_weaker}
 use Rattle.log_model.specs.Files.{Files}
 use Rattle.disk_images.specs.Crash.{IsImageNow}
 use Rattle.disk_images.proofs.Moments.{joined, weaker}
-use Rattle.recovery.specs.Alike.{AllAlike}
+use Rattle.recovery_laws.specs.Alike.{AllAlike}
 use Rattle.found_files.proofs.ReadSteps.{contents_of, with_good}
 use Rattle.found_files.proofs.Sound.{of_same_files}
 use Rattle.wal_split.specs.Moments.{WasOrAlike}

@@ -12,5 +12,5 @@ invariant_of-self g c = record {
       by_answer c.stage.result
       (λ err. subst (λ (d : Device g.row.D.Denot). (IsBroken d → ⊥) → ∥ ((h : History) × IsWhole d (g.D.Disk.view (disk_of d)) h) ∥₁) (sym (on_err c.stage.result c.stage.ensures.same err)) (c.args.self.now.kept told))
       (λ ok whole. ∥∥₁_map₂ (c.args.self.now.kept told (λ broken. ok (c.stage.ensures.broken broken))) c.requires.entry
-      (λ r e. (staged_in r.0 e.0, on_ok c.stage.result ((c.stage.ensures.stages told r.0 r.1).staged e.0 e.1 e.2 e.3 e.4) ok)));
+      (λ r e. (staged_in r.0 e.0, on_ok c.stage.result ((c.stage.ensures.stages told r.0 r.1).staged e.0 e.1.entry e.1.bytes e.1.region e.1.number) ok)));
 }

@@ -7,6 +7,6 @@ pub returns-clause-of : goal.returns-clause-of
 returns-clause-of g c =
     let s = c.args.self.now in (
       c.begin_scan.ensures.of,
-      set_after g.N.Naming-1.name s.time s.regions s.calls s.calls (knows s.first.value) (knows s.pass) (knows c.begin_scan.new.pass) c.requires.of.1
+      set_after g.N.ServerNaming.name s.time s.regions s.calls s.calls (knows s.first.value) (knows s.pass) (knows c.begin_scan.new.pass) c.requires.of.1
           c.begin_scan.ensures.scans.later (c.requires.of.1.calls_are ∙ sym c.begin_scan.ensures.scans.used),
     )

@@ -1,4 +1,5 @@
 use Rattle.std.proofs.Common.{ℕ, ◌+◌, sym, subst, arith}
+use Rattle.std.specs.Option.{option_map}
 use Rattle.server_model.specs.Steps.{Flushes}
 use Rattle.region_calls.specs.Answers.{flush_answer}
 use Rattle.region_calls.specs.Passes.{knows}
@@ -13,13 +14,13 @@ flush-requires-clause-listed g c =
 pub returns-clause-flushes : goal.returns-clause-flushes
 returns-clause-flushes g c =
     let s = c.args.self.now in
-    subst (λ (n : ℕ). Flushes g.N.Naming-1.name c.args.region (record { handler = (knows s.pass).handler; call = n + 1 })
+    subst (λ (n : ℕ). Flushes g.N.ServerNaming.name c.args.region (option_map (λ (f : _). f.now) c.args.family) (record { handler = (knows s.pass).handler; call = n + 1 })
     (flush_answer c.flush.result) (knows s.pass) (knows c.flush.new.pass)) c.requires.of.1.calls_are c.flush.ensures.flushes
 
 pub returns-clause-of : goal.returns-clause-of
 returns-clause-of g c =
     let s = c.args.self.now in (
       c.flush.ensures.of,
-      set_after g.N.Naming-1.name s.time s.regions s.calls (s.calls + 1) (knows s.first.value) (knows s.pass) (knows c.flush.new.pass) c.requires.of.1
+      set_after g.N.ServerNaming.name s.time s.regions s.calls (s.calls + 1) (knows s.first.value) (knows s.pass) (knows c.flush.new.pass) c.requires.of.1
           c.flush.ensures.flushes.later (sym c.flush.ensures.flushes.used),
     )

@@ -7,6 +7,6 @@ pub returns-clause-of : goal.returns-clause-of
 returns-clause-of g c =
     let s = c.args.self.now in (
       c.roll.ensures.of,
-      set_after g.N.Naming-1.name s.time s.regions s.calls s.calls (knows s.first.value) (knows s.pass) (knows c.roll.new.pass) c.requires.of.1
+      set_after g.N.ServerNaming.name s.time s.regions s.calls s.calls (knows s.first.value) (knows s.pass) (knows c.roll.new.pass) c.requires.of.1
           c.roll.ensures.rolls.later (c.requires.of.1.calls_are ∙ sym c.roll.ensures.rolls.used),
     )

@@ -10,6 +10,7 @@ use Rattle.log_device.proofs.Calls.{archive_leaves}
 use Rattle.log_device.proofs.Going.{keeps_those}
 use Rattle.log_device.proofs.Numbering.{numbered_still}
 use Rattle.log_device.proofs.Whole.{kept_file}
+use Rattle.log_device.proofs.Syncing.{same_told}
 use Rattle.log_device.proofs.device.Device.archive.Goals as goal
 
 pub rename_flushed-requires : goal.rename_flushed-requires
@@ -41,6 +42,7 @@ returns-in-Ok-clause-archives g c told h whole = record {
           keeps = subst (λ (ns : List ℕ). Keeps whole.file w (with_logs h forgot.0) ns) (sym (rw c.deref_mut.ensures.value at c.forget_flushed.ensures.same.next_store))
               (keeps_those whole.file w h c.args.self.now.ledger.value.next_store kept.0 forgot.0 kept.1 forgot.1 kept.2);
           counted = forgot.3;
+          told = same_told g.D.Disk h c.args.self.now _ (rw c.deref_mut.ensures.value at c.forget_flushed.ensures.same.stored) whole;
         },
       );
   lower = λ file is k low. ((rw c.deref.ensures at c.rename_flushed.ensures.renames) told whole.file h whole.keeps whole.counted).logs k;

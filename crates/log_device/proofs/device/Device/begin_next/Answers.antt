@@ -11,6 +11,7 @@ use Rattle.log_device.specs.Numbered.{IsNumbered}
 use Rattle.log_device.proofs.Numbering.{same_file, numbered_next}
 use Rattle.log_device.proofs.RollSteps.{begins_next}
 use Rattle.log_device.proofs.Whole.{kept_file}
+use Rattle.log_device.proofs.Syncing.{same_told}
 use Rattle.log_device.proofs.device.Device.begin_next.Goals as goal
 
 pub overflow_add-next : goal.overflow_add-next
@@ -58,6 +59,7 @@ returns-in-Ok-clause-begins g c told h file whole is none =
       is = refl;
       keeps = subst (λ (l : List ℕ). Keeps c.in-Ok.log (g.D.Disk.view c.next_log.new.disk) (closed_in h c.in-Some.log.name.number) l) (sym (rw c.deref_mut.ensures.value at c.close.ensures.same.next_store)) (c.in-Ok.ensures.kept told h ns keeps none);
       counted = subst (λ (n : ℕ). IsCounted c.close.new.self (closed_in h n)) number ((rw c.deref_mut.ensures.value at c.close.ensures.counted) h whole.counted none);
+      told = same_told g.D.Disk h c.args.self.now _ (rw c.deref_mut.ensures.value at c.close.ensures.same.stored) whole;
     })
 
 pub returns-in-Err-clause-begins : goal.returns-in-Err-clause-begins

@@ -11,7 +11,7 @@ use Rattle.log_device.proofs.Numbering.{same_file, numbered_still}
 use Rattle.log_device.proofs.Whole.{kept_file}
 use Rattle.log_device.specs.Whole.{IsCommitted}
 use Rattle.log_device.proofs.Committed.{commit_kept}
-use Rattle.log_device.proofs.Syncing.{syncs, sync_appends}
+use Rattle.log_device.proofs.Syncing.{syncs, sync_appends, told_behind}
 use Rattle.log_device.proofs.device.Device.commit_staged.Goals as goal
 
 pub commit-requires : goal.commit-requires
@@ -42,6 +42,7 @@ returns-in-Ok-clause-syncs g c told h whole =
           (commit_kept c.in-Some.log v h c.args.self.now.ledger.value.next_store keeps c.commit.new.self w c.commit.ensures.same_name atomic (c.commit.ensures.no_other_file told)
           (c.in-Ok.ensures.commits told h.current h.kept.staged keeps.open_log keeps.staged).durable c.in-Ok.ensures.stage_emptied);
       counted = (rw c.deref_mut.ensures.value at c.commit-in-Ok.ensures.counted) h whole.counted;
+      told = told_behind g.D.Disk h c.args.self.now _ (ap (λ (b : Books). b.stored) (rw c.deref_mut.ensures.value at c.commit-in-Ok.ensures.synced)) whole;
     })
 
 pub returns-in-Err-clause-syncs : goal.returns-in-Err-clause-syncs
@@ -72,6 +73,7 @@ returns-in-Ok-clause-books g c =
       never_falls = λ r.
           let is = ap (λ (b : Books). get_or b.synced r 0) synced in
           omega (arith, is, (order.regions r).synced);
+      few = rw c.deref_mut.ensures.value at c.commit-in-Ok.ensures.few;
     }
 
 pub returns-in-Ok-clause-appends : goal.returns-in-Ok-clause-appends

@@ -1,8 +1,9 @@
-use Rattle.std.proofs.Common.{[], ◌+◌, get_or, refl, sym, ◌∙◌, subst}
+use Rattle.std.proofs.Common.{◌≡◌, ◌++◌, ◌+◌, get_or, option_copied, refl, sym, ◌∙◌, subst}
 use Rattle.chronicle_model.proofs.Grown.{prolonged, appends_and_stays}
 use Rattle.disk_images.specs.Crash.{Elapses}
-use Rattle.log_ledger.specs.History.{committed_in, flushed_in}
-use Rattle.log_ledger.specs.Counted.{IsHighestKept}
+use Rattle.recovery_laws.specs.Kept.{lasts}
+use Rattle.log_ledger.specs.History.{committed_in, flushed_in, family_in}
+use Rattle.log_ledger.specs.Counted.{HasUnflushed}
 use Rattle.log_device.specs.Flushed.{HasStore}
 use Rattle.log_device.specs.declared.error.DeviceFlush.TheVariants as refusals
 use Rattle.log_device.specs.Whole.{IsBroken, HasHistory}
@@ -19,8 +20,10 @@ returns-in_err-commit_staged-clause-flushes g c told h whole =
     let failed = c.from_residual.ensures in record {
       any_moment = (4, sync.any_moment);
       names = λ file is. (4, sync.names file is);
-      flushed = none_of c.from_residual.result (λ n. IsHighestKept (committed_in h).kept c.args.region n × HasHistory g.D.Disk mid (flushed_in (committed_in h) c.args.region n)) failed.0;
-      store = none_of c.from_residual.result (λ n. HasStore (g.D.Disk.view mid.disk) c.args.region (get_or c.args.self.now.ledger.value.next_store c.args.region 0) (h.kept.flushed c.args.region [] + 1) n) failed.0;
+      flushed = none_of c.from_residual.result (λ n. (n ≡ lasts h.kept.first (h.kept.durable ++ h.kept.staged) c.args.region) × HasUnflushed (committed_in h).kept c.args.region (option_copied c.args.family)
+          × HasHistory g.D.Disk mid (flushed_in (committed_in h) c.args.region (family_in (option_copied c.args.family)) n)) failed.0;
+      store = none_of c.from_residual.result (λ n. HasStore (g.D.Disk.view mid.disk) c.args.region (family_in (option_copied c.args.family)) (get_or c.args.self.now.ledger.value.next_store c.args.region 0)
+          (h.kept.flushed c.args.region (family_in (option_copied c.args.family)) + 1) n) failed.0;
       nothing = λ n is. absurd (not_nothing c.from_residual.result refusals.WriteFault (λ m is. absurd (cc is)) failed.1 n is);
       refused = on_any {P = (IsBroken mid → ⊥) → HasHistory g.D.Disk mid (committed_in h)} c.from_residual.result (λ unbroken. absurd (unbroken (c.in_err-commit_staged.ensures.breaks.broken.0 refl)));
       lower = sync.lower;
@@ -38,7 +41,7 @@ flush_committed-requires-clause-rest g c =
 pub returns-clause-flushes : goal.returns-clause-flushes
 returns-clause-flushes g c told h whole =
     let sync = c.in_ok-commit_staged.ensures.syncs told h whole in
-    flushes_behind g.D.Disk h c.args.region _ c.flush_committed.result c.args.self.now c.commit_staged.new.self c.flush_committed.new.self (g.met.D.Disk.is_true c.args.self.now.disk told)
+    flushes_behind g.D.Disk h c.args.region (option_copied c.args.family) _ c.flush_committed.result c.args.self.now c.commit_staged.new.self c.flush_committed.new.self (g.met.D.Disk.is_true c.args.self.now.disk told)
     (g.met.D.Disk.is_true c.commit_staged.new.self.disk told) whole sync.committed c.in_ok-commit_staged.ensures.books.synced c.in_ok-commit_staged.ensures.books.file sync
     (c.flush_committed.ensures.flushes told (committed_in h) sync.committed refl)
 
@@ -52,7 +55,7 @@ returns-clause-chronicle g c told h whole =
 
 pub returns-clause-books : goal.returns-clause-books
 returns-clause-books g c =
-    books_behind c.args.region c.flush_committed.result c.args.self.now c.commit_staged.new.self c.flush_committed.new.self c.in_ok-commit_staged.ensures.books.synced c.commit_staged.ensures.books.never_falls
+    books_behind c.args.region (option_copied c.args.family) c.flush_committed.result c.args.self.now c.commit_staged.new.self c.flush_committed.new.self c.in_ok-commit_staged.ensures.books.synced c.commit_staged.ensures.books.never_falls c.commit_staged.ensures.books.few
     c.in_ok-commit_staged.ensures.books.file c.flush_committed.ensures.books
 
 pub returns-clause-memory : goal.returns-clause-memory

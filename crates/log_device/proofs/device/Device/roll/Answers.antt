@@ -47,7 +47,7 @@ returns-clause-chronicle g c told h whole =
 
 pub returns-clause-books : goal.returns-clause-books
 returns-clause-books g c =
-    books_behind c.roll_committed.result c.args.self.now c.commit_staged.new.self c.roll_committed.new.self c.in_ok-commit_staged.ensures.books.synced c.commit_staged.ensures.books.never_falls
+    books_behind c.roll_committed.result c.args.self.now c.commit_staged.new.self c.roll_committed.new.self c.in_ok-commit_staged.ensures.books.synced c.commit_staged.ensures.books.never_falls c.commit_staged.ensures.books.few
     c.in_ok-commit_staged.ensures.books.file c.roll_committed.ensures.books
 
 pub returns-clause-memory : goal.returns-clause-memory

@@ -11,7 +11,7 @@ use Rattle.log_device.proofs.Appends.{appends_nothing}
 use Rattle.log_device.proofs.Numbering.{numbered_still}
 use Rattle.log_device.proofs.Results.{none_of, on_any}
 use Rattle.log_device.proofs.RollSteps.{still_rolls, rolls_by}
-use Rattle.log_device.proofs.Syncing.{same_history, none_fell}
+use Rattle.log_device.proofs.Syncing.{same_history, same_told, none_fell}
 use Rattle.log_device.proofs.Whole.{kept_file}
 use Rattle.log_device.proofs.device.Device.roll_committed.Goals as goal
 
@@ -28,7 +28,8 @@ returns-then-entries-eq0-clause-rolls g c told h whole none =
     let count : c.current-file.result.1 ≡ whole.file.entries = ap (λ (p : ℕ × ℕ). p.1) (c.current-file.ensures whole.file whole.is) in
     still_rolls g.D.Disk h _ c.args.self.now _ (g.met.D.Disk.is_true c.args.self.now.disk told) whole refl refl
     (same_history g.D.Disk h c.args.self.now _ refl refl (ap (λ (b : Books). b.next_store) closed)
-    ((rw c.deref_mut-ledger.ensures.value at c.close_empty.ensures.counted) h whole.counted none (nil_from_length h.current (omega (arith, count, c.if-entries-eq0.true, whole.keeps.open_log.count)))) whole)
+    ((rw c.deref_mut-ledger.ensures.value at c.close_empty.ensures.counted) h whole.counted none (nil_from_length h.current (omega (arith, count, c.if-entries-eq0.true, whole.keeps.open_log.count))))
+    (same_told g.D.Disk h c.args.self.now _ (ap (λ (b : Books). b.stored) closed) whole) whole)
 
 pub returns-then-entries-eq0-clause-books : goal.returns-then-entries-eq0-clause-books
 returns-then-entries-eq0-clause-books g c =
@@ -53,18 +54,20 @@ returns-then-entries-eq0-clause-books g c =
       stored = ap (λ (b : Books). b.stored) same;
       drawn = ap (λ (b : Books). b.drawn) same;
       next_store = ap (λ (b : Books). b.next_store) same;
+      few = rw c.deref_mut-ledger.ensures.value at c.close_empty.ensures.few;
     }
 
 pub returns-in_err-stage-clause-rolls : goal.returns-in_err-stage-clause-rolls
 returns-in_err-stage-clause-rolls g c told h whole none =
     still_rolls g.D.Disk h _ c.args.self.now _ (g.met.D.Disk.is_true c.args.self.now.disk told) whole refl c.from_residual.ensures.0 (same_history g.D.Disk h c.args.self.now _ refl refl
-    (ap (λ (b : Books). b.next_store) c.deref_mut-ledger.ensures.value) (subst (λ (b : Books). IsCounted b h) (sym c.deref_mut-ledger.ensures.value) whole.counted) whole)
+    (ap (λ (b : Books). b.next_store) c.deref_mut-ledger.ensures.value) (subst (λ (b : Books). IsCounted b h) (sym c.deref_mut-ledger.ensures.value) whole.counted)
+    (same_told g.D.Disk h c.args.self.now _ (ap (λ (b : Books). b.stored) c.deref_mut-ledger.ensures.value) whole) whole)
 
 pub returns-in_err-reserve_file-clause-rolls : goal.returns-in_err-reserve_file-clause-rolls
 returns-in_err-reserve_file-clause-rolls g c told h whole none =
     let same = rw c.deref_mut-ledger.ensures.value at c.reserve_file.ensures.same in
     still_rolls g.D.Disk h _ c.args.self.now _ (g.met.D.Disk.is_true c.args.self.now.disk told) whole refl c.from_residual-in_err-reserve_file.ensures.0
-    (same_history g.D.Disk h c.args.self.now _ refl refl (ap (λ (b : Books). b.next_store) same) ((rw c.deref_mut-ledger.ensures.value at c.reserve_file.ensures.counted) h whole.counted) whole)
+    (same_history g.D.Disk h c.args.self.now _ refl refl (ap (λ (b : Books). b.next_store) same) ((rw c.deref_mut-ledger.ensures.value at c.reserve_file.ensures.counted) h whole.counted) (same_told g.D.Disk h c.args.self.now _ (ap (λ (b : Books). b.stored) same) whole) whole)
 
 pub invariant_of-self-2 : goal.invariant_of-self-2
 invariant_of-self-2 g c = record {
@@ -79,7 +82,8 @@ begin_next-requires-clause-rest g c =
     record {
       whole = λ told. ∥∥₁_map (c.requires.whole told) (λ r. (
         r.0,
-        same_history g.D.Disk r.0 c.args.self.now _ refl refl (ap (λ (b : Books). b.next_store) same) ((rw c.deref_mut-ledger.ensures.value at c.reserve_file.ensures.counted) r.0 r.1.counted) r.1,
+        same_history g.D.Disk r.0 c.args.self.now _ refl refl (ap (λ (b : Books). b.next_store) same) ((rw c.deref_mut-ledger.ensures.value at c.reserve_file.ensures.counted) r.0 r.1.counted)
+            (same_told g.D.Disk r.0 c.args.self.now _ (ap (λ (b : Books). b.stored) same) r.1) r.1,
         r.2,
       ));
       unbroken = c.requires.unbroken;
@@ -95,7 +99,7 @@ pub returns-in_err-begin_next-clause-rolls : goal.returns-in_err-begin_next-clau
 returns-in_err-begin_next-clause-rolls g c told h whole none =
     let same = rw c.deref_mut-ledger.ensures.value at c.reserve_file.ensures.same in
     let result = c.from_residual-in_err-begin_next.result in
-    let begins = c.begin_next.ensures.begins told h whole.file (same_history g.D.Disk h c.args.self.now _ refl refl (ap (λ (b : Books). b.next_store) same) ((rw c.deref_mut-ledger.ensures.value at c.reserve_file.ensures.counted) h whole.counted) whole) whole.is none in
+    let begins = c.begin_next.ensures.begins told h whole.file (same_history g.D.Disk h c.args.self.now _ refl refl (ap (λ (b : Books). b.next_store) same) ((rw c.deref_mut-ledger.ensures.value at c.reserve_file.ensures.counted) h whole.counted) (same_told g.D.Disk h c.args.self.now _ (ap (λ (b : Books). b.stored) same) whole) whole) whole.is none in
     rolls_by g.D.Disk h _ _ c.args.self.now _ c.begin_next.new.self whole refl (ap (λ (b : Books). b.stored) same) (ap (λ (b : Books). b.closed) same) (ap (λ (b : Books). b.next_store) same) begins
     (none_of result (λ rolled. HasHistory g.D.Disk c.begin_next.new.self (closed_in h rolled.closed) × (rolled.entries ≡ length h.current)) c.from_residual-in_err-begin_next.ensures.0)
     (on_any {P = (IsBroken c.begin_next.new.self → ⊥) → HasHistory g.D.Disk c.begin_next.new.self h} result (λ unbroken. absurd (unbroken (c.in_err-begin_next.ensures.breaks.broken.0 refl))))
@@ -105,7 +109,7 @@ returns-clause-rolls g c told h whole none =
     let same = rw c.deref_mut-ledger.ensures.value at c.reserve_file.ensures.same in
     let now = c.current-file.ensures whole.file whole.is in
     let count : c.current-file.result.1 ≡ whole.file.entries = ap (λ (p : ℕ × ℕ). p.1) now in
-    let begins = c.in_ok-begin_next.ensures.begins told h whole.file (same_history g.D.Disk h c.args.self.now _ refl refl (ap (λ (b : Books). b.next_store) same) ((rw c.deref_mut-ledger.ensures.value at c.reserve_file.ensures.counted) h whole.counted) whole) whole.is none in
+    let begins = c.in_ok-begin_next.ensures.begins told h whole.file (same_history g.D.Disk h c.args.self.now _ refl refl (ap (λ (b : Books). b.next_store) same) ((rw c.deref_mut-ledger.ensures.value at c.reserve_file.ensures.counted) h whole.counted) (same_told g.D.Disk h c.args.self.now _ (ap (λ (b : Books). b.stored) same) whole) whole) whole.is none in
     rolls_by g.D.Disk h _ _ c.args.self.now _ c.begin_next.new.self whole refl (ap (λ (b : Books). b.stored) same) (ap (λ (b : Books). b.closed) same) (ap (λ (b : Books). b.next_store) same) begins
     (subst (λ (n : ℕ). HasHistory g.D.Disk c.begin_next.new.self (closed_in h n)) (sym (ap (λ (p : ℕ × ℕ). p.0) now)) begins.closed, omega (arith, count, whole.keeps.open_log.count)) tt
 
@@ -138,6 +142,7 @@ returns-clause-books g c =
       stored = stored;
       drawn = begun.same.drawn ∙ ap (λ (b : Books). b.drawn) same;
       next_store = begun.same.next_store ∙ ap (λ (b : Books). b.next_store) same;
+      few = λ limit was. begun.few limit ((rw c.deref_mut-ledger.ensures.value at c.reserve_file.ensures.few) limit was);
     }
 
 pub invariant_of-self-in-Break-1 : goal.invariant_of-self-in-Break-1
@@ -158,9 +163,9 @@ returns-in_err-reserve_file-clause-appends g c told h file whole is none =
 pub returns-in_err-begin_next-clause-appends : goal.returns-in_err-begin_next-clause-appends
 returns-in_err-begin_next-clause-appends g c told h file whole is none =
     let same = rw c.deref_mut-ledger.ensures.value at c.reserve_file.ensures.same in
-    (c.begin_next.ensures.begins told h file (same_history g.D.Disk h c.args.self.now _ refl refl (ap (λ (b : Books). b.next_store) same) ((rw c.deref_mut-ledger.ensures.value at c.reserve_file.ensures.counted) h whole.counted) whole) is none).appends
+    (c.begin_next.ensures.begins told h file (same_history g.D.Disk h c.args.self.now _ refl refl (ap (λ (b : Books). b.next_store) same) ((rw c.deref_mut-ledger.ensures.value at c.reserve_file.ensures.counted) h whole.counted) (same_told g.D.Disk h c.args.self.now _ (ap (λ (b : Books). b.stored) same) whole) whole) is none).appends
 
 pub returns-clause-appends : goal.returns-clause-appends
 returns-clause-appends g c told h file whole is none =
     let same = rw c.deref_mut-ledger.ensures.value at c.reserve_file.ensures.same in
-    (c.begin_next.ensures.begins told h file (same_history g.D.Disk h c.args.self.now _ refl refl (ap (λ (b : Books). b.next_store) same) ((rw c.deref_mut-ledger.ensures.value at c.reserve_file.ensures.counted) h whole.counted) whole) is none).appends
+    (c.begin_next.ensures.begins told h file (same_history g.D.Disk h c.args.self.now _ refl refl (ap (λ (b : Books). b.next_store) same) ((rw c.deref_mut-ledger.ensures.value at c.reserve_file.ensures.counted) h whole.counted) (same_told g.D.Disk h c.args.self.now _ (ap (λ (b : Books). b.stored) same) whole) whole) is none).appends

@@ -8,13 +8,14 @@ use Rattle.log_device.specs.Keeps.{Keeps}
 use Rattle.log_device.specs.Numbered.{IsNumbered}
 use Rattle.log_device.proofs.Numbering.{same_file, numbered_staged}
 use Rattle.log_device.proofs.Staged.{staged_kept, of_log}
+use Rattle.log_device.proofs.Syncing.{same_told}
 use Rattle.log_device.proofs.device.Device.stage.Goals as goal
 
 pub stage-requires : goal.stage-requires
 stage-requires g c =
     let numbered = c.args.self.now.numbered c.in-Some.log c.in-Some.is in
     let bytes = ap (λ (t : Haul). t.bytes) (c.behind-truck.view_is ∙ c.deref.ensures) in
-    ∥∥₁_map c.requires.entry (λ r. (r.0, bytes ∙ r.2, of_log c.in-Some.log r.0 numbered.region r.1))
+    ∥∥₁_map c.requires.entry (λ r. (r.0, bytes ∙ r.1.bytes, of_log c.in-Some.log r.0 numbered.region r.1.entry))
 
 pub invariant_of-self-in-Ok : goal.invariant_of-self-in-Ok
 invariant_of-self-in-Ok g c = record {
@@ -46,5 +47,6 @@ returns-in-Ok-clause-stages g c told h whole = record {
             omega (arith, c.requires.above, drawn, number, at))
             c.stage.ensures.same_file (c.in-Ok.ensures.staged h.kept.staged e keeps.staged (its ∙ bytes) (of_log c.in-Some.log e numbered.region entry)));
         counted = (rw c.deref_mut.ensures.value at c.stage-in-Ok.ensures.counted) h e whole.counted entry bytes region number;
+        told = same_told g.D.Disk h c.args.self.now _ (rw c.deref_mut.ensures.value at c.stage-in-Ok.ensures.stored) whole;
       };
 }

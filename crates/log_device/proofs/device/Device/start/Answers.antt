@@ -1,4 +1,4 @@
-use Rattle.std.proofs.Common.{◌≡◌, ◌+◌, [], refl, sym, subst, arith}
+use Rattle.std.proofs.Common.{◌≡◌, ◌+◌, ◌≤◌, ℕ, [], get_or, refl, sym, subst, arith}
 use Rattle.disk_images.proofs.Moments.{at_once, more_time}
 use Rattle.std.proofs.Math.Logic.{∥∥₁_map}
 use Rattle.log_file.specs.Open.{OpenLog}
@@ -11,6 +11,7 @@ use Rattle.log_device.specs.Bears.{Bears}
 use Rattle.log_device.specs.Opened.{log_number}
 use Rattle.log_device.proofs.Numbering.{same_file}
 use Rattle.log_device.proofs.Starting.{still_moments, names_found}
+use Rattle.log_device.proofs.Told.{started_low}
 use Rattle.log_device.proofs.device.Device.start.Goals as goal
 
 pub returns-in_default-clause-any_moment : goal.returns-in_default-clause-any_moment
@@ -31,6 +32,7 @@ returns-in-Ok-first_log-clause-started g c told flushed opened =
       keeps = c.in-Ok-first_log.ensures.kept told c.args.regions.now flushed c.in-Ok-new.ledger.value.next_store c.requires.regions opened
           (subst (λ (b : Books). AreNumbersOf (λ (m : RegionBase). m.next_store) c.args.regions.now b.next_store) (sym boxed) c.in-Ok.ensures.next_store);
       counted = subst (λ (b : Books). IsCounted b (started_in u.files flushed)) (sym boxed) (c.in-Ok.ensures.counted u.files flushed opened.marks opened.no_logs opened.flushed_of);
+      told = subst (λ (b : Books). (r : ℕ) → get_or b.stored r 0 ≤ flushed r) (sym boxed) (started_low c.args.regions.now flushed c.before.before.before.before.before.before.in-Ok.ledger opened.marks c.in-Ok.ensures.served c.in-Ok.ensures.drawn c.in-Ok.ensures.stored);
     }
 
 pub returns-in-Ok-first_log-clause-number : goal.returns-in-Ok-first_log-clause-number

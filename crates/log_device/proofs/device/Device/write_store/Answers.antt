@@ -1,25 +1,25 @@
-use Rattle.std.proofs.Common.{◌≡◌, ◌+◌, ℕ, [], length, Err, get_or, refl, sym, ap, ◌∙◌, subst, arith}
+use Rattle.std.proofs.Common.{◌≡◌, ◌+◌, ℕ, List, [], length, set, Option, option_copied, Err, get_or, refl, sym, ap, ◌∙◌, subst, arith}
 use Rattle.std.specs.Prelude.{sum}
 use Rattle.std.proofs.Math.Logic.{∥∥₁_elim}
 use Rattle.log_model.specs.Files.{content, IsAbsent}
 use Rattle.disk_images.specs.OneFile.{IsDurableFile}
 use Rattle.file_base.specs.declared.error.FileRefusal.{FileRefusal}
+use Rattle.log_ledger.specs.Books.{Books, IsLeft}
 use Rattle.log_ledger.specs.Counted.{IsCounted}
-use Rattle.flush_snapshot.specs.Cut.{cut_store, ordered_cells}
+use Rattle.flush_snapshot.specs.Cut.{AreOf, cut_store, ordered_cells}
 use Rattle.store_file.specs.Whole.{IsWholeOrNot}
 use Rattle.cell_model.specs.declared.form.Form.TheVariants.{Tagged}
 use Rattle.log_model.specs.StoreText.{store_text}
-use Rattle.log_ledger.specs.History.{History, flushed_in}
-use Rattle.log_ledger.proofs.DrawnSums.{served_place}
+use Rattle.log_ledger.specs.History.{History, family_in, flushed_in}
 use Rattle.log_device.specs.Keeps.{store_name}
 use Rattle.log_device.specs.Whole.{IsWhole}
 use Rattle.log_device.proofs.Appends.{store_stays}
-use Rattle.log_device.proofs.Cut.{of_all}
 use Rattle.log_device.proofs.Disk.{absent_by}
 use Rattle.log_device.proofs.FlushSteps.{still_flushes, flushed_books}
+use Rattle.log_device.proofs.Told.{IsTold, served_place, family_given, stored_told, told_after, still_served}
 use Rattle.log_device.proofs.Numbering.{numbered_still}
 use Rattle.log_device.proofs.Stored.{free_store}
-use Rattle.log_device.proofs.StoreSteps.{stored_leaves, stored_highest, stored_kept, store_names_of}
+use Rattle.log_device.proofs.StoreSteps.{is_last, stored_leaves, stored_kept, store_names_of}
 use Rattle.log_device.proofs.Syncing.{same_history}
 use Rattle.log_device.proofs.Whole.{kept_file}
 use Rattle.log_device.proofs.device.Device.write_store.Goals as goal
@@ -44,7 +44,7 @@ write_cut-requires-clause-absent g c told =
     (absent_by (content u.files (store_name c.args.region (get_or ns c.args.region 0))) (c.requires.rest.whole told) (λ r. (free r).0), λ gone. ∥∥₁_elim (c.requires.rest.whole told) (λ a b. absurd a) (λ r. (free r).1 gone))
 
 pub write_cut-requires-clause-of : goal.write_cut-requires-clause-of
-write_cut-requires-clause-of g c = of_all c.args.cells
+write_cut-requires-clause-of g c = subst (λ (f : List ℕ). AreOf f c.args.cells) (sym c.name_of-own.ensures) c.requires.of
 
 pub invariant_of-self : goal.invariant_of-self
 invariant_of-self g c = record {
@@ -53,81 +53,111 @@ invariant_of-self g c = record {
 }
 
 pub returns-in-Ok-clause-flushes : goal.returns-in-Ok-clause-flushes
-returns-in-Ok-clause-flushes g c told h whole none puts =
+returns-in-Ok-clause-flushes g c told h whole none has puts =
     let u = g.D.Disk.view c.args.self.now.disk in
     let w = g.D.Disk.view c.write_cut.new.disk in
+    let r = c.args.region in
+    let family : Option (List ℕ) = option_copied c.args.family in
     let books = c.args.self.now.ledger.value in
-    let from = ap (λ (n : ℕ). n + 1) (rw c.deref-ledger.ensures at c.flushed-from.ensures.number) in
+    let from = ap (λ (n : ℕ). n + 1) (rw c.name_of-own.ensures at (rw c.deref-ledger.ensures at c.flushed-from.ensures.number)) in
     let to = rw c.deref-ledger.ensures at c.drawn-to.ensures.number in
     let number = rw c.deref-ledger.ensures at c.next_store.ensures.number in
+    let place = served_place books r c.requires.order c.requires.served in
+    let told_of : IsTold r (option_copied c.args.family) c.drawn-to.result books c.flush.new.self =
+    stored_told r c.drawn-to.result (option_copied c.args.family) books c.flush.new.self (omega (arith, place, c.requires.order.wide.stored))
+    (λ all. (rw c.deref_mut.ensures.value at c.flush.ensures.stored) (c.requires.room ∙ all) ∙ ap (λ (n : ℕ). set books.stored r n) (sym to))
+    (λ one. (rw c.deref_mut.ensures.value at c.flush.ensures.stored_still) (λ none. one (sym c.requires.room ∙ none))) (family_given c.args.family c.requires.family)
+    (λ all. let above = c.requires.above all in omega (arith, above, to)) in
     let sound = g.met.D.Disk.is_true c.args.self.now.disk told in
-    let over = c.write_cut.ensures.any_moment told in
-    let is_store = c.write_cut.ensures.store (λ memory. absurd (cc (sym c.in-Ok.is ∙ memory))) in
+    let over = rw c.name_of-own.ensures at (c.write_cut.ensures.any_moment told) in
+    let is_store = rw c.name_of-own.ensures at (c.write_cut.ensures.store (λ memory. absurd (cc (sym c.in-Ok.is ∙ memory)))) in
+    let durable = rw c.name_of-own.ensures at (c.in-Ok.ensures.stored told) in
+    let last = is_last whole.file u w h books whole.keeps whole.counted sound r (family_in family) c.args.cells none puts c.requires.served (c.flushed-from.result + 1) c.drawn-to.result c.next_store.result to number in
     record {
-      any_moment = stored_leaves whole.file u w h books whole.keeps whole.counted sound c.args.region c.args.cells none puts c.requires.served c.requires.above
-          (c.flushed-from.result + 1) c.drawn-to.result c.next_store.result from to number is_store over;
+      any_moment = stored_leaves whole.file u w h books whole.keeps whole.counted sound r (family_in family) c.args.cells none puts c.requires.served (c.flushed-from.result + 1) c.drawn-to.result c.next_store.result to number is_store over;
       names = λ file is.
-          store_names_of file u w h books.next_store (kept_file c.args.self.now u h file is whole) c.args.region c.next_store.result c.requires.served number
-          (IsWholeOrNot (store_text Tagged (cut_store (store_name c.args.region c.next_store.result) [] (c.flushed-from.result + 1) c.drawn-to.result c.args.cells))) (7 + length (ordered_cells c.args.cells)) over;
+          store_names_of file u w h books.next_store (kept_file c.args.self.now u h file is whole) r c.next_store.result c.requires.served number
+          (IsWholeOrNot (store_text Tagged (cut_store (store_name r c.next_store.result) (family_in family) (c.flushed-from.result + 1) c.drawn-to.result c.args.cells))) (7 + length (ordered_cells c.args.cells)) over;
       flushed = (
-        stored_highest whole.file u w h books whole.keeps whole.counted sound c.args.region c.args.cells none puts c.requires.served c.requires.above (c.flushed-from.result + 1) c.drawn-to.result c.next_store.result from to number,
+        last,
+        has,
         record {
           file = whole.file;
           is = whole.is;
-          keeps = stored_kept whole.file u w h books whole.keeps whole.counted sound c.args.region c.args.cells none puts c.requires.served c.requires.above
-              (c.flushed-from.result + 1) c.drawn-to.result c.next_store.result from to number is_store
-              c.flush.new.self.next_store (rw c.deref_mut.ensures.value at c.flush.ensures.next_store) over (c.write_cut.ensures.touches told) (c.in-Ok.ensures.stored told);
-          counted = subst (λ (n : ℕ). IsCounted c.flush.new.self (flushed_in h c.args.region n)) (sym to) ((rw c.deref_mut.ensures.value at c.flush.ensures.counted) h whole.counted none);
+          keeps = stored_kept whole.file u w h books whole.keeps whole.counted sound r (family_in family) c.args.cells none puts c.requires.served (c.flushed-from.result + 1) c.drawn-to.result c.next_store.result to number is_store
+              c.flush.new.self.next_store (rw c.deref_mut.ensures.value at c.flush.ensures.next_store) over (c.write_cut.ensures.touches told) durable;
+          counted = subst (λ (n : ℕ). IsCounted c.flush.new.self (flushed_in h r (family_in family) n)) (sym to) (rw c.requires.room at ((rw c.deref_mut.ensures.value at c.flush.ensures.counted) h whole.counted none));
+          told = told_after r c.drawn-to.result family books c.flush.new.self h told_of last whole.told;
         },
       );
       store =
-          let store = cut_store (store_name c.args.region c.next_store.result) [] (c.flushed-from.result + 1) c.drawn-to.result c.args.cells in record {
+          let store = cut_store (store_name r c.next_store.result) (family_in family) (c.flushed-from.result + 1) c.drawn-to.result c.args.cells in record {
             store = store;
             region = refl;
-            from = from ∙ ap (λ (n : ℕ). n + 1) (whole.counted.flushed c.args.region c.requires.served);
+            scope = refl;
+            of = refl;
+            from = from ∙ ap (λ (n : ℕ). n + 1) (whole.counted.flushed r (family_in family) c.requires.served);
             to = refl;
-            file = subst (λ (n : ℕ). IsDurableFile w (store_name c.args.region n) (store_text Tagged store)) number (c.in-Ok.ensures.stored told);
+            file = subst (λ (n : ℕ). IsDurableFile w (store_name r n) (store_text Tagged store)) number durable;
           };
       nothing = λ n is. absurd (cc is);
       refused = tt;
-      lower = λ file is k low. store_stays (store_name c.args.region c.next_store.result) u.files w.files refl (c.write_cut.ensures.touches told).others k;
+      lower = λ file is k low. store_stays (store_name r c.next_store.result) u.files w.files refl (c.write_cut.ensures.touches told).others k;
     }
 
 pub returns-in-Ok-clause-books : goal.returns-in-Ok-clause-books
 returns-in-Ok-clause-books g c =
-    flushed_books g.D.Disk c.args.region c.args.self.now _ c.requires.rest c.requires.order c.requires.served refl (rw c.deref_mut.ensures.value at c.flush.ensures.drawn) (rw c.deref_mut.ensures.value at c.flush.ensures.synced)
-    (rw c.deref_mut.ensures.value at c.flush.ensures.closed) c.drawn-to.result (rw c.deref-ledger.ensures at c.drawn-to.ensures.number) c.requires.above
-    (rw c.deref_mut.ensures.value at c.flush.ensures.stored) (rw c.deref_mut.ensures.value at c.flush.ensures.next_store)
+    let books = c.args.self.now.ledger.value in
+    let r = c.args.region in
+    let to = rw c.deref-ledger.ensures at c.drawn-to.ensures.number in
+    let place = served_place books r c.requires.order c.requires.served in
+    let told_of : IsTold r (option_copied c.args.family) c.drawn-to.result books c.flush.new.self =
+    stored_told r c.drawn-to.result (option_copied c.args.family) books c.flush.new.self (omega (arith, place, c.requires.order.wide.stored))
+    (λ all. (rw c.deref_mut.ensures.value at c.flush.ensures.stored) (c.requires.room ∙ all) ∙ ap (λ (n : ℕ). set books.stored r n) (sym to))
+    (λ one. (rw c.deref_mut.ensures.value at c.flush.ensures.stored_still) (λ none. one (sym c.requires.room ∙ none))) (family_given c.args.family c.requires.family)
+    (λ all. let above = c.requires.above all in omega (arith, above, to)) in
+    let stores = rw c.deref_mut.ensures.value at c.flush.ensures.next_store in
+    flushed_books g.D.Disk r (option_copied c.args.family) c.args.self.now _ c.requires.rest refl (rw c.deref_mut.ensures.value at c.flush.ensures.drawn) (rw c.deref_mut.ensures.value at c.flush.ensures.synced)
+    (rw c.deref_mut.ensures.value at c.flush.ensures.closed) (rw c.deref_mut.ensures.value at c.flush.ensures.few) c.drawn-to.result to
+    (λ all. let above = c.requires.above all in omega (arith, above, to)) told_of stores (still_served books c.flush.new.self r (omega (arith, place, c.requires.order.wide.next_store)) stores)
 
 pub returns-in-Err-Memory-clause-flushes : goal.returns-in-Err-Memory-clause-flushes
-returns-in-Err-Memory-clause-flushes g c told h whole none puts =
+returns-in-Err-Memory-clause-flushes g c told h whole none has puts =
     let same = c.write_cut.ensures.memory (c.in-Err-Memory.is ∙ ap (λ (e : FileRefusal). Err e) c.in-Err-Memory.field-0-is) in
-    still_flushes g.D.Disk h c.args.region _ c.args.self.now _ (g.met.D.Disk.is_true c.args.self.now.disk told) whole same refl (λ n is. absurd (cc is))
-    (same_history g.D.Disk h c.args.self.now _ same refl refl whole.counted whole)
+    still_flushes g.D.Disk h c.args.region (option_copied c.args.family) _ c.args.self.now _ (g.met.D.Disk.is_true c.args.self.now.disk told) whole same refl (λ n is. absurd (cc is))
+    (same_history g.D.Disk h c.args.self.now _ same refl refl whole.counted whole.told whole)
 
-pub returns-in-Err-DiskFault-clause-flushes : goal.returns-in-Err-DiskFault-clause-flushes
-returns-in-Err-DiskFault-clause-flushes g c told h whole none puts =
+pub returns-clause-flushes : goal.returns-clause-flushes
+returns-clause-flushes g c told h whole none has puts =
     let u = g.D.Disk.view c.args.self.now.disk in
     let w = g.D.Disk.view c.write_cut.new.disk in
+    let r = c.args.region in
+    let family : Option (List ℕ) = option_copied c.args.family in
     let books = c.args.self.now.ledger.value in
-    let from = ap (λ (n : ℕ). n + 1) (rw c.deref-ledger.ensures at c.flushed-from.ensures.number) in
     let to = rw c.deref-ledger.ensures at c.drawn-to.ensures.number in
     let number = rw c.deref-ledger.ensures at c.next_store.ensures.number in
     let sound = g.met.D.Disk.is_true c.args.self.now.disk told in
-    let over = c.write_cut.ensures.any_moment told in
-    let is_store = c.write_cut.ensures.store (λ memory. absurd (cc (sym (c.in-Err-DiskFault.is ∙ ap (λ (e : FileRefusal). Err e) c.in-Err-DiskFault.field-0-is) ∙ memory))) in
+    let over = rw c.name_of-own.ensures at (c.write_cut.ensures.any_moment told) in
+    let is_store =
+    rw c.name_of-own.ensures at (c.write_cut.ensures.store (λ memory. absurd (cc (sym (c.in-Err-DiskFault.is ∙ ap (λ (e : FileRefusal). Err e) c.in-Err-DiskFault.field-0-is) ∙ memory)))) in
     record {
-      any_moment = stored_leaves whole.file u w h books whole.keeps whole.counted sound c.args.region c.args.cells none puts c.requires.served c.requires.above
-          (c.flushed-from.result + 1) c.drawn-to.result c.next_store.result from to number is_store over;
+      any_moment = stored_leaves whole.file u w h books whole.keeps whole.counted sound r (family_in family) c.args.cells none puts c.requires.served (c.flushed-from.result + 1) c.drawn-to.result c.next_store.result to number is_store over;
       names = λ file is.
-          store_names_of file u w h books.next_store (kept_file c.args.self.now u h file is whole) c.args.region c.next_store.result c.requires.served number
-          (IsWholeOrNot (store_text Tagged (cut_store (store_name c.args.region c.next_store.result) [] (c.flushed-from.result + 1) c.drawn-to.result c.args.cells))) (7 + length (ordered_cells c.args.cells)) over;
+          store_names_of file u w h books.next_store (kept_file c.args.self.now u h file is whole) r c.next_store.result c.requires.served number
+          (IsWholeOrNot (store_text Tagged (cut_store (store_name r c.next_store.result) (family_in family) (c.flushed-from.result + 1) c.drawn-to.result c.args.cells))) (7 + length (ordered_cells c.args.cells)) over;
       flushed = tt;
       store = tt;
       nothing = λ n is. absurd (cc is);
       refused = λ unbroken. absurd (unbroken refl);
-      lower = λ file is k low. store_stays (store_name c.args.region c.next_store.result) u.files w.files refl (c.write_cut.ensures.touches told).others k;
+      lower = λ file is k low. store_stays (store_name r c.next_store.result) u.files w.files refl (c.write_cut.ensures.touches told).others k;
     }
+
+pub flush-requires-clause-left : goal.flush-requires-clause-left
+flush-requires-clause-left g c =
+    subst (λ (b : Books). IsLeft b c.args.region c.args.room) (sym c.deref_mut.ensures.value) (subst (λ (f : List ℕ). IsLeft c.args.self.now.ledger.value c.args.region f) (sym c.requires.room) c.requires.left)
+
+pub returns-in-Err-Memory-clause-memory : goal.returns-in-Err-Memory-clause-memory
+returns-in-Err-Memory-clause-memory g c memory = c.write_cut.ensures.memory (c.in-Err-Memory.is ∙ ap (λ (e : FileRefusal). Err e) c.in-Err-Memory.field-0-is)
 
 pub returns-in-Ok-clause-logs : goal.returns-in-Ok-clause-logs
 returns-in-Ok-clause-logs g c told =
@@ -135,8 +165,4 @@ returns-in-Ok-clause-logs g c told =
 
 pub returns-in-Err-Memory-clause-logs : goal.returns-in-Err-Memory-clause-logs
 returns-in-Err-Memory-clause-logs g c told =
-    store_stays (store_name c.args.region c.next_store.result) (g.D.Disk.view c.args.self.now.disk).files (g.D.Disk.view c.write_cut.new.disk).files refl (c.write_cut.ensures.touches told).others
-
-pub returns-in-Err-DiskFault-clause-logs : goal.returns-in-Err-DiskFault-clause-logs
-returns-in-Err-DiskFault-clause-logs g c told =
     store_stays (store_name c.args.region c.next_store.result) (g.D.Disk.view c.args.self.now.disk).files (g.D.Disk.view c.write_cut.new.disk).files refl (c.write_cut.ensures.touches told).others

@@ -3,7 +3,7 @@ use Rattle.std.proofs.Common.{rules, List, Some, sym, subst}
 use Rattle.log_model.specs.Files.{content}
 use Rattle.log_model.specs.Entry.{Entry}
 use Rattle.disk_images.specs.OneFile.{IsDurableFile}
-use Rattle.recovery.specs.Change.{HasText}
+use Rattle.recovery_laws.specs.Change.{HasText}
 use Rattle.log_file.specs.LogText.{front, ended_text}
 use Rattle.log_file.specs.Open.{OpenLog, IsOpen}
 use Rattle.log_file.proofs.Committed.{EndMoments, end_moments, finished_file, finished_text}

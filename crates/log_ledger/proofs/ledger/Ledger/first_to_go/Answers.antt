@@ -2,14 +2,13 @@ use Rattle.std.proofs.Common.{◌≤◌, subst, Contains, arith}
 use Rattle.std.specs.Prelude.{MatchOption}
 use Rattle.seq_accounting.specs.Accounts.{ClosedFile}
 use Rattle.log_archive.specs.First.{NoneToGo, IsFirstToGo}
-use Rattle.log_ledger.specs.Books.{Books, AreInOrder}
+use Rattle.log_ledger.specs.Books.{Books}
 use Rattle.log_ledger.proofs.Logs.{file_of, first_counted}
 use Rattle.log_ledger.proofs.ledger.Ledger.first_to_go.Goals as goal
 
 pub returns-clause-exact : goal.returns-clause-exact
 returns-clause-exact c h counted =
-    let order = subst AreInOrder c.self.view_is c.self.invariant in
-    first_counted c.args.self.now h c.args.above c.first_to_go.result order.wide.next_store counted
+    first_counted c.args.self.now h c.args.above c.first_to_go.result counted
     (subst (λ (b : Books). MatchOption c.first_to_go.result (NoneToGo b.accounts c.args.above) (λ file. IsFirstToGo b.accounts c.args.above file)) c.self.view_is c.first_to_go.ensures.first)
 
 pub returns-clause-given : goal.returns-clause-given

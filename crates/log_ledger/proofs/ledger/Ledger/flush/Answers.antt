@@ -1,44 +1,62 @@
-use Rattle.std.proofs.Common.{◌+◌, [], get_or, set, subst, ◌∙◌}
-use Rattle.log_ledger.specs.Books.{Books, AreInOrder}
+use Rattle.std.proofs.Common.{◌+◌, List, [], filter, get_or, set, sym, ap, subst, ◌∙◌, arith}
+use Rattle.std.proofs.lemmas.List.{set-get_or}
+use Rattle.log_model.specs.Entry.{Entry}
+use Rattle.seq_accounting.specs.Steps.{IsFlushed}
+use Rattle.seq_accounting.specs.Noted.{Note, HasNoted}
+use Rattle.log_trucks.specs.Held.{AreHeld, IsSetTo}
+use Rattle.log_trucks.specs.Unflushed.{has_unflushed}
+use Rattle.log_ledger.specs.Books.{Books, IsLeft, AreInOrder}
 use Rattle.log_ledger.proofs.Steps.{FlushedBy}
+use Rattle.log_ledger.proofs.Few.{few_flushed, few_are_few, some_drawn}
 use Rattle.log_ledger.proofs.Flushed.{counted_flushed}
 use Rattle.log_ledger.proofs.Orders.{order_flushed}
 use Rattle.log_ledger.proofs.ledger.Ledger.flush.Goals as goal
 
 -- the ledger's numbers behind the call
-abbrev after : goal.After-clear → Books
+abbrev after : goal.After-keep_unflushed → Books
 after c = record {
   drawn = c.self.inside.drawn;
   synced = c.self.inside.synced;
-  stored = set c.self.inside.stored c.args.region (get_or c.self.inside.drawn c.args.region 0);
+  stored = set c.self.inside.stored c.args.region c.stored_by.result;
   closed = c.self.inside.closed;
   next_store = set c.self.inside.next_store c.args.region (get_or c.self.inside.next_store c.args.region 0 + 1);
-  accounts = c.complete_flush.new.self;
-  chains = c.clear.new.self;
+  accounts = c.flush.new.self;
+  chains = c.keep_unflushed.new.self;
 }
 
-flushed : (c : goal.After-clear) → FlushedBy c.args.self.now (after c) c.args.region
+flushed : (c : goal.After-keep_unflushed) → FlushedBy c.args.self.now (after c) c.args.region c.args.room
 flushed c =
     let was = c.self.view_is in
-    let r = c.args.region in
-    let started = c.start_flush-flushing.ensures in
-    let done = c.complete_flush.ensures in record {
+    let r = c.args.region in record {
       drawn = λ i. (was i).drawn;
       synced = λ i. (was i).synced;
-      stored = λ i. set (was i).stored r (get_or (was i).drawn r 0);
+      stored_all = λ all. ap (set c.self.inside.stored r) (c.stored_by.ensures.all all) ∙ (λ i. set (was i).stored r (get_or (was i).drawn r 0));
+      stored_one = λ one. ap (set c.self.inside.stored r) (c.stored_by.ensures.one one) ∙ set-get_or c.self.inside.stored r 0 ∙ (λ i. (was i).stored);
       closed = λ i. (was i).closed;
       next_store = λ i. set (was i).next_store r (get_or (was i).next_store r 0 + 1);
-      flushed = done.flushed ∙ (λ i. set (started.flushed i) (started.token i).region (started.token i).number) ∙ (λ i. set (was i).accounts.flushed r (get_or (was i).drawn r 0));
-      noted = done.noted ∙ started.noted ∙ (λ i. (was i).accounts.noted);
-      flushing = done.flushing ∙ (λ i. set (started.flushing i) (started.token i).region 0) ∙ (λ i. set (set (was i).accounts.flushing r (get_or (was i).drawn r 0)) r 0);
-      current = done.current ∙ started.current ∙ (λ i. (was i).accounts.current);
-      files = done.files.closed ∙ started.files.closed ∙ (λ i. (was i).accounts.closed);
-      last = done.files.last ∙ started.files.last ∙ (λ i. (was i).accounts.last);
-      chains = c.clear.ensures ∙ (λ i. set (was i).chains r []);
+      flushed = subst (λ (b : Books). IsFlushed b.accounts c.flush.new.self (record { region = r; family = c.args.room; number = get_or b.drawn r 0 })) was c.flush.ensures.flushed;
+      history = subst (λ (b : Books). (notes : List Note) → HasNoted b.accounts notes → HasNoted c.flush.new.self notes) was c.flush.ensures.history;
+      order = c.flush.ensures.order;
+      chains = subst (λ (b : Books). IsSetTo b.chains c.keep_unflushed.new.self r (λ held. (es : List Entry) → AreHeld (get_or b.chains r []) es → AreHeld held (filter (has_unflushed c.flush.new.self r) es))) was c.keep_unflushed.ensures.kept;
     }
 
+pub flush-requires-clause-given : goal.flush-requires-clause-given
+flush-requires-clause-given c = some_drawn _ c.args.region c.args.room c.self.invariant (subst (λ (b : Books). IsLeft b c.args.region c.args.room) (sym c.self.view_is) c.requires.left)
+
+pub overflow_add-self : goal.overflow_add-self
+overflow_add-self c = let is = few_are_few _ _ c.args.region c.self.invariant.few (c.self.invariant.regions c.args.region).drawn in omega (arith, is)
+
 pub invariant_of-self : goal.invariant_of-self
-invariant_of-self c = order_flushed c.args.self.now (after c) c.args.region (subst AreInOrder c.self.view_is c.self.invariant) (flushed c) c.requires.served c.requires.some c.requires.committed
+invariant_of-self c = order_flushed c.args.self.now (after c) c.args.region c.args.room (subst AreInOrder c.self.view_is c.self.invariant) (flushed c) c.requires.served c.requires.left c.requires.committed
 
 pub returns-clause-counted : goal.returns-clause-counted
-returns-clause-counted c h counted none = counted_flushed c.args.self.now (after c) c.args.region h (subst AreInOrder c.self.view_is c.self.invariant) (flushed c) c.requires.served c.requires.some counted none
+returns-clause-counted c h counted none = counted_flushed c.args.self.now (after c) c.args.region c.args.room h (subst AreInOrder c.self.view_is c.self.invariant) (flushed c) c.requires.served counted none
+
+pub returns-clause-few : goal.returns-clause-few
+returns-clause-few c limit few = few_flushed limit c.args.self.now (after c) c.args.region c.args.room (subst AreInOrder c.self.view_is c.self.invariant) (flushed c) c.requires.served c.requires.left c.requires.committed few
+
+pub returns-clause-stored_still : goal.returns-clause-stored_still
+returns-clause-stored_still c one = (flushed c).stored_one one
+
+pub returns-clause-stored : goal.returns-clause-stored
+returns-clause-stored c all = (flushed c).stored_all all

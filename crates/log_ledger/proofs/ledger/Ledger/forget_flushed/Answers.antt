@@ -1,8 +1,11 @@
-use Rattle.std.proofs.Common.{◌≡◌, ◌+◌, List, length, subst, sym, ap, ◌∙◌, arith}
+use Rattle.std.proofs.Common.{◌≡◌, ◌+◌, List, length, Contains, subst, ap, ◌∙◌, arith}
 use Rattle.seq_accounting.specs.Accounts.{ClosedFile, unflushed}
+use Rattle.seq_accounting.specs.Steps.{SameNumbers}
+use Rattle.seq_accounting.specs.Noted.{Note, HasNoted}
 use Rattle.log_ledger.specs.Books.{Books, AreInOrder}
-use Rattle.log_ledger.proofs.Steps.{ForgottenBy}
-use Rattle.log_ledger.proofs.Logs.{counted_length}
+use Rattle.log_ledger.proofs.Steps.{ForgottenBy, flushed_same}
+use Rattle.log_ledger.proofs.Few.{few_same}
+use Rattle.log_ledger.proofs.Logs.{counted_length, IsTested}
 use Rattle.log_ledger.proofs.Flushed.{counted_forgotten}
 use Rattle.log_ledger.proofs.Orders.{order_forgotten}
 use Rattle.log_ledger.proofs.ledger.Ledger.forget_flushed.Goals as goal
@@ -22,18 +25,18 @@ after c = record {
 forgotten : (c : goal.After-forget_lower) → ForgottenBy c.args.self.now (after c)
 forgotten c =
     let was = c.self.view_is in record {
-      same = record {
-        drawn = λ i. (was i).drawn;
-        synced = λ i. (was i).synced;
-        stored = λ i. (was i).stored;
-        closed = λ i. (was i).closed;
-        next_store = λ i. (was i).next_store;
-        flushed = c.forget_lower.ensures.numbers.flushed ∙ (λ i. (was i).accounts.flushed);
+      drawn = λ i. (was i).drawn;
+      synced = λ i. (was i).synced;
+      stored = λ i. (was i).stored;
+      closed = λ i. (was i).closed;
+      next_store = λ i. (was i).next_store;
+      keeps = record {
+        numbers = subst (λ (b : Books). SameNumbers b.accounts c.forget_lower.new.self) was c.forget_lower.ensures.numbers;
+        history = subst (λ (b : Books). (notes : List Note) → HasNoted b.accounts notes → HasNoted c.forget_lower.new.self notes) was c.forget_lower.ensures.history;
+        order = c.forget_lower.ensures.order;
       };
-      noted = c.forget_lower.ensures.numbers.noted ∙ (λ i. (was i).accounts.noted);
-      flushing = c.forget_lower.ensures.numbers.flushing ∙ (λ i. (was i).accounts.flushing);
       current = c.forget_lower.ensures.current ∙ (λ i. (was i).accounts.current);
-      files = c.forget_lower.ensures.closed ∙ (λ i. unflushed (was i).accounts.flushed (was i).accounts.closed);
+      files = c.forget_lower.ensures.closed ∙ (λ i. unflushed (was i).accounts);
       last = c.forget_lower.ensures.last ∙ (λ i. (was i).accounts.last);
       chains = λ i. (was i).chains;
     }
@@ -46,9 +49,24 @@ invariant_of-self c = order_forgotten c.args.self.now (after c) (subst AreInOrde
 
 pub returns-clause-counted : goal.returns-clause-counted
 returns-clause-counted c h counted =
-    let found = counted_forgotten c.args.self.now (after c) h (subst AreInOrder c.self.view_is c.self.invariant) (forgotten c) counted in
+    let found = counted_forgotten c.args.self.now (after c) h (forgotten c) (subst (λ (b : Books). (f : ClosedFile) → Contains b.accounts.closed f → IsTested b f) c.self.view_is c.forget_lower.ensures.tests) counted in
     let long = counted_length c.args.self.now c.args.self.now.accounts.closed h.logs counted.logs in
     (found.0, found.1, omega (arith, found.2, fewer c, long), found.3)
 
 pub returns-clause-fewer : goal.returns-clause-fewer
 returns-clause-fewer c = fewer c
+
+pub returns-clause-few : goal.returns-clause-few
+returns-clause-few c limit few =
+    let s = forgotten c in few_same limit c.args.self.now (after c) s.keeps.history (flushed_same c.args.self.now.accounts c.forget_lower.new.self s.keeps.numbers.flushed) s.drawn s.next_store few
+
+pub returns-clause-same : goal.returns-clause-same
+returns-clause-same c =
+    let s = forgotten c in record {
+      drawn = s.drawn;
+      synced = s.synced;
+      stored = s.stored;
+      closed = s.closed;
+      next_store = s.next_store;
+      flushed = flushed_same c.args.self.now.accounts c.forget_lower.new.self s.keeps.numbers.flushed;
+    }

@@ -15,7 +15,7 @@ use Rattle.log_service.specs.Halves.{Stands, Fell, RecoversHeld}
 use Rattle.log_service.proofs.Chains.{come_append}
 use Rattle.log_service.proofs.ItemLaws.{all_with}
 use Rattle.log_service.proofs.Committed.{spelled_entries, of_all, follow_within, follow_served, popped_follows, come_at, come_later, told_later, stands_more, falls, since_more, rose_before, on_ok, on_err}
-use Rattle.log_service.proofs.Tied.{few_same}
+use Rattle.log_service.proofs.Stored.{stored_on}
 use Rattle.log_service.proofs.Elapsed.{goes_on_by}
 use Rattle.log_service.proofs.committer.DeviceHalf.commit_one.Goals as goal
 
@@ -24,8 +24,8 @@ pub invariant_of-self : goal.invariant_of-self
 invariant_of-self g c =
     let s = c.args.self.now in
     let v = g.D.Disk.view (disk_of s.device) in
-    let lasts : List ℕ = g.N.Naming.lasts in
-    let base = g.N.Naming.base in
+    let lasts : List ℕ = g.N.ServiceNaming.lasts in
+    let base = g.N.ServiceNaming.begun in
     let same = c.in_default.ensures.popped.0 in
     let still : all_trucks (view s.consumer.pass).popped ≡ all_trucks (view c.pop.new.pass.pass).popped = ap (λ k. all_trucks k.popped) (sym same) in
     record {
@@ -35,9 +35,10 @@ invariant_of-self g c =
       idle = s.idle;
       drawn = subst (λ (ts : List Held). (IsBroken s.device → ⊥) → (r : ℕ) → 0 < r → r ≤ length lasts → get_or (books_of s.device).drawn r 0 ≡ come_to (base_of lasts) ts r) still s.drawn;
       synced = s.synced;
+      stored = s.stored;
       stands = λ told whole. subst (λ (ts : List Held). ∥ ((h : History) × Stands base lasts s.device v ts h) ∥₁) still (s.stands told whole);
       fell = λ told broken. subst (λ (ts : List Held). ∥ ((h : History) × Fell base lasts s.device v ts h) ∥₁) still (s.fell told broken);
-      since = λ told. subst (λ (ts : List Held). ∥ Since g.N.Naming.start (RecoversHeld base ts) v ∥₁) still (s.since told);
+      since = λ told. subst (λ (ts : List Held). ∥ Since g.N.ServiceNaming.start (RecoversHeld base ts) v ∥₁) still (s.since told);
       goes_on = s.goes_on;
       cause = s.cause;
     }
@@ -45,7 +46,7 @@ invariant_of-self g c =
 pub commit_load-requires-clause-served : goal.commit_load-requires-clause-served
 commit_load-requires-clause-served g c =
     let s = c.args.self.now in
-    let lasts : List ℕ = g.N.Naming.lasts in
+    let lasts : List ℕ = g.N.ServiceNaming.lasts in
     let popped = (view s.consumer.pass).popped in
     let order = subst (λ (l : List ℕ). AreInOrder l (of (λ (_ : List Held). 1) 1 (popped ++ c.in-Some.load ∷ []))) s.from.1 c.in-Some.ensures.popped.ordered in
     follow_served (books_of s.device) (length lasts) (come_to (base_of lasts) (all_trucks popped)) c.in-Some.load s.served (popped_follows lasts popped c.in-Some.load order)
@@ -53,7 +54,7 @@ commit_load-requires-clause-served g c =
 pub commit_load-requires-clause-rising : goal.commit_load-requires-clause-rising
 commit_load-requires-clause-rising g c =
     let s = c.args.self.now in
-    let lasts : List ℕ = g.N.Naming.lasts in
+    let lasts : List ℕ = g.N.ServiceNaming.lasts in
     let popped = (view s.consumer.pass).popped in
     let order = subst (λ (l : List ℕ). AreInOrder l (of (λ (_ : List Held). 1) 1 (popped ++ c.in-Some.load ∷ []))) s.from.1 c.in-Some.ensures.popped.ordered in
     (length lasts, follow_within (length lasts) (come_to (base_of lasts) (all_trucks popped)) (drawn_in (books_of s.device)) c.in-Some.load (λ r low high. sym (s.drawn c.requires.unbroken r low high)) (popped_follows lasts popped c.in-Some.load order))
@@ -69,9 +70,9 @@ invariant_of-self-2 g c =
     let load : List Held = c.in-Some.load in
     let v = g.D.Disk.view (disk_of s.device) in
     let w = g.D.Disk.view (disk_of d) in
-    let lasts : List ℕ = g.N.Naming.lasts in
-    let base = g.N.Naming.base in
-    let start = g.N.Naming.start in
+    let lasts : List ℕ = g.N.ServiceNaming.lasts in
+    let base = g.N.ServiceNaming.begun in
+    let start = g.N.ServiceNaming.start in
     let got = c.in-Some.ensures.popped in
     let said = c.commit_load.ensures in
     let popped = (view s.consumer.pass).popped in
@@ -87,11 +88,12 @@ invariant_of-self-2 g c =
           said.drawn r ∙ (come_at (drawn_in (books_of s.device)) (come_to (base_of lasts) ts) load r (s.drawn c.requires.unbroken r low high)
           ∙ (ap (λ (f : ℕ → ℕ). f r) (sym (come_append (base_of lasts) ts load)) ∙ ap (λ (l : List Held). come_to (base_of lasts) l r) now));
       synced = λ whole. on_ok c.commit_load.result said.synced (λ err. whole (said.broken.0 err));
+      stored = stored_on (books_of s.device) (books_of d) said.told.0 said.rises s.stored;
       stands = λ told whole.
           subst (λ (l : List Held). ∥ ((h : History) × Stands base lasts d w l h) ∥₁) now
           (∥∥₁_map₂ (s.stands told c.requires.unbroken) entries (λ x e.
           let committed = on_ok c.commit_load.result (said.committed told x.0 e.0 x.1.whole x.1.idle e.1) (λ err. whole (said.broken.0 err)) in
-          (committed_in (all_staged_in x.0 e.0), stands_more base lasts ts load x.0 e.0 e.1 s.device d v w x.1 committed (few_same (books_of s.device) (books_of d) said.told.2 said.told.0))));
+          (committed_in (all_staged_in x.0 e.0), stands_more base lasts ts load x.0 e.0 e.1 s.device d v w x.1 committed said.few)));
       fell = λ told broken.
           subst (λ (l : List Held). ∥ ((h : History) × Fell base lasts d w l h) ∥₁) now
           (∥∥₁_map₂ (s.stands told c.requires.unbroken) entries (λ x e. (
@@ -106,10 +108,10 @@ invariant_of-self-2 g c =
           since_more base lasts ts load x.0 e.0 e.1 s.device v w start (g.met.D.Disk.is_true (disk_of s.device) told) x.1 (said.any_moment told x.0 e.0 x.1.whole x.1.idle e.1) past)));
       goes_on = λ told.
           ∥∥₁_elim entries ∥∥₁_prop (λ e.
-          ∥∥₁_map₂ (s.stands told c.requires.unbroken) (s.goes_on told) (λ x so_far. goes_on_by start g.N.Naming.past 4 v w (said.any_moment told x.0 e.0 x.1.whole x.1.idle e.1).time so_far));
+          ∥∥₁_map₂ (s.stands told c.requires.unbroken) (s.goes_on told) (λ x so_far. goes_on_by start g.N.ServiceNaming.past 4 v w (said.any_moment told x.0 e.0 x.1.whole x.1.idle e.1).time so_far));
       cause = ∥∥₁_map s.cause (λ k. record {
         later = (let l = k.later in let m = said.cause.later in omega (arith, l, m));
-        risen = λ broken. rose_before g.N.Naming.faults (g.D.Disk.faults (disk_of s.device)) (g.D.Disk.faults (disk_of d)) k.later (said.cause.risen (said.broken.1 broken));
+        risen = λ broken. rose_before g.N.ServiceNaming.faults (g.D.Disk.faults (disk_of s.device)) (g.D.Disk.faults (disk_of d)) k.later (said.cause.risen (said.broken.1 broken));
       });
     }
 
@@ -118,7 +120,7 @@ returns-in-Ok-clause-later g c =
     let s = c.args.self.now in
     let said = c.commit_load.ensures in
     let ok = c.in-Ok.ensures in
-    let lasts : List ℕ = g.N.Naming.lasts in
+    let lasts : List ℕ = g.N.ServiceNaming.lasts in
     let popped = (view s.consumer.pass).popped in
     let order = subst (λ (l : List ℕ). AreInOrder l (of (λ (_ : List Held). 1) 1 (popped ++ c.in-Some.load ∷ []))) s.from.1 c.in-Some.ensures.popped.ordered in
     let rising = follow_within (length lasts) (come_to (base_of lasts) (all_trucks popped)) (drawn_in (books_of s.device)) c.in-Some.load (λ r low high. sym (s.drawn c.requires.unbroken r low high)) (popped_follows lasts popped c.in-Some.load order) in
@@ -152,4 +154,4 @@ returns-in-Ok-clause-ordered g c n is =
     let got = c.in-Some.ensures.popped in
     let popped = (view s.consumer.pass).popped in
     let order = subst (λ (l : List ℕ). AreInOrder l (of (λ (_ : List Held). 1) 1 (popped ++ c.in-Some.load ∷ []))) s.from.1 got.ordered in
-    subst (AreInOrder g.N.Naming.lasts) (of_all (popped ++ c.in-Some.load ∷ []) ∙ sym (ap (λ k. k.popped) got.now)) order
+    subst (AreInOrder g.N.ServiceNaming.lasts) (of_all (popped ++ c.in-Some.load ∷ []) ∙ sym (ap (λ k. k.popped) got.now)) order

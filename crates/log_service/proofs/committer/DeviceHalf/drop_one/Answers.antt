@@ -17,9 +17,9 @@ pub invariant_of-self : goal.invariant_of-self
 invariant_of-self g c =
     let s = c.args.self.now in
     let v = g.D.Disk.view (disk_of s.device) in
-    let lasts : List ℕ = g.N.Naming.lasts in
-    let base = g.N.Naming.base in
-    let start = g.N.Naming.start in
+    let lasts : List ℕ = g.N.ServiceNaming.lasts in
+    let base = g.N.ServiceNaming.begun in
+    let start = g.N.ServiceNaming.start in
     let p = popped_more _ (view s.consumer.pass) (view c.pop.new.pass.pass) c.pop.result c.pop.ensures.popped in
     let ts : List Held = all_trucks (view s.consumer.pass).popped in
     let now : ts ++ p.more ≡ all_trucks (view c.pop.new.pass.pass).popped = sym p.all in
@@ -30,6 +30,7 @@ invariant_of-self g c =
       idle = s.idle;
       drawn = λ whole. absurd (whole c.requires.broken);
       synced = s.synced;
+      stored = s.stored;
       stands = λ told whole. absurd (whole c.requires.broken);
       fell = λ told broken.
           subst (λ (l : List Held). ∥ ((h : History) × Fell base lasts s.device v l h) ∥₁) now

@@ -25,7 +25,7 @@ returns-clause-flushed g c =
     let rose = synced_rose mid.regions (books_of mid.device) (books_of new.device) later c.args.region c.requires.region.0 (omega (arith, c.requires.region, c.move_up_to.ensures.same)) in
     let stood = stored_rose old.regions (books_of old.device) (books_of late.device) below c.args.region c.requires.region.0 c.requires.region.1 in
     then_whole c.flush.result refusals.WriteFault c.flush.ensures.broken.1
-    (λ n unbroken said. (omega (arith, done, rose, said.last), record { last = said.last; stored = said.stored; above = omega (arith, stood, said.above) })) c.flush.ensures.flushed
+    (λ n unbroken said. (omega (arith, done, rose, said.last), record { last = said.last; stored = said.stored; above = λ all. omega (arith, stood, said.above all) })) c.flush.ensures.flushed
 
 pub returns-clause-nothing : goal.returns-clause-nothing
 returns-clause-nothing g c n is =

@@ -17,7 +17,7 @@ pub push-requires-clause-order : goal.push-requires-clause-order
 push-requires-clause-order g c =
     let s = c.args.self.now in
     let pushed = (view s.hand.pass).pushed in
-    let order = handed_in_order g.N.Naming.lasts pushed s.load (appended (held_in s.held)) (appended (view s.consumer.pass).popped) s.tie s.follow in
+    let order = handed_in_order g.N.ServiceNaming.lasts pushed s.load (appended (held_in s.held)) (appended (view s.consumer.pass).popped) s.tie s.follow in
     subst (λ (p : List ℕ × List Held). AreInOrder p.0 (pushed ++ p.1 ∷ [])) (λ i. (sym s.to.2 i, sym c.replace-load.ensures.value i)) order
 
 pub invariant_of-self : goal.invariant_of-self

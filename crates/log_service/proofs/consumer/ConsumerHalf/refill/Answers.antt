@@ -17,7 +17,7 @@ pub invariant_of-self-2 : goal.invariant_of-self-2
 invariant_of-self-2 g c =
     let s = c.args.self.now in
     let x : Item = c.in-Some.item in
-    let lasts : List ℕ = g.N.Naming.lasts in
+    let lasts : List ℕ = g.N.ServiceNaming.lasts in
     let popped : List Item = (view s.consumer.pass).popped in
     let got = c.in-Some.ensures.popped in
     let none : s.held ≡ None = no_some s.held (sym c.is_some.ensures ∙ c.if-is_some.false) in

@@ -33,16 +33,16 @@ settle_items-requires-clause-there g c = subst (λ (id : TableId). EachThere (λ
 pub put_back-requires : goal.put_back-requires
 put_back-requires g c =
     let mover = c.settle_items.new.mover in
-    let rest = subst (λ (l : List (Option (RingPass (List Held)))). ∥ AreNewAfter g.N.Naming.hand g.N.Naming.lasts 0 1 l ∥₁) (sym c.into_passes-items.ensures.2) mover.rest.0 in
-    idle_empty g.N.Naming.hand g.N.Naming.lasts c.into_passes-items.result.2 c.into_passes-items.result.1 rest (ap (λ (p : RingPass (List Held)). p.region) c.into_passes-items.ensures.1 ∙ mover.to.1)
+    let rest = subst (λ (l : List (Option (RingPass (List Held)))). ∥ AreNewAfter g.N.ServiceNaming.hand g.N.ServiceNaming.lasts 0 1 l ∥₁) (sym c.into_passes-items.ensures.2) mover.rest.0 in
+    idle_empty g.N.ServiceNaming.hand g.N.ServiceNaming.lasts c.into_passes-items.result.2 c.into_passes-items.result.1 rest (ap (λ (p : RingPass (List Held)). p.region) c.into_passes-items.ensures.1 ∙ mover.to.1)
 
 pub settle_loads-requires-clause-there : goal.settle_loads-requires-clause-there
 settle_loads-requires-clause-there g c =
-    let id = g.N.Naming.hand in
+    let id = g.N.ServiceNaming.hand in
     let pass = c.into_passes-items.result.1 in
     let mover = c.settle_items.new.mover in
     let is = c.into_passes-items.ensures.1 in
-    let there = idle_back id g.N.Naming.lasts c.into_passes-items.result.2 pass (subst (λ (l : List (Option (RingPass (List Held)))). ∥ AreNewAfter g.N.Naming.hand g.N.Naming.lasts 0 1 l ∥₁) (sym c.into_passes-items.ensures.2) c.settle_items.new.mover.rest.0) (ap (λ (p : RingPass (List Held)). p.pass.table_id) is ∙ mover.to.0) (ap (λ (p : RingPass (List Held)). p.region) is ∙ mover.to.1) in
+    let there = idle_back id g.N.ServiceNaming.lasts c.into_passes-items.result.2 pass (subst (λ (l : List (Option (RingPass (List Held)))). ∥ AreNewAfter g.N.ServiceNaming.hand g.N.ServiceNaming.lasts 0 1 l ∥₁) (sym c.into_passes-items.ensures.2) c.settle_items.new.mover.rest.0) (ap (λ (p : RingPass (List Held)). p.pass.table_id) is ∙ mover.to.0) (ap (λ (p : RingPass (List Held)). p.region) is ∙ mover.to.1) in
     subst (λ (i : TableId). EachThere (λ p. p.pass.table_id ≡ i) c.put_back.new.self) (sym c.self.invariant.1) (subst (EachThere (λ p. p.pass.table_id ≡ id)) (sym c.put_back.ensures) there)
 
 pub close-requires-clause-there : goal.close-requires-clause-there
@@ -55,11 +55,11 @@ close-requires-clause-counts g c =
 
 pub close-requires-2-clause-there : goal.close-requires-2-clause-there
 close-requires-2-clause-there g c =
-    let id = g.N.Naming.hand in
+    let id = g.N.ServiceNaming.hand in
     let pass = c.into_passes-items.result.1 in
     let mover = c.settle_items.new.mover in
     let is = c.into_passes-items.ensures.1 in
-    let there = idle_back id g.N.Naming.lasts c.into_passes-items.result.2 pass (subst (λ (l : List (Option (RingPass (List Held)))). ∥ AreNewAfter g.N.Naming.hand g.N.Naming.lasts 0 1 l ∥₁) (sym c.into_passes-items.ensures.2) c.settle_items.new.mover.rest.0) (ap (λ (p : RingPass (List Held)). p.pass.table_id) is ∙ mover.to.0) (ap (λ (p : RingPass (List Held)). p.region) is ∙ mover.to.1) in
+    let there = idle_back id g.N.ServiceNaming.lasts c.into_passes-items.result.2 pass (subst (λ (l : List (Option (RingPass (List Held)))). ∥ AreNewAfter g.N.ServiceNaming.hand g.N.ServiceNaming.lasts 0 1 l ∥₁) (sym c.into_passes-items.ensures.2) c.settle_items.new.mover.rest.0) (ap (λ (p : RingPass (List Held)). p.pass.table_id) is ∙ mover.to.0) (ap (λ (p : RingPass (List Held)). p.region) is ∙ mover.to.1) in
     subst (λ (i : TableId). EachThere (λ p. p.pass.table_id ≡ i) c.put_back.new.self) (sym c.self.invariant.1) (subst (EachThere (λ p. p.pass.table_id ≡ id)) (sym c.put_back.ensures) there)
 
 pub close-requires-2-clause-counts : goal.close-requires-2-clause-counts
@@ -91,8 +91,8 @@ returns-clause-commits g c told r content pushed p =
     let mid = c.settle_items.new.committer in
     let ware = c.close-committer.result.ware in
     let words : List ℕ = c.close-committer.result.synced in
-    let lasts : List ℕ = g.N.Naming.lasts in
-    let base = g.N.Naming.base in
+    let lasts : List ℕ = g.N.ServiceNaming.lasts in
+    let base = g.N.ServiceNaming.begun in
     let disk = g.D.Disk.view (disk_of half.device) in
     let pass = c.into_passes-items.result.1 in
     let pass_is = c.into_passes-items.ensures.1 in
@@ -102,7 +102,7 @@ returns-clause-commits g c told r content pushed p =
     let popped : List (List Held) = (view c.into_parts-device.result.1.pass).popped in
     let popped_is : popped ≡ loads = ap (λ k. (view {T = List Held} {V = Knows (List Held)} k.pass).popped) c.into_parts-device.ensures.1 in
     let back = subst (EachThere (IsEqual (λ (_ : List Held). 1) popped)) c.put_back.ensures c.close-2.ensures.equal in
-    let equal_loads = idle_first g.N.Naming.hand lasts (IsEqual (λ (_ : List Held). 1) popped) c.into_passes-items.result.2 pass (subst (λ (l : List (Option (RingPass (List Held)))). ∥ AreNewAfter g.N.Naming.hand g.N.Naming.lasts 0 1 l ∥₁) (sym c.into_passes-items.ensures.2) c.settle_items.new.mover.rest.0) region back in
+    let equal_loads = idle_first g.N.ServiceNaming.hand lasts (IsEqual (λ (_ : List Held). 1) popped) c.into_passes-items.result.2 pass (subst (λ (l : List (Option (RingPass (List Held)))). ∥ AreNewAfter g.N.ServiceNaming.hand g.N.ServiceNaming.lasts 0 1 l ∥₁) (sym c.into_passes-items.ensures.2) c.settle_items.new.mover.rest.0) region back in
     let through : loads ≡ (view mover.hand.pass).pushed = loads_pushed pass mover.hand loads popped pass_is region popped_is equal_loads in
     let moved = c.settle_items.ensures.moved in
     let every : all_trucks loads ≡ appended items = all_popped (view mover.hand.pass).pushed loads mover.load mover.held items mover.tie moved.load moved.held through in
@@ -115,7 +115,7 @@ returns-clause-commits g c told r content pushed p =
     let told_at_close = c.close-committer.ensures.ware.0 in
     let mid_low = no_more-trans words (told_numbers ware.regions (books_of ware.device)) (told_numbers mid.regions (books_of mid.device)) told_at_close c.settle_items.ensures.later in
     let low = no_more-trans words (told_numbers mid.regions (books_of mid.device)) (told_numbers half.regions (books_of half.device)) mid_low c.settle_loads.ensures.later in
-    let here = region_commits base lasts half.device disk (all_trucks loads) follow half.regions half.all.0 c.broken-broken.result is (half.stands told) (half.fell told) items every c.args.passes there equal r content pushed p words low half.served in
+    let here = region_commits base lasts half.device disk (all_trucks loads) follow half.regions half.all.0 c.broken-broken.result is (half.stands told) (half.fell told) items every c.args.passes there equal r content pushed p words low half.served half.stored in
     subst (λ (n : ℕ). ∥ CommitsRegion (g.D.Disk.view c.into_disk.result) c.broken-broken.result n words lasts r content pushed ∥₁) n_is
     (subst (λ d. ∥ CommitsRegion (g.D.Disk.view d) c.broken-broken.result half.regions words lasts r content pushed ∥₁) (sym disk_is) here)
 
@@ -126,8 +126,8 @@ returns-clause-since g c told r content pushed p =
     let mid = c.settle_items.new.committer in
     let ware = c.close-committer.result.ware in
     let words : List ℕ = c.close-committer.result.synced in
-    let lasts : List ℕ = g.N.Naming.lasts in
-    let base = g.N.Naming.base in
+    let lasts : List ℕ = g.N.ServiceNaming.lasts in
+    let base = g.N.ServiceNaming.begun in
     let disk = g.D.Disk.view (disk_of half.device) in
     let pass = c.into_passes-items.result.1 in
     let pass_is = c.into_passes-items.ensures.1 in
@@ -137,7 +137,7 @@ returns-clause-since g c told r content pushed p =
     let popped : List (List Held) = (view c.into_parts-device.result.1.pass).popped in
     let popped_is : popped ≡ loads = ap (λ k. (view {T = List Held} {V = Knows (List Held)} k.pass).popped) c.into_parts-device.ensures.1 in
     let back = subst (EachThere (IsEqual (λ (_ : List Held). 1) popped)) c.put_back.ensures c.close-2.ensures.equal in
-    let equal_loads = idle_first g.N.Naming.hand lasts (IsEqual (λ (_ : List Held). 1) popped) c.into_passes-items.result.2 pass (subst (λ (l : List (Option (RingPass (List Held)))). ∥ AreNewAfter g.N.Naming.hand g.N.Naming.lasts 0 1 l ∥₁) (sym c.into_passes-items.ensures.2) c.settle_items.new.mover.rest.0) region back in
+    let equal_loads = idle_first g.N.ServiceNaming.hand lasts (IsEqual (λ (_ : List Held). 1) popped) c.into_passes-items.result.2 pass (subst (λ (l : List (Option (RingPass (List Held)))). ∥ AreNewAfter g.N.ServiceNaming.hand g.N.ServiceNaming.lasts 0 1 l ∥₁) (sym c.into_passes-items.ensures.2) c.settle_items.new.mover.rest.0) region back in
     let through : loads ≡ (view mover.hand.pass).pushed = loads_pushed pass mover.hand loads popped pass_is region popped_is equal_loads in
     let moved = c.settle_items.ensures.moved in
     let every : all_trucks loads ≡ appended items = all_popped (view mover.hand.pass).pushed loads mover.load mover.held items mover.tie moved.load moved.held through in
@@ -147,20 +147,20 @@ returns-clause-since g c told r content pushed p =
     let n_is : half.regions ≡ c.args.self.regions = half.all.0 ∙ (sym c.self.invariant.6 ∙ ap (λ (p : Place). p.regions) c.self.view_is) in
     let there : length c.args.passes ≡ half.regions = c.requires.passes.1 ∙ sym n_is in
     let disk_is = c.into_disk.ensures ∙ ap disk_of c.into_parts-device.ensures.0 in
-    let here = region_since base lasts half.device disk (all_trucks loads) follow half.regions half.all.0 c.broken-broken.result is (half.stands told) (half.fell told) items every c.args.passes there equal r content pushed p g.N.Naming.start (half.since told) in
-    subst (λ d. ∥ CommitsSince g.N.Naming.start (g.D.Disk.view d) r (base_of lasts r) content pushed ∥₁) (sym disk_is) here
+    let here = region_since base lasts half.device disk (all_trucks loads) follow half.regions half.all.0 c.broken-broken.result is (half.stands told) (half.fell told) items every c.args.passes there equal r content pushed p g.N.ServiceNaming.start (half.since told) in
+    subst (λ d. ∥ CommitsSince g.N.ServiceNaming.start (g.D.Disk.view d) r (base_of lasts r) content pushed ∥₁) (sym disk_is) here
 
 pub returns-clause-goes_on : goal.returns-clause-goes_on
 returns-clause-goes_on g c told =
     let half = c.settle_loads.new.committer in
-    subst (λ d. ∥ GoesOnFrom g.N.Naming.start g.N.Naming.past (g.D.Disk.view d) ∥₁) (sym (c.into_disk.ensures ∙ ap disk_of c.into_parts-device.ensures.0)) (half.goes_on told)
+    subst (λ d. ∥ GoesOnFrom g.N.ServiceNaming.start g.N.ServiceNaming.past (g.D.Disk.view d) ∥₁) (sym (c.into_disk.ensures ∙ ap disk_of c.into_parts-device.ensures.0)) (half.goes_on told)
 
 pub returns-clause-others_since : goal.returns-clause-others_since
 returns-clause-others_since g c told =
     let half = c.settle_loads.new.committer in
     let mover = c.settle_items.new.mover in
-    let lasts : List ℕ = g.N.Naming.lasts in
-    let base = g.N.Naming.base in
+    let lasts : List ℕ = g.N.ServiceNaming.lasts in
+    let base = g.N.ServiceNaming.begun in
     let disk = g.D.Disk.view (disk_of half.device) in
     let pass = c.into_passes-items.result.1 in
     let pass_is = c.into_passes-items.ensures.1 in
@@ -170,7 +170,7 @@ returns-clause-others_since g c told =
     let popped : List (List Held) = (view c.into_parts-device.result.1.pass).popped in
     let popped_is : popped ≡ loads = ap (λ k. (view {T = List Held} {V = Knows (List Held)} k.pass).popped) c.into_parts-device.ensures.1 in
     let back = subst (EachThere (IsEqual (λ (_ : List Held). 1) popped)) c.put_back.ensures c.close-2.ensures.equal in
-    let equal_loads = idle_first g.N.Naming.hand lasts (IsEqual (λ (_ : List Held). 1) popped) c.into_passes-items.result.2 pass (subst (λ (l : List (Option (RingPass (List Held)))). ∥ AreNewAfter g.N.Naming.hand g.N.Naming.lasts 0 1 l ∥₁) (sym c.into_passes-items.ensures.2) c.settle_items.new.mover.rest.0) region back in
+    let equal_loads = idle_first g.N.ServiceNaming.hand lasts (IsEqual (λ (_ : List Held). 1) popped) c.into_passes-items.result.2 pass (subst (λ (l : List (Option (RingPass (List Held)))). ∥ AreNewAfter g.N.ServiceNaming.hand g.N.ServiceNaming.lasts 0 1 l ∥₁) (sym c.into_passes-items.ensures.2) c.settle_items.new.mover.rest.0) region back in
     let through : loads ≡ (view mover.hand.pass).pushed = loads_pushed pass mover.hand loads popped pass_is region popped_is equal_loads in
     let moved = c.settle_items.ensures.moved in
     let every : all_trucks loads ≡ appended items = all_popped (view mover.hand.pass).pushed loads mover.load mover.held items mover.tie moved.load moved.held through in
@@ -179,16 +179,16 @@ returns-clause-others_since g c told =
     let n_is : half.regions ≡ c.args.self.regions = half.all.0 ∙ (sym c.self.invariant.6 ∙ ap (λ (p : Place). p.regions) c.self.view_is) in
     let disk_is = c.into_disk.ensures ∙ ap disk_of c.into_parts-device.ensures.0 in
     let few : length lasts ≤ 64 = (let n = half.all.0 in omega (arith, n, half.all.1)) in
-    let here = either_others base lasts few half.device disk (all_trucks loads) follow c.broken-broken.result is (half.stands told) (half.fell told) g.N.Naming.start (half.since told) in
-    subst (λ (n : ℕ). ∥ OthersSince g.N.Naming.start base n (g.D.Disk.view c.into_disk.result) ∥₁) (sym half.all.0 ∙ n_is)
-    (subst (λ d. ∥ OthersSince g.N.Naming.start base (length lasts) (g.D.Disk.view d) ∥₁) (sym disk_is) here)
+    let here = either_others base lasts few half.device disk (all_trucks loads) follow c.broken-broken.result is (half.stands told) (half.fell told) g.N.ServiceNaming.start (half.since told) in
+    subst (λ (n : ℕ). ∥ OthersSince g.N.ServiceNaming.start base n (g.D.Disk.view c.into_disk.result) ∥₁) (sym half.all.0 ∙ n_is)
+    (subst (λ d. ∥ OthersSince g.N.ServiceNaming.start base (length lasts) (g.D.Disk.view d) ∥₁) (sym disk_is) here)
 
 pub returns-clause-leaves : goal.returns-clause-leaves
 returns-clause-leaves g c told =
     let half = c.settle_loads.new.committer in
     let mover = c.settle_items.new.mover in
-    let lasts : List ℕ = g.N.Naming.lasts in
-    let base = g.N.Naming.base in
+    let lasts : List ℕ = g.N.ServiceNaming.lasts in
+    let base = g.N.ServiceNaming.begun in
     let disk = g.D.Disk.view (disk_of half.device) in
     let pass = c.into_passes-items.result.1 in
     let pass_is = c.into_passes-items.ensures.1 in
@@ -198,7 +198,7 @@ returns-clause-leaves g c told =
     let popped : List (List Held) = (view c.into_parts-device.result.1.pass).popped in
     let popped_is : popped ≡ loads = ap (λ k. (view {T = List Held} {V = Knows (List Held)} k.pass).popped) c.into_parts-device.ensures.1 in
     let back = subst (EachThere (IsEqual (λ (_ : List Held). 1) popped)) c.put_back.ensures c.close-2.ensures.equal in
-    let equal_loads = idle_first g.N.Naming.hand lasts (IsEqual (λ (_ : List Held). 1) popped) c.into_passes-items.result.2 pass (subst (λ (l : List (Option (RingPass (List Held)))). ∥ AreNewAfter g.N.Naming.hand g.N.Naming.lasts 0 1 l ∥₁) (sym c.into_passes-items.ensures.2) c.settle_items.new.mover.rest.0) region back in
+    let equal_loads = idle_first g.N.ServiceNaming.hand lasts (IsEqual (λ (_ : List Held). 1) popped) c.into_passes-items.result.2 pass (subst (λ (l : List (Option (RingPass (List Held)))). ∥ AreNewAfter g.N.ServiceNaming.hand g.N.ServiceNaming.lasts 0 1 l ∥₁) (sym c.into_passes-items.ensures.2) c.settle_items.new.mover.rest.0) region back in
     let through : loads ≡ (view mover.hand.pass).pushed = loads_pushed pass mover.hand loads popped pass_is region popped_is equal_loads in
     let moved = c.settle_items.ensures.moved in
     let every : all_trucks loads ≡ appended items = all_popped (view mover.hand.pass).pushed loads mover.load mover.held items mover.tie moved.load moved.held through in
@@ -214,10 +214,10 @@ returns-clause-leaves g c told =
 pub returns-clause-faults : goal.returns-clause-faults
 returns-clause-faults g c =
     let half = c.settle_loads.new.committer in
-    subst (λ d. g.N.Naming.faults ≤ g.D.Disk.faults d) (sym (c.into_disk.ensures ∙ ap disk_of c.into_parts-device.ensures.0)) (∥∥₁_elim half.cause le_prop (λ k. k.later))
+    subst (λ d. g.N.ServiceNaming.faults ≤ g.D.Disk.faults d) (sym (c.into_disk.ensures ∙ ap disk_of c.into_parts-device.ensures.0)) (∥∥₁_elim half.cause le_prop (λ k. k.later))
 
 pub returns-clause-cause : goal.returns-clause-cause
 returns-clause-cause g c broken =
     let half = c.settle_loads.new.committer in
     let is = subst (λ d. (c.broken-broken.result ≡ true) ↔ IsBroken d) c.into_parts-device.ensures.0 c.broken-broken.ensures in
-    subst (λ d. Rose g.N.Naming.faults (g.D.Disk.faults d)) (sym (c.into_disk.ensures ∙ ap disk_of c.into_parts-device.ensures.0)) (∥∥₁_elim half.cause le_prop (λ k. k.risen (is.0 broken)))
+    subst (λ d. Rose g.N.ServiceNaming.faults (g.D.Disk.faults d)) (sym (c.into_disk.ensures ∙ ap disk_of c.into_parts-device.ensures.0)) (∥∥₁_elim half.cause le_prop (λ k. k.risen (is.0 broken)))

@@ -11,5 +11,5 @@ returns-in-Committed-clause-sees g c n is =
     let unbroken = (c.in-Committed.ensures.committed n (cc is)).3 in
     let regions = ap (λ (p : Place). p.regions) c.self.view_is in
     let n_is : ware.regions ≡ c.args.self.now.regions = ware.all.0 ∙ (sym c.self.invariant.6 ∙ regions) in
-    saw_committed g.N.Naming.lasts ware.regions (books_of ware.device) (view ware.consumer.pass).popped ware.all.0 (ware.synced unbroken) (ware.drawn unbroken) c.raise_all.new.seat.knows
+    saw_committed g.N.ServiceNaming.lasts ware.regions (books_of ware.device) (view ware.consumer.pass).popped ware.all.0 (ware.synced unbroken) (ware.drawn unbroken) c.raise_all.new.seat.knows
     (λ i low. c.raise_all.ensures.all i (omega (arith, low, n_is, regions)))

@@ -30,8 +30,8 @@ returns-clause-flushed g c =
     let saw = c.give_both.ensures.saw (sym c.give_both.ensures.broken ∙ not_broken (log_of ware.device) unbroken) in
     record {
       upto = said.0;
-      stored = sym said.1.stored ∙ sym (saw.stored r c.requires.region.0 c.requires.region.1);
-      above = omega (arith, low, said.1.above);
+      stored = λ all. sym (said.1.stored all) ∙ sym (saw.stored r c.requires.region.0 c.requires.region.1);
+      above = λ all. omega (arith, low, said.1.above all);
       last = sym said.1.last ∙ sym (saw.synced r c.requires.region.0 c.requires.region.1);
     })
     c.flush-flushed.ensures.flushed
@@ -45,8 +45,8 @@ returns-clause-nothing g c n is =
     let saw = c.give_both.ensures.saw (sym c.give_both.ensures.broken ∙ unbroken) in
     record {
       upto = said.0;
-      stored = sym said.1.stored ∙ sym (saw.stored r c.requires.region.0 c.requires.region.1);
-      last = omega (arith, said.1.last, saw.synced r c.requires.region.0 c.requires.region.1);
+      stored = λ all. sym (said.1.stored all) ∙ sym (saw.stored r c.requires.region.0 c.requires.region.1);
+      last = sym said.1.last ∙ sym (saw.synced r c.requires.region.0 c.requires.region.1);
     }
 
 pub returns-clause-moved : goal.returns-clause-moved
@@ -69,6 +69,6 @@ returns-clause-saw g c whole =
       from = ware.from.1;
       empty = (c.flush-flushed.ensures.drained unbroken).1;
       saw =
-          sees_all g.N.Naming.lasts c.args.self.now.regions (books_of ware.device) (view ware.consumer.pass).popped (n_is ∙ ware.all.0) (ware.synced unbroken) (ware.drawn unbroken)
+          sees_all g.N.ServiceNaming.lasts c.args.self.now.regions (books_of ware.device) (view ware.consumer.pass).popped (n_is ∙ ware.all.0) (ware.synced unbroken) (ware.drawn unbroken)
           c.give_both.new.seat.device.knows (c.give_both.ensures.saw whole);
     }

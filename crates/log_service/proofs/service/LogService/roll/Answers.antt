@@ -38,7 +38,7 @@ returns-clause-saw g c whole =
       from = ware.from.1;
       empty = (c.roll-rolled.ensures.drained unbroken).1;
       saw =
-          sees_all g.N.Naming.lasts c.args.self.now.regions (books_of ware.device) (view ware.consumer.pass).popped (n_is ∙ ware.all.0) (ware.synced unbroken) (ware.drawn unbroken)
+          sees_all g.N.ServiceNaming.lasts c.args.self.now.regions (books_of ware.device) (view ware.consumer.pass).popped (n_is ∙ ware.all.0) (ware.synced unbroken) (ware.drawn unbroken)
           c.give_both.new.seat.device.knows (c.give_both.ensures.saw whole);
     }
 

@@ -40,7 +40,7 @@ returns-in-Committed-clause-synced g c n is =
     let after : LogSeat = record { consumer = c.commit_and_raise-commit.new.seat.consumer; device = c.end_turn-2.new.seat } in
     let held = c.in-Ok.ensures.taken.1 in
     let ware = c.in-Ok.turn.ware in
-    let lasts = g.N.Naming.lasts in
+    let lasts = g.N.ServiceNaming.lasts in
     let same = c.commit_and_raise-commit.ensures.seat in
     let knows = c.commit_and_raise-commit.new.seat.device.knows in
     let ended = c.end_turn-2.ensures.1 in
@@ -67,7 +67,7 @@ returns-in-Clean-clause-clean g c is =
     let after : LogSeat = record { consumer = c.commit_and_raise-commit.new.seat.consumer; device = c.end_turn-2.new.seat } in
     let held = c.in-Ok.ensures.taken.1 in
     let ware = c.commit_and_raise-commit.new.turn.ware in
-    let lasts = g.N.Naming.lasts in
+    let lasts = g.N.ServiceNaming.lasts in
     let same = c.commit_and_raise-commit.ensures.seat in
     let knows = c.commit_and_raise-commit.new.seat.device.knows in
     let ended = c.end_turn-2.ensures.1 in

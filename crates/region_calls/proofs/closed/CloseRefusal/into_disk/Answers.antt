@@ -19,13 +19,13 @@ use Rattle.region_calls.proofs.closed.CloseRefusal.into_disk.Goals as goal
 pub let_all_go-requires-clause-passes : goal.let_all_go-requires-clause-passes
 let_all_go-requires-clause-passes g c =
     let the = c.server.inside.service in
-    let of = subst (λ (p : Place). ArePassesOf p g.N.Naming-2.handlers c.args.self.passes) (sym c.server.view_is) c.requires.back.of in
+    let of = subst (λ (p : Place). ArePassesOf p g.N.LockNaming.handlers c.args.self.passes) (sym c.server.view_is) c.requires.back.of in
     (the, of.back, omega (arith, c.server.invariant.1.locks))
 
 pub shut-disk-requires-clause-back : goal.shut-disk-requires-clause-back
 shut-disk-requires-clause-back g c =
     let the = c.server.inside.service in
-    let of = subst (λ (p : Place). ArePassesOf p g.N.Naming-2.handlers c.args.self.passes) (sym c.server.view_is) c.requires.back.of in
+    let of = subst (λ (p : Place). ArePassesOf p g.N.LockNaming.handlers c.args.self.passes) (sym c.server.view_is) c.requires.back.of in
     c.let_all_go.ensures.of the of.back
 
 pub shut-disk-requires-clause-passes : goal.shut-disk-requires-clause-passes
@@ -43,12 +43,12 @@ returns-clause-left g c told r low high =
     let the = c.server.inside.service in
     let done = c.let_all_go.ensures in
     let begun = c.server.invariant.0 in
-    let bases = g.N.Naming-4.base in
-    let handlers = g.N.Naming-2.handlers in
-    let ring = g.N.Naming-3.ring in
-    let name = g.N.Naming-1.name in
-    let back : List (Pass g.row.N.Denot g.N.Naming-2) = c.args.self.passes.back.items in
-    let now : List (Pass g.row.N.Denot g.N.Naming-2) = c.let_all_go.new.passes.items in
+    let bases = g.N.VersionsNaming.region_base in
+    let handlers = g.N.LockNaming.handlers in
+    let ring = g.N.ServiceNaming.ring in
+    let name = g.N.ServerNaming.name in
+    let back : List (Pass g.row.N.Denot g.N.LockNaming) = c.args.self.passes.back.items in
+    let now : List (Pass g.row.N.Denot g.N.LockNaming) = c.let_all_go.new.passes.items in
     let passes : List ThePass = map knows back in
     let words : List ℕ = c.shut-disk.result.synced in
     let broken = c.shut-disk.result.broken in
@@ -64,9 +64,9 @@ returns-clause-left g c told r low high =
     let all : AreAll handlers passes =
     λ h few most.
     let x = c.are_all-all.ensures c.sure.ensures h few (omega (arith, most, c.requires.back.of.all)) in
-    (x.0, subst (λ (l : List (Pass g.row.N.Denot g.N.Naming-2)). Contains (map knows l) x.0) c.as_slice.ensures.value x.1, x.2) in
-    subst (λ (q : ℕ). ∥ ((x : Region) × IsClosedRegion name q passes x × Survives disk true q x × HasSurvived g.N.Naming-3.start disk q x) ∥₁) same
-    (left_made bases handlers ring passes c.let_all_go.new.places the.regions words g.N.Naming-1.found g.N.Naming-3.base g.N.Naming-3.lasts begun.lasts_are (begun.alike told) (begun.recovered told) name disk broken g.N.Naming-3.start k t.0 t.1
+    (x.0, subst (λ (l : List (Pass g.row.N.Denot g.N.LockNaming)). Contains (map knows l) x.0) c.as_slice.ensures.value x.1, x.2) in
+    subst (λ (q : ℕ). ∥ ((x : Region) × IsClosedRegion name q passes x × Survives disk true q x × HasSurvived g.N.ServiceNaming.start disk q x) ∥₁) same
+    (left_made bases handlers ring passes c.let_all_go.new.places the.regions words g.N.ServerNaming.found g.N.ServiceNaming.begun g.N.ServiceNaming.lasts begun.lasts_are (begun.alike told) (begun.recovered told) name disk broken g.N.ServiceNaming.start k t.0 t.1
     (ap (λ (n : Naming). n.bases) begun.named) within t.2 (omega (arith, t.3, sure)) all
     (λ s few most p is. all_seen the now words broken (done.of the of.back) c.shut-disk.ensures.saw s few most p (subst (λ (l : List ThePass). Contains l p) (sym done.knows) is)) (c.shut-disk.ensures.commits told) (c.shut-disk.ensures.since told))
 
@@ -74,18 +74,18 @@ pub returns-clause-elapsed : goal.returns-clause-elapsed
 returns-clause-elapsed g c told =
     let begun = c.server.invariant.0 in
     let v = g.D.Disk.view c.shut-disk.result.disk in
-    let start = g.N.Naming-3.start in
-    let count : c.server.inside.service.regions ≡ g.N.Naming-1.name.regions = omega (arith, begun.all, ap (λ (n : Naming). n.regions) begun.named) in
+    let start = g.N.ServiceNaming.start in
+    let count : c.server.inside.service.regions ≡ g.N.ServerNaming.name.regions = omega (arith, begun.all, ap (λ (n : Naming). n.regions) begun.named) in
     ∥∥₁_map₂ (c.shut-disk.ensures.goes_on told) (c.shut-disk.ensures.others_since told) (λ on since.
-    subst (λ (n : ℕ). HasElapsed start g.N.Naming-3.past g.N.Naming-1.found n v) count
-    (elapsed_of start g.N.Naming-3.past g.N.Naming-1.found g.N.Naming-3.base v c.server.inside.service.regions (begun.alike told) on since))
+    subst (λ (n : ℕ). HasElapsed start g.N.ServiceNaming.past g.N.ServerNaming.found n v) count
+    (elapsed_of start g.N.ServiceNaming.past g.N.ServerNaming.found g.N.ServiceNaming.begun v c.server.inside.service.regions (begun.alike told) on since))
 
 pub returns-clause-leaves : goal.returns-clause-leaves
 returns-clause-leaves g c told =
     let begun = c.server.invariant.0 in
     let v = g.D.Disk.view c.shut-disk.result.disk in
-    let count : c.server.inside.service.regions ≡ g.N.Naming-1.name.regions = omega (arith, begun.all, ap (λ (n : Naming). n.regions) begun.named) in
+    let count : c.server.inside.service.regions ≡ g.N.ServerNaming.name.regions = omega (arith, begun.all, ap (λ (n : Naming). n.regions) begun.named) in
     ∥∥₁_map (c.shut-disk.ensures.leaves told) (λ l.
-    subst (λ (n : ℕ). Leaves g.N.Naming-1.found v true n) count
-    (leaves_broken g.N.Naming-1.found v c.shut-disk.result.broken c.server.inside.service.regions
-    (leaves_of g.N.Naming-1.found g.N.Naming-3.base v c.shut-disk.result.broken c.server.inside.service.regions (begun.cleared told) (begun.alike told) (begun.higher told) l)))
+    subst (λ (n : ℕ). Leaves g.N.ServerNaming.found v true n) count
+    (leaves_broken g.N.ServerNaming.found v c.shut-disk.result.broken c.server.inside.service.regions
+    (leaves_of g.N.ServerNaming.found g.N.ServiceNaming.begun v c.shut-disk.result.broken c.server.inside.service.regions (begun.cleared told) (begun.alike told) (begun.higher told) l)))

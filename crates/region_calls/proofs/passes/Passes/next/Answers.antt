@@ -11,17 +11,17 @@ pub deal-regions-requires-clause-room : goal.deal-regions-requires-clause-room
 deal-regions-requires-clause-room g c =
     let of = c.requires.of.1 in
     let n = c.requires.of.0.regions in
-    let r = rooms_less n c.pop.new.self.items c.in-Some.room (subst (λ (l : List (Vec (RegionPass g.row.N.Denot g.N.Naming-1))). AreRooms n l) c.in-Some.ensures.items of.rooms.0) in
+    let r = rooms_less n c.pop.new.self.items c.in-Some.room (subst (λ (l : List (Vec (RegionPass g.row.N.Denot g.N.LockNaming))). AreRooms n l) c.in-Some.ensures.items of.rooms.0) in
     (r.1.0, omega (arith, r.1.1, of.count))
 
 pub returns-clause-of : goal.returns-clause-of
 returns-clause-of g c place of =
     let n = place.regions in
     let old = c.args.self.now in
-    let H = g.N.Naming-1.handlers in
+    let H = g.N.LockNaming.handlers in
     let seat = c.in_ok-seat.seat in
     let seats = c.in_ok-seat.ensures in
-    let r = rooms_less n c.pop.new.self.items c.in-Some.room (subst (λ (l : List (Vec (RegionPass g.row.N.Denot g.N.Naming-1))). AreRooms n l) c.in-Some.ensures.items of.rooms.0) in
+    let r = rooms_less n c.pop.new.self.items c.in-Some.room (subst (λ (l : List (Vec (RegionPass g.row.N.Denot g.N.LockNaming))). AreRooms n l) c.in-Some.ensures.items of.rooms.0) in
     let left : old.handlers - old.out - 1 ≡ H - (old.out + 1) = omega (arith, of.all) in
     let cs = back_less place.consumer c.next.new.self.consumers.seats seat.consumer (subst (λ (l : List Standing). AreBack place.consumer l) seats.0 of.consumers) in
     let ds = back_less place.device c.next.new.self.devices.seats seat.device (subst (λ (l : List Standing). AreBack place.device l) seats.1 of.devices.0) in

@@ -9,7 +9,7 @@ use Rattle.region_calls.proofs.passes.Passes.put_back.Goals as goal
 pub returns-clause-of : goal.returns-clause-of
 returns-clause-of g c place of one =
     let back = c.args.self.now.back in
-    let counted = len_map (knows {N = g.row.N.Denot} {g = g.N.Naming-1}) back.items in
+    let counted = len_map (knows {N = g.row.N.Denot} {g = g.N.LockNaming}) back.items in
     record {
       count = of.count;
       deals = of.deals;
@@ -18,6 +18,6 @@ returns-clause-of g c place of one =
       consumers = of.consumers;
       devices = of.devices;
       room = of.room;
-      back = subst (λ (l : List (Pass g.row.N.Denot g.N.Naming-1)). AllOf place l) (sym c.push_reserved.ensures.items) (all_more place back.items c.args.pass of.back one);
+      back = subst (λ (l : List (Pass g.row.N.Denot g.N.LockNaming)). AllOf place l) (sym c.push_reserved.ensures.items) (all_more place back.items c.args.pass of.back one);
       within = (omega (arith, c.push_reserved.ensures.len, counted, back.ok.0, c.requires.out), omega (arith, c.push_reserved.ensures.capacity, of.within.1));
     }

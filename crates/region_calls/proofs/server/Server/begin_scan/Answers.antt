@@ -19,11 +19,11 @@ returns-clause-scans g c =
     let k = c.place_of-place.result in
     let u = used pass.handler pass.calls c.args.self.now.regions r k ps p c.requires.of.count c.place_of-place.ensures.place c.requires.region.0 c.place_of-place.ensures.few c.requires.of.hands c.index_mut.ensures.value in
     let named = c.place_of-place.ensures.bases in
-    let point = last_in (g.N.Naming-4.base p.viewer.region) done.new.at.viewer.lines in
-    let scans = scans_used g.N.Naming-1.name g.N.Naming-4.base r k c.args.from.now c.args.to.now (begun_answer point done.result) pass.handler pass.calls ps p done.new.at pass.seat u
+    let point = last_in (g.N.VersionsNaming.region_base p.viewer.region) done.new.at.viewer.lines in
+    let scans = scans_used g.N.ServerNaming.name g.N.VersionsNaming.region_base r k c.args.from.now c.args.to.now (begun_answer point done.result) pass.handler pass.calls ps p done.new.at pass.seat u
     named (begun_is point done.result) (done.ensures.scans (length ps) pass.seat) in
-    subst (λ (n : ℕ). Scans g.N.Naming-1.name Raw r c.args.from.now c.args.to.now (begun_answer n done.result) (pass_of pass.handler pass.calls ps pass.seat) (pass_of pass.handler pass.calls (set ps k done.new.at) pass.seat))
-    (point_used g.N.Naming-1.name g.N.Naming-4.base pass.handler pass.calls r k ps p done.new.at pass.seat u named done.ensures.region) scans
+    subst (λ (n : ℕ). Scans g.N.ServerNaming.name Raw r c.args.from.now c.args.to.now (begun_answer n done.result) (pass_of pass.handler pass.calls ps pass.seat) (pass_of pass.handler pass.calls (set ps k done.new.at) pass.seat))
+    (point_used g.N.ServerNaming.name g.N.VersionsNaming.region_base pass.handler pass.calls r k ps p done.new.at pass.seat u named done.ensures.region) scans
 
 pub returns-clause-of : goal.returns-clause-of
 returns-clause-of g c =

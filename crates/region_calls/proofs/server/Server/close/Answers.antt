@@ -8,5 +8,5 @@ finish-requires-clause-back g c = (
   c.requires.back,
   λ h low high.
       let x = c.are_all.ensures c.if-not-are_all.false h low (omega (arith, high, c.requires.back.of.all)) in
-      (x.0, subst (λ (l : List (Pass g.row.N.Denot g.N.Naming-2)). Contains (map knows l) x.0) c.as_slice.ensures.value x.1, x.2),
+      (x.0, subst (λ (l : List (Pass g.row.N.Denot g.N.LockNaming)). Contains (map knows l) x.0) c.as_slice.ensures.value x.1, x.2),
 )

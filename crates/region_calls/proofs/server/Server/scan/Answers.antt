@@ -12,7 +12,7 @@ returns-clause-scans g c =
     let done = c.scan_in in
     let k = c.place_of-place.result in
     let u = used pass.handler pass.calls c.args.self.now.regions c.args.region k pass.regions.items p c.requires.of.count c.place_of-place.ensures.place c.requires.region.0 c.place_of-place.ensures.few c.requires.of.hands c.index_mut.ensures.value in
-    scans_used g.N.Naming-1.name g.N.Naming-4.base c.args.region k c.args.from.now c.args.to.now (scan_answer done.result) pass.handler pass.calls pass.regions.items p done.new.at pass.seat u
+    scans_used g.N.ServerNaming.name g.N.VersionsNaming.region_base c.args.region k c.args.from.now c.args.to.now (scan_answer done.result) pass.handler pass.calls pass.regions.items p done.new.at pass.seat u
     c.place_of-place.ensures.bases (scan_is done.result) (done.ensures.scans (length pass.regions.items) pass.seat)
 
 pub returns-clause-of : goal.returns-clause-of

@@ -1,6 +1,6 @@
 use Rattle.std.proofs.Common.{ℕ, ◌≤◌, List, length, sym, ap, ◌∙◌, subst, arith}
 use Rattle.log_model.specs.Files.{Files}
-use Rattle.recovery.specs.Alike.{AllAlike}
+use Rattle.recovery_laws.specs.Alike.{AllAlike}
 use Rattle.log_ledger.specs.History.{History}
 use Rattle.log_service.specs.Begun.{BeginsAs}
 use Rattle.region_model.specs.Journal.{Base}
@@ -16,13 +16,13 @@ use Rattle.region_calls.proofs.store.Opened.named.Goals as goal
 
 pub make_room-requires-clause-named : goal.make_room-requires-clause-named
 make_room-requires-clause-named g c =
-    named_seeds g.N.Naming-2.desk g.N.Naming-2.spent g.N.Naming-4.book g.N.Naming-4.base g.N.Naming-3.lasts c.args.self.handlers c.args.self c.requires.store.each c.requires.lasts
+    named_seeds g.N.LockNaming.desk g.N.LockNaming.spent g.N.VersionsNaming.book g.N.VersionsNaming.region_base g.N.ServiceNaming.lasts c.args.self.handlers c.args.self c.requires.store.each c.requires.lasts
     (λ r low high. c.requires.regions r low (omega (arith, high, c.requires.store.count)))
 
 pub start-requires-clause-whole : goal.start-requires-clause-whole
 start-requires-clause-whole g c told =
     let o = c.args.self in
-    subst (λ (F : Files). ∥ ((h : History) × BeginsAs F g.N.Naming-3.lasts o.device (g.D.Disk.view (disk_now o)) h) ∥₁) (sym c.requires.begun.0)
+    subst (λ (F : Files). ∥ ((h : History) × BeginsAs F g.N.ServiceNaming.lasts o.device (g.D.Disk.view (disk_now o)) h) ∥₁) (sym c.requires.begun.0)
     (subst (λ (l : List ℕ). ∥ ((h : History) × BeginsAs (g.D.Disk.view (disk_begun o)).files l o.device (g.D.Disk.view (disk_now o)) h) ∥₁) (sym c.requires.lasts) (c.requires.store.begins told))
 
 pub join-requires-clause-served : goal.join-requires-clause-served
@@ -39,13 +39,13 @@ join-requires-clause-served g c =
       some = (omega (arith, service.1, store.some.0), omega (arith, service.1, store.some.1));
       all = omega (arith, service.1, firsts, lasts, bases, store.count);
       seats = omega (arith, service.2, c.requires.handlers);
-      alike = λ told. subst (λ (F : Files). AllAlike g.N.Naming-1.found F) (sym c.requires.begun.0) (subst (λ (F : Files). AllAlike F (g.D.Disk.view (disk_begun o)).files) (sym c.requires.found.0) (store.alike told));
+      alike = λ told. subst (λ (F : Files). AllAlike g.N.ServerNaming.found F) (sym c.requires.begun.0) (subst (λ (F : Files). AllAlike F (g.D.Disk.view (disk_begun o)).files) (sym c.requires.found.0) (store.alike told));
       higher = λ told.
-          subst (λ (F : Files). AtMostOneHigher g.N.Naming-1.found F) (sym c.requires.begun.0) (subst (λ (F : Files). AtMostOneHigher F (g.D.Disk.view (disk_begun o)).files) (sym c.requires.found.0) (store.higher told));
+          subst (λ (F : Files). AtMostOneHigher g.N.ServerNaming.found F) (sym c.requires.begun.0) (subst (λ (F : Files). AtMostOneHigher F (g.D.Disk.view (disk_begun o)).files) (sym c.requires.found.0) (store.higher told));
       recovered = λ told r low high.
           let within : r ≤ o.regions = omega (arith, high, service.1) in
           let base = base_of_region (g.D.Disk.view (disk_found o)).files (bases_of o) (store.recovered told) r low (omega (arith, within, bases, store.count)) in
-          subst (λ (F : Files). IsBaseOf F r (g.N.Naming-4.base r)) (sym c.requires.found.0) (subst (λ (b : Base). IsBaseOf (g.D.Disk.view (disk_found o)).files r b) (sym (c.requires.regions r low within).base_is) base);
+          subst (λ (F : Files). IsBaseOf F r (g.N.VersionsNaming.region_base r)) (sym c.requires.found.0) (subst (λ (b : Base). IsBaseOf (g.D.Disk.view (disk_found o)).files r b) (sym (c.requires.regions r low within).base_is) base);
       cleared = λ told. subst (λ (F : Files). AreCleared F) (sym c.requires.begun.0) (store.cleared told);
       lasts_are = λ r low high.
           let within : r ≤ o.regions = omega (arith, high, service.1) in

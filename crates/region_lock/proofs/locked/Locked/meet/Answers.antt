@@ -33,5 +33,5 @@ returns-clause-placed g c is =
     let within = subst (λ (b : Beginning). IsPrefix viewed b.lines) c.front.ensures (holds_of _ c.is_within.result c.is_within.ensures is) in
     let begins = subst (λ (q : Part). IsPrefix viewed q.state.lines) c.self.view_is (prefix_trans viewed history.lines c.self.inside.part.state.lines within c.self.invariant.front) in
     let journal = subst (λ (q : Part). IsJournal q.state.region q.state.base (edits_in q.state.region q.state.lines)) c.self.view_is c.journal-all.ensures.journal in
-    let base : p.state.base ≡ g.N.Naming-3.base p.state.region = subst (λ (q : Part). q.state.base ≡ g.N.Naming-3.base q.state.region) c.self.view_is c.first-first.ensures.base in
+    let base : p.state.base ≡ g.N.VersionsNaming.region_base p.state.region = subst (λ (q : Part). q.state.base ≡ g.N.VersionsNaming.region_base q.state.region) c.self.view_is c.first-first.ensures.base in
     subst (λ (b : Base). ArePlaced b c.meet.new.hand.record.list viewed) base (placed_in p.state.region c.meet.new.hand.number p.state.base p.state.lines c.meet.new.hand.record.list viewed journal own begins)

@@ -5,7 +5,7 @@ use Rattle.std.proofs.Common.{length}
 
 pub invariant_of-part : goal.invariant_of-part
 invariant_of-part g c = (
-  part_new (g.N.Naming-1.flushes c.args.state.region) c.args.state.region c.args.state.base c.args.state.lines g.N.Naming-1.handlers c.args.desk.records c.args.spent.records g.N.Naming-2.ring g.N.Naming-2.lasts c.args.pass
+  part_new (g.N.LockNaming.flushes c.args.state.region) c.args.state.region c.args.state.base c.args.state.lines g.N.LockNaming.handlers c.args.desk.records c.args.spent.records g.N.ServiceNaming.ring g.N.ServiceNaming.lasts c.args.pass
       c.requires.lines c.requires.desk.1 c.requires.spent.1 c.requires.pass c.requires.last,
   record {
     desk = c.requires.desk.0;
@@ -13,6 +13,6 @@ invariant_of-part g c = (
     ring = c.requires.pass.0;
     region = c.requires.pass.1;
     known = c.requires.base;
-    hands = ap length c.requires.desk.1 ∙ len_replicate g.N.Naming-1.handlers _;
+    hands = ap length c.requires.desk.1 ∙ len_replicate g.N.LockNaming.handlers _;
   },
 )

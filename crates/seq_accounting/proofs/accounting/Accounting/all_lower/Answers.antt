@@ -12,4 +12,4 @@ returns c f there named =
     let place = rw c.deref.ensures.value at c.place_of-place.ensures in
     let within = subst (λ (a : Accounts). Contains a.closed f) (sym c.self.view_is) there in
     let same = c.index.ensures ∙ place_one _ _ _ f c.index.result.now c.self.invariant.rising place within named in
-    rw (← same, ← ap (λ (a : Accounts). a.flushed) c.self.view_is) c.is_lower.ensures.lower
+    rw (← same, ← ap (λ (a : Accounts). a.whole) c.self.view_is, ← ap (λ (a : Accounts). a.flushed) c.self.view_is) c.is_lower.ensures.lower

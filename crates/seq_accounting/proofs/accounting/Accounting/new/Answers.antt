@@ -1,19 +1,12 @@
-use Rattle.std.proofs.Common.{refl, arith}
-use Rattle.seq_accounting.proofs.OrderLaws.{nothing, regions_new}
-use Rattle.seq_accounting.proofs.NotedLaws.{noted_nothing}
+use Rattle.std.proofs.Common.{refl}
+use Rattle.seq_accounting.proofs.BeginLaws.{order_new, history_new}
 use Rattle.seq_accounting.proofs.accounting.Accounting.new.Goals as goal
 
 pub invariant_of-result : goal.invariant_of-result
-invariant_of-result c =
-    let flushed = c.«flushed_by-flushed» in record {
-      wide = record { flushed = flushed.ensures.wide; noted = flushed.ensures.wide; flushing = refl; oldest = refl; since = refl; current = refl };
-      regions = regions_new flushed.result;
-      rising = rw c.in_ok-closed.ensures.items (λ i j d below within. absurd (omega arith));
-      files = rw c.in_ok-closed.ensures.items (λ f there. let none = there.1 in absurd (omega arith));
-    }
-
-pub returns-clause-history : goal.returns-clause-history
-returns-clause-history c = noted_nothing _ (nothing 65) (nothing 65)
+invariant_of-result c = order_new _ (record { wide = c.flushed_by-whole.ensures.wide; noted = refl; flushing = refl; flushed = c.in_ok-families.ensures; oldest = c.in_ok-oldest.ensures; since = c.in_ok-since.ensures; current = c.new-4.ensures; closed = c.in_ok-closed.ensures.items })
 
 pub returns-clause-order : goal.returns-clause-order
 returns-clause-order c = invariant_of-result c
+
+pub returns-clause-history : goal.returns-clause-history
+returns-clause-history c = history_new _ (record { wide = c.flushed_by-whole.ensures.wide; noted = refl; flushing = refl; flushed = c.in_ok-families.ensures; oldest = c.in_ok-oldest.ensures; since = c.in_ok-since.ensures; current = c.new-4.ensures; closed = c.in_ok-closed.ensures.items })

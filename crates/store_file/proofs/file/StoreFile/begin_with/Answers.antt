@@ -20,10 +20,10 @@ invariant_of-result g c = record {
 
 pub returns-clause-begins : goal.returns-clause-begins
 returns-clause-begins g c told =
-    let o : OpenStore = record { name = c.args.name; family = c.args.family; from = c.args.from; to = c.args.to; count = c.args.count; filled = 0; at = 1; bytes = c.add_fields.new.self } in
+    let o : OpenStore = record { name = c.args.name; scope = c.args.scope; family = c.args.family; from = c.args.from; to = c.args.to; count = c.args.count; filled = 0; at = 1; bytes = c.add_fields.new.self } in
     record {
       filling = begun_filling o (g.D.Disk.view c.create_durably.new.disk) (c.in_ok-create_durably.ensures.durable told) refl
-          (c.add_fields.ensures.bytes ∙ (λ i. c.requires.«empty» i ++ fields_text c.args.name.region (c.as_slice.ensures i) c.args.from c.args.to c.args.count)) refl;
+          (c.add_fields.ensures.bytes ∙ (λ i. c.requires.«empty» i ++ fields_text c.args.name.region c.args.scope (c.as_slice.ensures i) c.args.from c.args.to c.args.count)) refl;
       never_there = begin_moments c.args.name (g.D.Disk.view c.args.disk.now) (g.D.Disk.view c.create_durably.new.disk) (c.create_durably.ensures.any_moment told);
       no_other_file = c.create_durably.ensures.touches told;
     }

@@ -15,23 +15,23 @@ write_behind-requires-clause-filled g c told =
 
 pub returns-in_err-write_behind-clause-any_moment : goal.returns-in_err-write_behind-clause-any_moment
 returns-in_err-write_behind-clause-any_moment g c told =
-    let o : OpenStore = record { name = c.self.inside.name; family = c.self.inside.family; from = c.self.inside.from; to = c.self.inside.to; count = c.self.inside.count; filled = c.self.inside.filled; at = c.self.inside.at; bytes = c.self.inside.buffer } in
+    let o : OpenStore = record { name = c.self.inside.name; scope = c.self.inside.scope; family = c.self.inside.family; from = c.self.inside.from; to = c.self.inside.to; count = c.self.inside.count; filled = c.self.inside.filled; at = c.self.inside.at; bytes = c.self.inside.buffer } in
     let v = g.D.Disk.view c.args.disk.now in
     let w = g.D.Disk.view c.write_behind.new.disk in
     subst (λ (l : OpenStore). ShutMoments l v w) c.self.view_is (write_moments o v w (c.write_behind.ensures.any_moment told))
 
 pub returns-clause-filled : goal.returns-clause-filled
 returns-clause-filled g c told cells was =
-    let o : OpenStore = record { name = c.self.inside.name; family = c.self.inside.family; from = c.self.inside.from; to = c.self.inside.to; count = c.self.inside.count; filled = c.self.inside.filled; at = c.self.inside.at; bytes = c.self.inside.buffer } in
-    let now : OpenStore = record { name = o.name; family = o.family; from = o.from; to = o.to; count = o.count; filled = o.filled; at = o.at + length c.as_slice-bytes.result.now; bytes = c.clear.new.self } in
+    let o : OpenStore = record { name = c.self.inside.name; scope = c.self.inside.scope; family = c.self.inside.family; from = c.self.inside.from; to = c.self.inside.to; count = c.self.inside.count; filled = c.self.inside.filled; at = c.self.inside.at; bytes = c.self.inside.buffer } in
+    let now : OpenStore = record { name = o.name; scope = o.scope; family = o.family; from = o.from; to = o.to; count = o.count; filled = o.filled; at = o.at + length c.as_slice-bytes.result.now; bytes = c.clear.new.self } in
     let v = g.D.Disk.view c.args.disk.now in
-    written_filling o now v (g.D.Disk.view c.write_behind.new.disk) c.as_slice-bytes.result.now cells (record { name = refl; family = refl; from = refl; to = refl; count = refl }) c.as_slice-bytes.ensures.value
+    written_filling o now v (g.D.Disk.view c.write_behind.new.disk) c.as_slice-bytes.result.now cells (record { name = refl; scope = refl; family = refl; from = refl; to = refl; count = refl }) c.as_slice-bytes.ensures.value
     (c.in_ok-write_behind.ensures.filled told) refl c.clear.ensures refl
     (subst (λ (l : OpenStore). IsFilling l v cells) (sym c.self.view_is) was)
 
 pub returns-clause-any_moment : goal.returns-clause-any_moment
 returns-clause-any_moment g c told =
-    let o : OpenStore = record { name = c.self.inside.name; family = c.self.inside.family; from = c.self.inside.from; to = c.self.inside.to; count = c.self.inside.count; filled = c.self.inside.filled; at = c.self.inside.at; bytes = c.self.inside.buffer } in
+    let o : OpenStore = record { name = c.self.inside.name; scope = c.self.inside.scope; family = c.self.inside.family; from = c.self.inside.from; to = c.self.inside.to; count = c.self.inside.count; filled = c.self.inside.filled; at = c.self.inside.at; bytes = c.self.inside.buffer } in
     let v = g.D.Disk.view c.args.disk.now in
     let w = g.D.Disk.view c.write_behind.new.disk in
     subst (λ (l : OpenStore). ShutMoments l v w) c.self.view_is (write_moments o v w (c.write_behind.ensures.any_moment told))

@@ -1,0 +1,120 @@
+//! Shipping what stands in a device's logs, between its calls and at each moment.
+
+use crate::bench::Bench;
+use crate::entries::two_regions;
+use crate::image::crash_at;
+use crate::script::{SCRIPT, take};
+use disk_fakes::MemDisk;
+use log_tail::{Position, Tail};
+use ship_queue::{MemPeer, ship_all};
+use std::process::Abort;
+use std::sync::Wait;
+use std::test::Fail;
+use std::thread::Threads;
+
+/// Behind each step of the script: how many of its edits are synced, and the position behind them.
+const BEHIND: [(usize, u64, u64); 11] = [
+    (0, 1, 0),
+    (1, 1, 1),
+    (1, 1, 1),
+    (1, 1, 1),
+    (3, 1, 3),
+    (3, 2, 0),
+    (3, 2, 0),
+    (3, 2, 0),
+    (3, 2, 0),
+    (5, 2, 2),
+    (5, 2, 2),
+];
+
+/// The script's edits: region, number, and the log and the place in it. The first three stand in the first log.
+const SHIPPED: [(u32, u64, u64, u64); 5] = [
+    (1, 1, 1, 1),
+    (1, 2, 1, 2),
+    (2, 1, 1, 3),
+    (1, 3, 2, 1),
+    (2, 2, 2, 2),
+];
+
+/// Ships what stands behind the recorded position in the logs of a disk.
+fn ship<R: Threads + Wait + Sync + AllocGlobal>(
+    rt: &R,
+    disk: &mut MemDisk,
+    peer: &mut MemPeer,
+) -> Result<(), Fail> {
+    let first = Position {
+        file: 1,
+        entries: 0,
+    };
+    let mut tail = Tail::at(peer.recorded().unwrap_or(first));
+    ship_all(rt, rt.alloc(), &mut tail, disk, peer)?;
+    Ok(())
+}
+
+/// Ships from the device's disk as it stands.
+fn ship_now<R: Threads + Wait + Sync + AllocGlobal>(
+    rt: &R,
+    bench: &Bench<MemDisk>,
+    peer: &mut MemPeer,
+) -> Result<(), Fail> {
+    let disk = bench.device.disk();
+    let mut image = crash_at(rt.alloc(), disk, disk.clock(), 0)?;
+    ship(rt, &mut image, peer)
+}
+
+/// Asserts that so many of the script's edits were shipped, each once and in order, and that this position is recorded.
+fn assert_shipped<R: Abort>(rt: &R, peer: &MemPeer, want: (usize, u64, u64)) {
+    let (count, file, entries) = want;
+    assert_eq!(rt; peer.recorded(), Some(Position { file, entries }));
+    assert_eq!(rt; peer.shipped().len(), count);
+    for (i, one) in peer.shipped().iter().enumerate() {
+        let shipped = (one.region, one.number, one.at.file, one.at.entries);
+        assert_eq!(rt; SHIPPED.get(i), Some(&shipped));
+    }
+}
+
+/// Takes a device through the script, and ships behind the steps with these numbers and at the end.
+fn ship_behind<R: Threads + Wait + Sync + AllocGlobal + Abort>(
+    rt: &R,
+    first: usize,
+    second: usize,
+) -> Result<(), Fail> {
+    let alloc = rt.alloc();
+    let mut bench = two_regions(alloc)?;
+    let mut peer = MemPeer::new(alloc);
+    for i in 0..11 {
+        take(alloc, &mut bench, SCRIPT[i])?;
+        if i == first || i == second {
+            ship_now(rt, &bench, &mut peer)?;
+            assert_shipped(rt, &peer, BEHIND[i]);
+        }
+    }
+    ship_now(rt, &bench, &mut peer)?;
+    assert_shipped(rt, &peer, BEHIND[10]);
+    Ok(())
+}
+
+#[test]
+fn shipped_behind_each_two_steps(rt: HostRuntime) -> Result<(), Fail> {
+    for pair in 0..121 {
+        ship_behind(&rt, pair / 11, pair % 11)?;
+    }
+    Ok(())
+}
+
+#[test]
+fn shipped_at_each_moment(rt: HostRuntime) -> Result<(), Fail> {
+    let alloc = rt.alloc();
+    let mut bench = two_regions(alloc)?;
+    for step in &SCRIPT {
+        take(alloc, &mut bench, *step)?;
+    }
+    let disk = bench.device.disk();
+    let mut peer = MemPeer::new(alloc);
+    for moment in 0..disk.clock().saturating_add(1) {
+        let mut image = crash_at(alloc, disk, moment, 0)?;
+        ship(&rt, &mut image, &mut peer)?;
+    }
+    assert_shipped(&rt, &peer, BEHIND[10]);
+    Ok(())
+}

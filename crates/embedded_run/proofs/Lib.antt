@@ -1,0 +1,5 @@
+pub mod Seating
+pub mod Doing
+pub mod Receipts
+pub mod Elapsed
+pub mod Ending

@@ -1,0 +1,4 @@
+pub mod Seats
+pub mod Deeds
+pub mod Receipts
+pub mod Ends

@@ -1,0 +1,90 @@
+//! Handlers on a store that is opened.
+
+ghost use Rattle.std.specs.Prelude.{◌≡◌, ℕ, ◌≤◌, ◌<◌, ◌^◌, IsTrue, vec_len, length};
+ghost use Rattle.log_model.specs.Files.{Files, IsSound};
+ghost use Rattle.run_model.specs.Headline.{KeepsThroughout};
+ghost use Rattle.region_calls.specs.Names.{name_of, AreTablesOf};
+ghost use Rattle.region_calls.specs.Seeds.{lasts_of};
+ghost use Rattle.region_calls.specs.Store.{IsStore, disk_now, disk_found, disk_begun, regions_of, handlers_of, bases_of, ring_of, hand_of};
+ghost use Rattle.wal_split.specs.Moments.{During, WasOrAlike};
+ghost use Rattle.embedded.specs.Flushers.{MayAllFlush};
+ghost use Rattle.embedded_run.specs.Ends.{HasEnded, HasCount, disk_of};
+
+use crate::handing::{give_back, seat_all};
+use crate::handler::Handler;
+use crate::joining::run_on;
+use crate::outcome::{Outcome, not_started};
+use crate::seated::make_room;
+use disk_images::Disk;
+use handler_threads::ServerName;
+use region_calls::{ClosedServer, Opened, StartRefusal, Started};
+use std::alloc::Global;
+use std::sync::Wait;
+use std::thread::Threads;
+
+/// Lets the handlers work, and closes the server. Between its naming and its close no memory is taken but by the handlers' calls.
+pub(crate) fn serve<
+    N: ServerName + Send + Sync,
+    R: Threads + Wait + Sync,
+    D: Disk + Send,
+    H: Handler + Drop + Send + Sync,
+>(rt: &R, alloc: Global, opened: Opened<D>, time: u64, handlers: Vec<H>) -> Outcome<D, H>
+    requires time { time < 2 ^ 63 }
+    requires few { handlers_of opened ≡ vec_len handlers }
+    requires sound { IsTrue D.told → IsSound (D.view (disk_found opened)).files }
+    requires any_moment { IsTrue D.told → During (WasOrAlike (D.view (disk_found opened))) (D.view (disk_found opened)) (D.view (disk_now opened)) }
+    // The name is the store's.
+    requires store { IsStore D.Disk opened }
+    requires name { N.name ≡ name_of (length N.lasts) N.handlers N.region_base N.flushes }
+    requires flushers { MayAllFlush N.name }
+    requires handlers { N.handlers ≡ handlers_of opened }
+    requires lasts { N.lasts ≡ lasts_of (bases_of opened) }
+    requires rings { (N.ring ≡ ring_of opened) × (N.hand ≡ hand_of opened) }
+    requires regions { (r : ℕ) → 1 ≤ r → r ≤ regions_of opened → AreTablesOf N.desk N.spent N.book N.region_base opened r }
+    requires begun { (N.begun ≡ (D.view (disk_begun opened)).files) × (N.start ≡ (D.view (disk_now opened)).clock)
+        × (N.faults ≡ D.faults (disk_now opened)) }
+    requires past { (t : ℕ) (J : Files) → t ≤ N.start
+        → ((D.view (disk_now opened)).image t J → N.past t J) × (N.past t J → (D.view (disk_now opened)).image t J) }
+    requires found { (N.found ≡ (D.view (disk_found opened)).files) × (N.found_faults ≡ D.faults (disk_found opened)) }
+
+    ensures ends { HasEnded D.Disk H.did time (regions_of opened) (disk_found opened) handlers.items result }
+    // At each moment a crash leaves an image of the disk as found, or the cells that were found; former moments stay.
+    ensures any_moment { IsTrue D.told → KeepsThroughout (D.view (disk_found opened)) (D.view (disk_of result)) }
+    ensures count { HasCount D.faults N.faults result }
+{
+    let count = opened.regions();
+    let Ok((mut seated, mut back)) = make_room(alloc, handlers.len()) else {
+        return not_started(opened.into_disk(), handlers);
+    };
+    let (server, mut passes, mut helpers) = match opened.named::<N, R>(rt, alloc) {
+        Ok(
+            Started {
+                server,
+                passes,
+                helpers,
+            },
+        ) => (server, passes, helpers),
+        Err(StartRefusal { why: _, disk }) => return not_started(disk, handlers),
+    };
+    seat_all(handlers, &mut passes, &mut seated);
+    run_on(rt, alloc, &server, time, count, &mut helpers, &mut seated);
+    give_back(seated, &mut passes, &mut back);
+    match server.close(rt, alloc, passes, helpers) {
+        Ok(
+            ClosedServer {
+                disk,
+                regions,
+                broken,
+            },
+        ) => Outcome::Closed {
+            disk,
+            regions,
+            handlers: back,
+            broken,
+        },
+        Err(refusal) => Outcome::Unclosed {
+            disk: refusal.into_disk(rt),
+            handlers: back,
+        },
+    }
+}

@@ -1,0 +1,3 @@
+pub mod Persons
+pub mod Putting
+pub mod Clerks

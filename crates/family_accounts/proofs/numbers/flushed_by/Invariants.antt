@@ -1,5 +1,0 @@
-use Rattle.family_accounts.proofs.RegionLaws.{AreFlushedTo}
-use Rattle.family_accounts.proofs.numbers.flushed_by.Given as goal
-
-abbrev pub invariant-loop-mark : goal.invariant-loop-mark
-invariant-loop-mark l = AreFlushedTo l.regions l.mark-index l.flushed

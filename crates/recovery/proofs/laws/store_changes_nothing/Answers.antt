@@ -1,5 +1,0 @@
-use Rattle.recovery.proofs.Proved.{store_alike}
-use Rattle.recovery.proofs.laws.store_changes_nothing.Goals as goal
-
-pub returns : goal.returns
-returns c = store_alike

@@ -1,5 +1,0 @@
-use Rattle.recovery.proofs.OpeningProved.{copies_nothing}
-use Rattle.recovery.proofs.opening.copies_change_nothing.Goals as goal
-
-pub returns : goal.returns
-returns c = copies_nothing

@@ -1,0 +1,3 @@
+pub mod Words
+pub mod Shipped
+pub mod Refusals

@@ -1,0 +1,11 @@
+pub mod Covering
+pub mod Stores
+pub mod Planned
+pub mod Moments
+pub mod Leaving
+pub mod Planning
+pub mod Counting
+pub mod Begun
+pub mod InPlace
+pub mod Reading
+pub mod Refusing

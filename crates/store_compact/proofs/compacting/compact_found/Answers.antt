@@ -1,0 +1,66 @@
+use Rattle.std.proofs.Common.{◌≡◌, ◌≤◌, ◌<◌, ◌∙◌, IsTrue, length, List, Contains, Ok, Err, refl, sym, ap, subst, arith}
+use Rattle.std.specs.Prelude.{OnOk}
+use Rattle.std.proofs.lemmas.Result.{on_ok_weaker}
+use Rattle.log_model.specs.declared.name.Name.{Name}
+use Rattle.found_files.specs.declared.found.FoundStore.{FoundStore}
+use Rattle.found_files.specs.Counting.{AreCountingOf}
+use Rattle.region_replay.specs.Alone.{IsNextStore}
+use Rattle.region_replay.specs.Names.{store_name}
+use Rattle.store_compact.specs.Compacting.{HasCounting, least_files}
+use Rattle.store_compact.specs.Plan.{AreCovered, AreToReplace}
+use Rattle.store_compact.proofs.Counting.{has_counting}
+use Rattle.store_compact.proofs.Reading.{least_given, low_regions, to_replace}
+use Rattle.store_compact.proofs.InPlace.{none_done}
+use Rattle.store_compact.proofs.compacting.compact_found.Goals as goal
+
+pub counting_stores-requires : goal.counting_stores-requires
+counting_stores-requires g c =
+    let v = g.D.Disk.view c.args.disk.now in
+    record { regions = low_regions (IsTrue g.D.Disk.told) v.files c.args.region c.args.found.names.items c.args.found.files.entries.items c.args.found.files.stores.items c.requires.names c.requires.read c.requires.region }
+
+pub range_of-from-requires : goal.range_of-from-requires
+range_of-from-requires g c =
+    (let least = least_given c.args.kind in let enough = c.is_too_few.ensures.enough c.if-is_too_few.false in omega (arith, least, enough, c.len-files.ensures, ap (λ (l : List FoundStore). length l) c.deref-2.ensures.value))
+
+pub replace_stores-requires-clause-these : goal.replace_stores-requires-clause-these
+replace_stores-requires-clause-these g c =
+    let v = g.D.Disk.view c.args.disk.now in
+    let these = to_replace (IsTrue g.D.Disk.told) v.files c.args.region c.args.found.names.items c.args.found.files.entries.items c.args.found.files.stores.items c.requires.names c.requires.read c.in_ok-stores.stores.items c.in_ok-number.number c.in_ok-stores.ensures (subst (λ (l : List Name). IsNextStore l c.in_ok-number.number) c.deref.ensures.value c.in_ok-number.ensures) in
+    subst (λ (l : List Name). AreToReplace (IsTrue g.D.Disk.told) v.files (store_name c.args.region c.in_ok-number.number) l c.in_ok-stores.stores.items) (sym c.deref-3.ensures.value) these
+
+pub replace_stores-requires-clause-covered : goal.replace_stores-requires-clause-covered
+replace_stores-requires-clause-covered g c =
+    subst (λ (l : List FoundStore). AreCovered l c.range_of-from.result.0 c.range_of-from.result.1) c.deref-2.ensures.value c.range_of-from.ensures
+
+pub returns-in_err-number-clause-any_moment : goal.returns-in_err-number-clause-any_moment
+returns-in_err-number-clause-any_moment g c told fit =
+    let v = g.D.Disk.view c.args.disk.now in
+    none_done v (c.requires.rest told) fit c.args.region c.args.kind
+
+pub returns-in_err-stores-clause-any_moment : goal.returns-in_err-stores-clause-any_moment
+returns-in_err-stores-clause-any_moment g c told fit =
+    let v = g.D.Disk.view c.args.disk.now in
+    none_done v (c.requires.rest told) fit c.args.region c.args.kind
+
+pub returns-then-is_too_few-clause-any_moment : goal.returns-then-is_too_few-clause-any_moment
+returns-then-is_too_few-clause-any_moment g c told fit =
+    let v = g.D.Disk.view c.args.disk.now in
+    none_done v (c.requires.rest told) fit c.args.region c.args.kind
+
+pub returns-then-is_too_few-clause-nothing : goal.returns-then-is_too_few-clause-nothing
+returns-then-is_too_few-clause-nothing g c told =
+    let same : length c.in_ok-stores.stores.items ≡ c.len-files.result = omega (arith, c.len-files.ensures) in
+    let v = g.D.Disk.view c.args.disk.now in
+    let these = to_replace (IsTrue g.D.Disk.told) v.files c.args.region c.args.found.names.items c.args.found.files.entries.items c.args.found.files.stores.items c.requires.names c.requires.read c.in_ok-stores.stores.items c.in_ok-number.number c.in_ok-stores.ensures (subst (λ (l : List Name). IsNextStore l c.in_ok-number.number) c.deref.ensures.value c.in_ok-number.ensures) in (
+      subst (λ n. HasCounting v.files c.args.region n) same (has_counting v.files c.args.region c.in_ok-stores.stores.items (these.counting told) (these.in_order told) (λ x has. (these.each x has).2)),
+      c.is_too_few.ensures.few c.if-is_too_few.true,
+    )
+
+pub returns-in-Ok-clause-enough : goal.returns-in-Ok-clause-enough
+returns-in-Ok-clause-enough g c told =
+    let v = g.D.Disk.view c.args.disk.now in
+    let these = to_replace (IsTrue g.D.Disk.told) v.files c.args.region c.args.found.names.items c.args.found.files.entries.items c.args.found.files.stores.items c.requires.names c.requires.read c.in_ok-stores.stores.items c.in_ok-number.number c.in_ok-stores.ensures (subst (λ (l : List Name). IsNextStore l c.in_ok-number.number) c.deref.ensures.value c.in_ok-number.ensures) in (
+      length c.in_ok-stores.stores.items,
+      has_counting v.files c.args.region c.in_ok-stores.stores.items (these.counting told) (these.in_order told) (λ x has. (these.each x has).2),
+      (let enough = c.is_too_few.ensures.enough c.if-is_too_few.false in omega (arith, enough, c.len-files.ensures)),
+    )

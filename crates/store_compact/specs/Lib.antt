@@ -1,0 +1,4 @@
+pub mod Compacting
+pub mod Ready
+pub mod Refusals
+pub mod Plan
