@@ -12,7 +12,7 @@ use Rattle.log_model.specs.Recovered.{IsRecovered, Puts}
 use Rattle.recovery_laws.proofs.Contents.{puts_number}
 use Rattle.disk_images.specs.Crash.{DiskView, IsImageNow}
 use Rattle.region_model.specs.Journal.{Edit, Follows, put_edits, cut_at}
-use Rattle.server_model.specs.Pass.{Pass, Naming, handled}
+use Rattle.server_model.specs.Pass.{Pass, Naming}
 use Rattle.server_model.proofs.JournalLaws.{filter_kept}
 use Rattle.server_model.specs.Closing.{Region, IsClosedRegion, Survives}
 use Rattle.run_model.proofs.KeepsFound.{later_edits}

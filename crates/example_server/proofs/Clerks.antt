@@ -1,5 +1,5 @@
 -- What clerks promise together, once their server is closed.
-use Rattle.std.proofs.Common.{◌≡◌, ℕ, ◌≤◌, List, Contains, Some, refl, sym, ap, ◌∙◌, subst, arith}
+use Rattle.std.proofs.Common.{◌≡◌, ℕ, List, Contains, Some, refl, sym, ap, ◌∙◌, subst, arith}
 use Rattle.disk_images.specs.Crash.{DiskView}
 use Rattle.server_model.specs.Pass.{Pass, Naming}
 use Rattle.run_model.proofs.Lists.{mapped, map_contains}

@@ -4,7 +4,7 @@ use Rattle.std.specs.FinMap.{get, insert, empty, get-insert}
 use Rattle.std.specs.Ordering.{eq_by_cmp}
 use Rattle.std.proofs.lemmas.Cmp.{eq_by_cmp_equiv}
 use Rattle.cell_model.specs.Cell.{Cell}
-use Rattle.cell_model.specs.Order.{Content, VersionKey, Payload, version_cmp, version_of, payload_of, key_of, put_cells}
+use Rattle.cell_model.specs.Order.{Content, VersionKey, Payload, version_cmp, version_of, payload_of, put_cells}
 use Rattle.cell_model.proofs.OrderLaws.{version_cmp_total}
 use Rattle.log_model.specs.Entry.{Entry}
 use Rattle.log_model.specs.Recovered.{Puts}

@@ -37,7 +37,8 @@ impl<D: Disk, N: ServiceNaming> DeviceHalf<D, N> {
         requires unbroken { IsBroken self.old.device → ⊥ }
         requires region { (0 < region) × (region ≤ self.old.regions) }
         requires family { IfSome family (λ f. (1 ≤ length f.now) × (length f.now ≤ 127)) }
-        ensures flushed { IfOk result (λ n. IsFlushedTo region (option_map (λ f. f.now) family.entry) n (books_of self.old.device) (books_of self.new.device)) }
+        ensures flushed { IfOk result (λ n. IsFlushedTo region (option_map (λ f. f.now) family.entry) n
+            (books_of self.old.device) (books_of self.new.device)) }
         // Nothing comes where, after the commit, the family has no cell that isn't flushed.
         ensures nothing { (n : ℕ) → result ≡ Err (DeviceFlush.Nothing n) → HasNoneAbove region (option_map (λ f. f.now) family.entry) n (books_of self.new.device) }
         ensures broken { IsErrOf result DeviceFlush.WriteFault ↔ IsBroken self.new.device }

@@ -88,7 +88,8 @@ pub fn flush_in<
     requires service { IsAtService N.ring service.now at.old.viewer.region seat.old }
     requires caller { (by.handler ≡ at.old.hand.number) × (1 ≤ by.call) × Contains (N.flushes at.old.viewer.region) by }
     requires free { at.old.hand.record.mark ≡ 0 }
-    ensures flushes { FlushesAt (N.region_base at.old.viewer.region) (N.flushes at.old.viewer.region) (option_map (λ f. f.now) family.entry) by (flush_answer result)
+    ensures flushes { FlushesAt (N.region_base at.old.viewer.region) (N.flushes at.old.viewer.region)
+        (option_map (λ f. f.now) family.entry) by (flush_answer result)
         (known_of service.now.regions at.old seat.old) (known_of service.now.regions at.new seat.new)
         seat.old.device.knows.broken seat.new.device.knows.broken }
     ensures same { SamePass at.old at.new }

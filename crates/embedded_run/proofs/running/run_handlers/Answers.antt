@@ -30,6 +30,11 @@ returns-in-Ok-clause-any_moment g c told =
     subst (λ d. KeepsThroughout (g.D.Disk.view d) (g.D.Disk.view (disk_of c.serve.result))) c.in-Ok.ensures.found (c.serve.ensures.any_moment told)
 
 pub returns-in-Err-clause-ends : goal.returns-in-Err-clause-ends
-returns-in-Err-clause-ends g c =
-    (refl, (λ told. (∣ c.in-Err.ensures.any_moment told ∣₁, if_damaged c.in-Err.field-0.why (g.D.Disk.view c.args.disk) (g.D.Disk.view c.in-Err.field-0.disk)
-        (λ damage is. let d = c.in-Err.ensures.damaged told damage is in (c.in-Err.ensures.unsound told damage is, d.0, d.1)))))
+returns-in-Err-clause-ends g c = (
+  refl,
+  (λ told. (
+    ∣ c.in-Err.ensures.any_moment told ∣₁,
+    if_damaged c.in-Err.field-0.why (g.D.Disk.view c.args.disk) (g.D.Disk.view c.in-Err.field-0.disk)
+        (λ damage is. let d = c.in-Err.ensures.damaged told damage is in (c.in-Err.ensures.unsound told damage is, d.0, d.1)),
+  )),
+)
