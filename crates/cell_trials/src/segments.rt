@@ -26,6 +26,7 @@ fn later_cell_of_one_key_wins(rt: HostRuntime) -> Result<(), Fail> {
     cells.push(put_of(alloc, b"r", b"f", b"a")?)?;
     cells.push(put_of(alloc, b"r", b"f", b"b")?)?;
     let batch = Batch::new(cells).ok().ok_or("within the limits")?;
+    let batch = Arc::new(alloc, batch)?;
     let segment = Segment::of_draft(Draft::new(alloc, &batch)?, 7);
     assert_eq!(rt;
         shown(alloc, &segment)?.as_slice(),

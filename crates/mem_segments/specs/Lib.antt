@@ -2,4 +2,5 @@ pub mod Codes
 pub mod Draft
 pub mod Layers
 pub mod Prefix
+pub mod Shared
 pub mod Walk

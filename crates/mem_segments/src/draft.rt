@@ -1,14 +1,16 @@
 //! The cells of one edit in order, before the edit has its number.
 
 ghost use Rattle.std.specs.Prelude.{◌≡◌, map, IfOk};
+ghost use Rattle.std.specs.Arc.{arc_value};
 ghost use Rattle.cell_model.specs.Merge.{at_number};
 ghost use Rattle.mem_segments.specs.Draft.{IsDraftOf};
 
 use crate::ordering::ordered_rows;
 use crate::row::Row;
-use kv_cell::{Batch, Cell, NoMemory};
+use kv_cell::{Batch, NoMemory};
 use std::alloc::Global;
 use std::marker::Model;
+use std::sync::Arc;
 
 /// Cells of one edit in order, of which each key stands once, whose number comes later. Contracts see the list.
 // Each row has the number 0 until then.
@@ -31,23 +33,24 @@ impl Model for Draft {
 }
 
 impl Draft {
-    /// The batch's cells in order, with bytes of their own. Of two with one key the later one stays.
-    pub fn new(alloc: Global, batch: &Batch) -> Result<Draft, NoMemory>
-        ensures { IfOk result (λ draft. IsDraftOf draft batch.now.cells) }
+    /// The batch's cells in order, which it shares: no byte of them is copied. Of two with one key the later one stays.
+    pub fn new(alloc: Global, batch: &Arc<Batch, Global>) -> Result<Draft, NoMemory>
+        ensures { IfOk result (λ draft. IsDraftOf draft (arc_value batch.now).cells) }
     {
-        let rows = draft_rows(alloc, batch.as_slice())?;
+        let rows = draft_rows(alloc, batch)?;
         let rows = ordered_rows(alloc, rows)?;
         Ok(Draft { rows })
     }
 }
 
 /// The cells at number 0, in their order.
-fn draft_rows(alloc: Global, cells: &[Cell]) -> Result<Vec<Row>, NoMemory>
-    ensures { IfOk result (λ rows. rows.items ≡ at_number 0 cells.now) }
+fn draft_rows(alloc: Global, batch: &Arc<Batch, Global>) -> Result<Vec<Row>, NoMemory>
+    ensures { IfOk result (λ rows. rows.items ≡ at_number 0 (arc_value batch.now).cells) }
 {
-    let mut rows = Vec::with_capacity(alloc, cells.len())?;
-    for cell in cells {
-        rows.push(Row::new(alloc, 0, cell.copy(alloc)?)?)?;
+    let mut rows = Vec::with_capacity(alloc, batch.len())?;
+    // A batch has at most 1,024 cells.
+    for place in 0..batch.len() as u16 {
+        rows.push(Row::of_batch(batch, place)?)?;
     }
     Ok(rows)
 }

@@ -14,6 +14,7 @@ mod rest;
 mod row;
 mod segment;
 mod shared;
+mod shared_cell;
 mod sort_key;
 
 pub use cursor::Cursor;

@@ -1,13 +1,16 @@
 //! A numbered cell that several segments share.
 
-ghost use Rattle.std.specs.Prelude.{◌≡◌, IfOk};
+ghost use Rattle.std.specs.Prelude.{◌≡◌, ◌<◌, length, IfOk};
+ghost use Rattle.std.specs.Arc.{arc_value};
 ghost use Rattle.std.specs.Ordering.{is_le};
 ghost use Rattle.cell_model.specs.Cell.{IsCell};
 ghost use Rattle.cell_model.specs.Order.{numbered_cmp};
 ghost use Rattle.mem_segments.specs.Prefix.{IsPrefix};
+ghost use Rattle.mem_segments.specs.Shared.{cell_at};
 ghost use Rattle.mem_segments.specs.Walk.{is_before};
 
-use kv_cell::{Cell, NoMemory, compare_numbered};
+use crate::shared_cell::SharedCell;
+use kv_cell::{Batch, Cell, NoMemory, compare_numbered};
 use std::alloc::Global;
 use std::cmp::Ordering;
 use std::marker::Model;
@@ -19,19 +22,18 @@ use std::sync::Arc;
 pub struct Row {
     number: u64,
     pub(crate) prefix: u64,
-    pub(crate) cell: Arc<Cell, Global>,
+    pub(crate) shared: SharedCell,
 }
 
 impl Model for Row {
-    ghost use Rattle.std.specs.Arc.{arc_value};
     ghost use Rattle.cell_model.specs.Order.{NumberedCell};
     ghost use Rattle.mem_segments.specs.Prefix.{IsPrefix};
 
     ghost Value = { NumberedCell };
 
-    ghost view = { λ r. (r.number, arc_value r.cell) };
+    ghost view = { λ r. (r.number, r.shared) };
 
-    ghost invariant = { λ r. IsPrefix r.prefix (arc_value r.cell).row };
+    ghost invariant = { λ r. IsPrefix r.prefix r.shared.row };
 }
 
 impl Row {
@@ -44,7 +46,22 @@ impl Row {
         Ok(Row {
             number,
             prefix,
-            cell: Arc::new(alloc, cell)?,
+            shared: SharedCell::of(alloc, cell)?,
+        })
+    }
+
+    /// A row without its number, which is 0 till then, of the batch's cell at this place. No byte is copied: it shares the
+    /// batch. A count of sharers that is full is told as out of memory.
+    pub(crate) fn of_batch(batch: &Arc<Batch, Global>, place: u16) -> Result<Row, NoMemory>
+        requires place { place < length (arc_value batch.now).cells }
+        ensures { IfOk result (λ row. row ≡ (0, cell_at (arc_value batch.now).cells place)) }
+    {
+        let shared = SharedCell::of_batch(batch, place)?;
+        let prefix = prefix_of(shared.cell().row.as_slice());
+        Ok(Row {
+            number: 0,
+            prefix,
+            shared,
         })
     }
 
@@ -55,7 +72,7 @@ impl Row {
         Ok(Row {
             number: self.number,
             prefix: self.prefix,
-            cell: Arc::try_clone(&self.cell)?,
+            shared: self.shared.share()?,
         })
     }
 
@@ -77,7 +94,7 @@ impl Row {
     pub fn cell(&self) -> &Cell
         ensures { result.now ≡ self.now.1 }
     {
-        &self.cell
+        self.shared.cell()
     }
 
     /// The order of numbered cells: row, family and qualifier rise, and timestamp, type and number fall.

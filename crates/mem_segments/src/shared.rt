@@ -8,7 +8,7 @@ use std::alloc::Global;
 use std::marker::Model;
 
 /// Cells, each with the number of its edit, in any order. A cell is shared with whoever else has it: a place of the
-/// list takes 24 bytes, whatever the cell's length. Contracts see the list of pairs.
+/// list takes 32 bytes, whatever the cell's length. Contracts see the list of pairs.
 #[derive(Debug, Drop)]
 pub struct SharedCells {
     rows: Vec<Row>,

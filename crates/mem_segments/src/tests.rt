@@ -1,6 +1,7 @@
 //! Who shares a cell, which only this crate can see.
 
 use super::*;
+use crate::shared_cell::Block;
 use kv_cell::{Cell, NumberedCells};
 use std::alloc::Global;
 use std::sync::Arc;
@@ -35,6 +36,14 @@ fn rows_made(list: &SegmentList) -> usize {
     made
 }
 
+/// How many share what the row keeps.
+fn sharers(row: &Row) -> usize {
+    match &row.shared.block {
+        Block::Own(cell) => Arc::strong_count(cell),
+        Block::OfBatch(_, batch) => Arc::strong_count(batch),
+    }
+}
+
 #[test]
 fn what_is_not_merged_is_shared(rt: HostRuntime) -> Result<(), Fail> {
     let alloc = rt.alloc();
@@ -53,7 +62,7 @@ fn what_is_not_merged_is_shared(rt: HostRuntime) -> Result<(), Fail> {
     assert_eq!(rt; rows_made(&third.share(alloc)?), 0);
     for part in second.as_slice().iter().skip(1) {
         for row in part.rows() {
-            assert_eq!(rt; Arc::strong_count(&row.cell), 2);
+            assert_eq!(rt; sharers(row), 2);
         }
     }
     Ok(())
@@ -75,7 +84,7 @@ fn list_of_a_walks_rows_shares_the_segments_cells(rt: HostRuntime) -> Result<(),
     cells.fit();
     assert_eq!(rt; cells.len(), 3);
     for row in parts[0].rows() {
-        assert_eq!(rt; Arc::strong_count(&row.cell), 2);
+        assert_eq!(rt; sharers(row), 2);
     }
     Ok(())
 }

@@ -39,6 +39,7 @@ pub fn prepare(
 {
     let bytes = encode_entry(alloc, region, 1, time, &batch)?;
     let marks = FamilyMarks::of_batch(alloc, &batch).map_err(|_| NoMemory)?;
+    let batch = Arc::new(alloc, batch).map_err(|_| NoMemory)?;
     let draft = Draft::new(alloc, &batch)?;
     let truck = Box::new(
         alloc,
@@ -51,7 +52,6 @@ pub fn prepare(
         },
     )
     .map_err(|_| NoMemory)?;
-    let batch = Arc::new(alloc, batch).map_err(|_| NoMemory)?;
     Ok(Job {
         caller,
         time,
