@@ -31,6 +31,7 @@ fn opened<T: OfRegion, B: Bases>(queue: &Queue<T>, pass: &mut Pass<T, Knows<T>>,
     requires pass { IsPassOf queue.now pass.old × (view pass.old ≡ new_pass) }
     ensures { IsPassOf queue.now pass.new × (view pass.new ≡ knows 0 true 0 lasts.now [] []) }
 {
+    // The contract alone uses it.
     let _ = lasts;
     let spare = queue.another::<Base<B>>(pass);
     drop(spare);
@@ -49,6 +50,7 @@ fn next_pass<T: OfRegion>(
     ensures new { (result.pass.table_id ≡ queue.now.table.shared.table_id) × (result.region ≡ made + 1)
         × (view result.pass ≡ knows (made + 1) false 0 lasts.now [] []) }
 {
+    // The contract alone uses it.
     let _ = lasts;
     let region = queue.another::<NextRegion>(pass);
     RingPass {

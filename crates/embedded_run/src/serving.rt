@@ -1,11 +1,10 @@
 //! Handlers on a store that is opened.
 
-ghost use Rattle.std.specs.Prelude.{◌≡◌, ℕ, ◌≤◌, ◌<◌, ◌^◌, IsTrue, vec_len, length};
-ghost use Rattle.log_model.specs.Files.{Files, IsSound};
+ghost use Rattle.std.specs.Prelude.{◌≡◌, ◌<◌, ◌^◌, IsTrue, vec_len};
+ghost use Rattle.log_model.specs.Files.{IsSound};
 ghost use Rattle.run_model.specs.Headline.{KeepsThroughout};
-ghost use Rattle.region_calls.specs.Names.{name_of, AreTablesOf};
-ghost use Rattle.region_calls.specs.Seeds.{lasts_of};
-ghost use Rattle.region_calls.specs.Store.{IsStore, disk_now, disk_found, disk_begun, regions_of, handlers_of, bases_of, ring_of, hand_of};
+ghost use Rattle.region_calls.specs.Names.{IsNameOf};
+ghost use Rattle.region_calls.specs.Store.{IsStore, disk_now, disk_found, regions_of, handlers_of};
 ghost use Rattle.wal_split.specs.Moments.{During, WasOrAlike};
 ghost use Rattle.embedded.specs.Flushers.{MayAllFlush};
 ghost use Rattle.embedded_run.specs.Ends.{HasEnded, HasCount, disk_of};
@@ -35,17 +34,8 @@ pub(crate) fn serve<
     requires any_moment { IsTrue D.told → During (WasOrAlike (D.view (disk_found opened))) (D.view (disk_found opened)) (D.view (disk_now opened)) }
     // The name is the store's.
     requires store { IsStore D.Disk opened }
-    requires name { N.name ≡ name_of (length N.lasts) N.handlers N.region_base N.flushes }
+    requires name { IsNameOf D.Disk N.ServerNaming N.LockNaming N.ServiceNaming N.VersionsNaming opened }
     requires flushers { MayAllFlush N.name }
-    requires handlers { N.handlers ≡ handlers_of opened }
-    requires lasts { N.lasts ≡ lasts_of (bases_of opened) }
-    requires rings { (N.ring ≡ ring_of opened) × (N.hand ≡ hand_of opened) }
-    requires regions { (r : ℕ) → 1 ≤ r → r ≤ regions_of opened → AreTablesOf N.desk N.spent N.book N.region_base opened r }
-    requires begun { (N.begun ≡ (D.view (disk_begun opened)).files) × (N.start ≡ (D.view (disk_now opened)).clock)
-        × (N.faults ≡ D.faults (disk_now opened)) }
-    requires past { (t : ℕ) (J : Files) → t ≤ N.start
-        → ((D.view (disk_now opened)).image t J → N.past t J) × (N.past t J → (D.view (disk_now opened)).image t J) }
-    requires found { (N.found ≡ (D.view (disk_found opened)).files) × (N.found_faults ≡ D.faults (disk_found opened)) }
 
     ensures ends { HasEnded D.Disk H.did time (regions_of opened) (disk_found opened) handlers.items result }
     // At each moment a crash leaves an image of the disk as found, or the cells that were found; former moments stay.

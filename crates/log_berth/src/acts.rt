@@ -67,6 +67,7 @@ impl<W: Ware> Berth<W> {
         requires number { (slice_index seat.old.knows.seen (region - 1) ≤ number) × (number ≤ slice_index (W.numbers turn.now.ware) (region - 1)) }
         ensures { (seat.new.berth ≡ seat.old.berth) × (seat.new.knows ≡ saw seat.old.knows (region - 1) number) }
     {
+        // Nothing of the turn is read: that the caller has it is what the contract asks.
         let _ = turn;
         let mut me = sit::<W>(&mut seat.badge);
         self.table
@@ -82,6 +83,7 @@ impl<W: Ware> Berth<W> {
         requires broken { W.is_broken turn.now.ware ≡ true }
         ensures { (seat.new.berth ≡ seat.old.berth) × (seat.new.knows ≡ fault_set seat.old.knows) }
     {
+        // Nothing of the turn is read: that the caller has it is what the contract asks.
         let _ = turn;
         let mut me = sit::<W>(&mut seat.badge);
         self.table

@@ -73,6 +73,7 @@ pub(crate) fn commit_load<D: Disk>(device: &mut Device<D>, load: Load) -> Result
     ensures cause { CausesFault D.Disk device.old device.new (IsErr result) }
 {
     stage_all(device, load.into_chain());
+    // For the proof, which goes by the branches: each is answered as it came.
     match device.sync() {
         Ok(count) => Ok(count),
         Err(WriteFault) => Err(WriteFault),

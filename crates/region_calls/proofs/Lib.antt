@@ -4,6 +4,7 @@ pub mod Marks
 pub mod Begun
 pub mod Seated
 pub mod NamedSeeds
+pub mod OwnNames
 pub mod Knowing
 pub mod Calling
 pub mod Using

@@ -3,6 +3,7 @@ pub mod Seeds
 pub mod Cleared
 pub mod Store
 pub mod Opening
+pub mod Recovered
 pub mod Names
 pub mod Passes
 pub mod Hands

@@ -44,6 +44,7 @@ impl<
         ensures bases { N.name.bases ≡ N.region_base }
         ensures flushes { N.name.flushes ≡ N.flushes }
     {
+        // For the proof: naming a part brings in the server's invariant, which the clauses come from.
         let _ = &self.service;
         region as usize - 1
     }

@@ -21,6 +21,7 @@ pub(crate) fn deal<N: region_lock::LockNaming + region_versions::VersionsNaming>
     ensures count { length regions.new.items ≡ length regions.old.items }
 {
     let mut hands = room;
+    // The contract alone uses these two.
     let _ = (handler, left);
     'dealing: for place in 0..regions.len() {
         hands.push_reserved(regions[place].next());

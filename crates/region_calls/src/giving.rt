@@ -18,6 +18,7 @@ pub(crate) fn give_passes<N: region_lock::LockNaming + region_versions::Versions
     ensures of { (the : Place) → AreSeats the (length passes.items + more) seats.old → AllOf the passes.items → AreSeats the more seats.new }
     ensures back { seats.new.devices.seats ≡ seats.old.devices.seats ++ device_seats (seats_of passes.items) }
 {
+    // The contract alone uses it.
     let _ = more;
     'giving: for pass in passes {
         let Pass {

@@ -34,7 +34,7 @@ pub use log_device::{RollRefusal, Rolled};
 pub use log_service::{Helped, LogSeat};
 pub use mem_segments::Page;
 pub use naming::ServerNaming;
-pub use opening::open;
+pub use opening::{begin_recovered, open};
 pub use pass::Pass;
 pub use passes::Passes;
 pub use refusal::{StartRefusal, StartWhy};

@@ -1,15 +1,13 @@
 //! The opening of a store for a server.
 
-ghost use Rattle.std.specs.Prelude.{◌≡◌, ◌≤◌, ℕ, length, take, IsTrue, IfOk, OnOk, IsErrAnd};
+ghost use Rattle.std.specs.Prelude.{◌≡◌, ◌≤◌, length, IsTrue, IfOk, OnOk, IsErrAnd};
 ghost use Rattle.log_model.specs.Files.{IsSound};
 ghost use Rattle.log_model.specs.Damage.{IsDamage};
 ghost use Rattle.disk_images.specs.Calls.{HasCause};
-ghost use Rattle.recovery_laws.specs.Alike.{AllAlike};
 ghost use Rattle.wal_split.specs.Moments.{During, WasOrAlike};
-ghost use Rattle.region_replay.specs.Cleared.{IsReady};
-ghost use Rattle.region_replay.specs.Opened.{AreOf, AtMostOneHigher};
 ghost use Rattle.region_calls.specs.Bases.{AreBasesOf};
 ghost use Rattle.region_calls.specs.Opening.{disk_left, IfDamaged};
+ghost use Rattle.region_calls.specs.Recovered.{WasRecovered};
 ghost use Rattle.region_calls.specs.Store.{IsStore, disk_found, regions_of, handlers_of, bases_of};
 
 use crate::refusal::{StartRefusal, StartWhy, device_why, split_why};
@@ -48,7 +46,7 @@ pub fn open<D: Disk>(
     let found = Snapshot::of(&disk);
     let mut disk = disk;
     match recover_all(alloc, &mut disk) {
-        Ok(recovered) => begin(alloc, found, disk, recovered, regions, handlers),
+        Ok(recovered) => begin_recovered(alloc, found, disk, recovered, regions, handlers),
         Err(refusal) => Err(StartRefusal {
             why: split_why(refusal),
             disk,
@@ -56,8 +54,11 @@ pub fn open<D: Disk>(
     }
 }
 
-/// Begins a log on a store that was recovered, and takes the memory.
-fn begin<D: Disk>(
+/// Opens a store on a disk that the caller recovered, for regions 1 to `regions` and handlers 1 to `handlers`: begins a log, and takes all
+/// the memory that needs no name. `found` is a snapshot of the disk from before `recover_all`, and `recovered` what that gave for regions 1
+/// to 64. It reads no file, and never tells damage, which the recovery looks for. Refused, it gives the disk back, which then recovers as it
+/// did. Whoever has several disks can so recover them all before a log is begun on the first.
+pub fn begin_recovered<D: Disk>(
     alloc: Global,
     found: Snapshot<D>,
     disk: D,
@@ -67,18 +68,14 @@ fn begin<D: Disk>(
 ) -> Result<Opened<D>, StartRefusal<D>>
     requires regions { (1 ≤ regions) × (regions ≤ 64) }
     requires handlers { (1 ≤ handlers) × (handlers ≤ 16) }
-    requires all { length recovered ≡ 64 }
-    requires so_far { IsTrue D.told → During (WasOrAlike (D.view found.value)) (D.view found.value) (D.view disk) }
-    requires ready { IsTrue D.told → IsReady (D.view disk) }
-    requires alike { IsTrue D.told → AllAlike (D.view found.value).files (D.view disk).files }
-    requires names { IsTrue D.told → AtMostOneHigher (D.view found.value).files (D.view disk).files }
-    requires recovered { IsTrue D.told → AreOf (D.view found.value).files (D.view disk).files 1 recovered }
-    requires later { D.faults found.value ≤ D.faults disk }
+    requires recovered { WasRecovered D.Disk found.value disk recovered }
 
     ensures sizes { IfOk result (λ o. (regions_of o ≡ regions) × (handlers_of o ≡ handlers)) }
     ensures store { IfOk result (λ o. IsStore D.Disk o) }
     ensures found { IfOk result (λ o. disk_found o ≡ found.value) }
+    // At each moment since it was found each image is one of the first moment, or is fit and recovers alike for every region.
     ensures any_moment { IsTrue D.told → During (WasOrAlike (D.view found.value)) (D.view found.value) (D.view (disk_left result)) }
+    // It tells no damage.
     ensures whole { IfDamaged result (λ damage left. ⊥) }
     ensures cause { HasCause (D.faults disk) (D.faults (disk_left result)) (IsErrAnd result (λ e. e.why ≡ StartWhy.DiskFault)) }
 {

@@ -27,7 +27,7 @@ pub(crate) fn scanner_in<N: region_lock::LockNaming + region_versions::VersionsN
     let Ok(version) = view_in(at) else {
         return Err(NoMemory);
     };
-    // For the proof: the version's point is the last number of its cut, which this call's clause says.
+    // For the proof: the version's point is the last number of its cut (its clause is what this call is for).
     let _point = version.point();
     Scanner::of_version(alloc, version, from, to)
 }

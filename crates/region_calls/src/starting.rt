@@ -1,16 +1,15 @@
 //! How an opened store becomes a server.
 
-ghost use Rattle.std.specs.Prelude.{◌≡◌, ◌≤◌, ◌<◌, ◌+◌, ◌∷◌, [], ℕ, length, replicate, IsTrue, IfOk, IfErr, vec_capacity};
-ghost use Rattle.log_model.specs.Files.{Files};
+ghost use Rattle.std.specs.Prelude.{◌≡◌, ◌≤◌, ◌+◌, [], length, IfOk, IfErr, vec_capacity};
 ghost use Rattle.append_ring.specs.Parts.{AreNew, AreOut};
 ghost use Rattle.log_service.specs.Places.{Place};
 ghost use Rattle.region_calls.specs.Hands.{AreDeals};
 ghost use Rattle.region_calls.specs.Deals.{AreSeatsOf, AreRooms, ArePassesOf, passes_out, passes_back};
 ghost use Rattle.region_calls.specs.Named.{AreFrom, AreNamedSeeds};
-ghost use Rattle.region_calls.specs.Names.{name_of, AreTablesOf};
-ghost use Rattle.region_calls.specs.Seeds.{AreSeeds, lasts_of};
+ghost use Rattle.region_calls.specs.Names.{IsNameOf};
+ghost use Rattle.region_calls.specs.Seeds.{AreSeeds};
 ghost use Rattle.region_calls.specs.Served.{IsBegun, AreNewSeats};
-ghost use Rattle.region_calls.specs.Store.{IsStore, disk_now, disk_found, disk_begun, regions_of, handlers_of, bases_of, ring_of, hand_of};
+ghost use Rattle.region_calls.specs.Store.{IsStore, disk_now, regions_of, handlers_of};
 
 use crate::hands::RegionHands;
 use crate::helpers::Helpers;
@@ -206,17 +205,8 @@ impl<D: Disk> Opened<D> {
             + region_versions::VersionsNaming,
         R: Wait,
     >(self, rt: &'a R, alloc: Global) -> Result<Started<'a, D, N, R>, StartRefusal<D>>
-        requires name { N.name ≡ name_of (length N.lasts) N.handlers N.region_base N.flushes }
         requires store { IsStore D.Disk self }
-        requires handlers { N.handlers ≡ handlers_of self }
-        requires lasts { N.lasts ≡ lasts_of (bases_of self) }
-        requires rings { (N.ring ≡ ring_of self) × (N.hand ≡ hand_of self) }
-        requires regions { (r : ℕ) → 1 ≤ r → r ≤ regions_of self → AreTablesOf N.desk N.spent N.book N.region_base self r }
-        requires begun { (N.begun ≡ (D.view (disk_begun self)).files) × (N.start ≡ (D.view (disk_now self)).clock)
-            × (N.faults ≡ D.faults (disk_now self)) }
-        requires past { (t : ℕ) (J : Files) → t ≤ N.start
-            → ((D.view (disk_now self)).image t J → N.past t J) × (N.past t J → (D.view (disk_now self)).image t J) }
-        requires found { (N.found ≡ (D.view (disk_found self)).files) × (N.found_faults ≡ D.faults (disk_found self)) }
+        requires name { IsNameOf D.Disk N.ServerNaming N.LockNaming N.ServiceNaming N.VersionsNaming self }
 
         ensures server { IfOk result (λ s. (s.server.regions ≡ regions_of self) × (s.server.seats ≡ handlers_of self + 2)) }
         ensures passes { IfOk result (λ s. (passes_out s.passes ≡ 0) × (passes_back s.passes ≡ []) × ArePassesOf s.server N.handlers s.passes) }

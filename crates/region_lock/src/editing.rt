@@ -48,6 +48,7 @@ impl<N: LockNaming + log_service::ServiceNaming + region_versions::VersionsNamin
             draft,
             mut truck,
         } = job;
+        // For the proof: the hand's record is the one that the desk keeps (its clause is what this call is for).
         self.desk.meet(hand);
         let number = self.state.write_point() + 1;
         stamp(&mut truck, number);
@@ -107,8 +108,9 @@ impl<N: LockNaming + log_service::ServiceNaming + region_versions::VersionsNamin
         ensures point { IsReadPoint self.new.state result }
         ensures hand { SameHand hand.old hand.new }
     {
+        // For the proof: the hand's record is the one that the desk keeps (its clause is what this call is for).
         self.desk.meet(hand);
-        // For the proof: a journal is in order, which this call's clause says.
+        // For the proof: a journal is in order (its clause is what this call is for).
         let _all = self.state.journal();
         let number = entry.number();
         let point = self.state.end_edit(entry, ended);

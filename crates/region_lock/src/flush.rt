@@ -103,6 +103,7 @@ pub fn flush_in<
     };
     let flushed = service.flush(rt, alloc, seat, region, upto, family);
     unmark(rt, lock, at);
+    // A match, since the proof goes by the branches.
     match flushed {
         Ok(number) => Ok(number),
         Err(refusal) => Err(refusal_of(refusal)),

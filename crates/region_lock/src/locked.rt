@@ -82,7 +82,7 @@ impl<
         ensures point { result ≡ write_point self.now.state }
         ensures base { self.now.state.base ≡ N.region_base self.now.state.region }
     {
-        // For the proof: the base is the name's, which this call's clause says.
+        // For the proof: the base is the name's (its clause is what this call is for).
         let _first = self.part.first();
         self.part.write_point()
     }
@@ -135,7 +135,7 @@ impl<
         ensures point { IsReadPoint self.new.state result }
         ensures hand { SameHand hand.old hand.new }
     {
-        // For the proof: a journal is in order, which this call's clause says.
+        // For the proof: a journal is in order (its clause is what this call is for).
         let _all = self.part.journal();
         self.part.end(hand, entry, ended)
     }
@@ -205,7 +205,8 @@ impl<
         ensures met { IsTrue result → (n : ℕ) (seat : LogSeat)
             → IsMet self.old.state.base (edits_in self.old.state.region self.old.state.lines) at.new.hand.number (known_of n at.new seat) }
     {
-        // For the proof: the lines are a journal from the base on.
+        // For the proof: the lines are a journal from the base on, the hand's list is its handler's lines, and what was told as spent is at
+        // most the last number (the clauses are what these four calls are for).
         let _all = self.part.journal();
         let _first = self.part.first();
         self.part.meet(&mut at.hand);

@@ -23,11 +23,12 @@ impl<N: LockNaming + log_service::ServiceNaming + region_versions::VersionsNamin
     {
         match self.mark {
             Some(other) => {
+                // For the proof: the hand's record is the one that the desk keeps (its clause is what this call is for).
                 self.desk.meet(hand);
                 Err(other)
             }
             None => {
-                // For the proof: a journal is in order, which this call's clause says.
+                // For the proof: a journal is in order (its clause is what this call is for).
                 let _all = self.state.journal();
                 self.desk.mark(hand, u64::from(by.call));
                 self.mark = Some(by);

@@ -73,7 +73,7 @@ impl<N: LockNaming + log_service::ServiceNaming + region_versions::VersionsNamin
         ensures base { self.now.state.base ≡ N.region_base self.now.state.region }
         ensures limit { write_point self.now.state < 2 ^ 48 }
     {
-        // For the proof: a journal's numbers are below 2^48, which this call's clause says.
+        // For the proof: a journal's numbers are below 2^48 (its clause is what this call is for).
         let _lines = self.state.journal();
         self.state.base().last
     }
@@ -104,7 +104,7 @@ impl<N: LockNaming + log_service::ServiceNaming + region_versions::VersionsNamin
         self.state.next_version(alloc)
     }
 
-    /// The hand's list is its handler's lines.
+    /// The hand's list is its handler's lines. Nothing changes: the clause is what the call is for.
     pub(crate) fn meet(&mut self, hand: &mut Hand<Line>)
         requires { hand.old.desk ≡ N.desk self.old.state.region }
         ensures own { hand.new.record.list ≡ handled_lines hand.new.number self.old.state.lines }
@@ -114,7 +114,7 @@ impl<N: LockNaming + log_service::ServiceNaming + region_versions::VersionsNamin
         self.desk.meet(hand);
     }
 
-    /// What a hand was told as spent is at most the last number.
+    /// What a hand was told as spent is at most the last number. Nothing changes: the clause is what the call is for.
     pub(crate) fn meet_told(&mut self, told: &mut Hand<u64>)
         requires { told.old.desk ≡ N.spent self.old.state.region }
         ensures met { (n : ℕ) → Contains told.new.record.list n → n ≤ last_in self.old.state.base self.old.state.lines }

@@ -213,6 +213,7 @@ fn end<
                 return Left::Wait;
             }
             let _shown = guard.show(alloc);
+            // `meet` is for the proof: what the pass viewed begins the lock's lines, so in each run it is true.
             if number <= at.viewer.point() && guard.meet(at) {
                 return Left::Nothing;
             }
@@ -237,6 +238,7 @@ fn is_seen<
     if at.viewer.point() < number {
         return false;
     }
+    // For the proof: what the pass viewed begins the lines under the lock (`meet`'s clause is what this hold is for), so in each run it is true.
     let mut guard = lock.lock(rt);
     guard.region() == at.viewer.region() && guard.meet(at)
 }

@@ -22,6 +22,7 @@ pub fn roll_in<N: ServiceNaming, D: Disk, S: Wait>(
     ensures rolls { RollsAt service.now.regions (roll_answer result) seat.old seat.new }
     ensures seat { IsSeatOf service.now seat.new }
 {
+    // For the proof, which goes by the branches: each is answered as it came.
     match service.roll(rt, alloc, seat) {
         Ok(rolled) => Ok(rolled),
         Err(refusal) => Err(refusal),

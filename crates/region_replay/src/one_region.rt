@@ -99,6 +99,7 @@ fn replay_read<D: Disk>(
     ensures cause { HasCause (D.faults disk.old) (D.faults disk.new) (IsErrOf result SplitRefusal.DiskFault) }
 {
     let files = region_of(alloc, region, found)?;
+    // A match, since the proof goes by the branches.
     match replay_and_clear(alloc, disk, files) {
         Ok(replayed) => Ok(replayed),
         Err(FileRefusal::Memory) => Err(SplitRefusal::Memory),

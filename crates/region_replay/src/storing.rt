@@ -48,6 +48,7 @@ pub(crate) fn store_unflushed<D: Disk>(
     ensures touches { IsTrue D.told → Touches name (D.view disk.old) (D.view disk.new) }
     ensures cause { HasCause (D.faults disk.old) (D.faults disk.new) (IsErrOf result FileRefusal.DiskFault) }
 {
+    // For the proof, which goes by the branches: each is answered as it came.
     match store_cut(alloc, disk, name, &[], from, to, cut) {
         Ok(segment) => Ok(segment),
         Err(FileRefusal::Memory) => Err(FileRefusal::Memory),

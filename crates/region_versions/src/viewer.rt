@@ -105,6 +105,7 @@ impl<N: VersionsNaming> Viewer<N> {
             return Err(NoMemory);
         }
         let front = Front::of_page(region, &found.page);
+        // For the proof: what was seen before begins what was found (its clause is what this call is for).
         self.last.front().compare(&front);
         self.last = Sight::of(front, &found.version);
         Ok(found)
@@ -139,6 +140,7 @@ impl<N: VersionsNaming> Viewer<N> {
         ensures this { IsPrefix self.old.lines self.new.lines }
         ensures that { IsPrefix told.sight.lines self.new.lines }
     {
+        // For the proof: of the two the one with no more lines begins the other (its clause is what this call is for).
         self.last.front().compare(told.sight.front());
         if self.last.front().len() < told.sight.front().len() {
             self.last = told.sight;
@@ -150,6 +152,7 @@ impl<N: VersionsNaming> Viewer<N> {
         requires { front.now.region ≡ self.now.region }
         ensures { MatchBool result (IsPrefix self.now.lines front.now.lines) (length front.now.lines < length self.now.lines) }
     {
+        // For the proof: of the two the one with no more lines begins the other (its clause is what this call is for).
         self.last.front().compare(front);
         self.last.front().len() <= front.len()
     }

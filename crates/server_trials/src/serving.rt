@@ -1,10 +1,8 @@
 //! A server of one region and two handlers, from its opening to its close.
 
-ghost use Rattle.std.specs.Prelude.{◌≡◌, ◌≤◌, ℕ, length};
-ghost use Rattle.log_model.specs.Files.{Files};
-ghost use Rattle.region_calls.specs.Names.{name_of, AreTablesOf};
-ghost use Rattle.region_calls.specs.Seeds.{lasts_of};
-ghost use Rattle.region_calls.specs.Store.{IsStore, disk_now, disk_found, disk_begun, regions_of, handlers_of, bases_of, ring_of, hand_of};
+ghost use Rattle.std.specs.Prelude.{◌≡◌, ◌≤◌, length};
+ghost use Rattle.region_calls.specs.Names.{IsNameOf};
+ghost use Rattle.region_calls.specs.Store.{IsStore, handlers_of};
 
 use crate::asking::{Asked, ask};
 use crate::name::ServerName;
@@ -37,16 +35,7 @@ fn serve<N: ServerName, R: Wait, D: Disk + Drop>(
     requires regions_there { 1 ≤ length N.lasts }
     // The name is the store's.
     requires store { IsStore D.Disk opened }
-    requires name { N.name ≡ name_of (length N.lasts) N.handlers N.region_base N.flushes }
-    requires handlers { N.handlers ≡ handlers_of opened }
-    requires lasts { N.lasts ≡ lasts_of (bases_of opened) }
-    requires rings { (N.ring ≡ ring_of opened) × (N.hand ≡ hand_of opened) }
-    requires regions { (r : ℕ) → 1 ≤ r → r ≤ regions_of opened → AreTablesOf N.desk N.spent N.book N.region_base opened r }
-    requires begun { (N.begun ≡ (D.view (disk_begun opened)).files) × (N.start ≡ (D.view (disk_now opened)).clock)
-        × (N.faults ≡ D.faults (disk_now opened)) }
-    requires past { (t : ℕ) (J : Files) → t ≤ N.start
-        → ((D.view (disk_now opened)).image t J → N.past t J) × (N.past t J → (D.view (disk_now opened)).image t J) }
-    requires found { (N.found ≡ (D.view (disk_found opened)).files) × (N.found_faults ≡ D.faults (disk_found opened)) }
+    requires name { IsNameOf D.Disk N.ServerNaming N.LockNaming N.ServiceNaming N.VersionsNaming opened }
 {
     let (server, mut passes, helpers) = match opened.named::<N, R>(rt, alloc) {
         Ok(

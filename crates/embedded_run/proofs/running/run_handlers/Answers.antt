@@ -3,6 +3,8 @@ use Rattle.log_model.specs.Files.{IsSound}
 use Rattle.wal_split.specs.Moments.{During, WasOrAlike}
 use Rattle.run_model.specs.Headline.{KeepsThroughout}
 use Rattle.region_calls.specs.Store.{disk_now, handlers_of}
+use Rattle.region_calls.proofs.OwnNames.{own_name}
+use Rattle.embedded.specs.Flushers.{callers}
 use Rattle.embedded.proofs.Flushing.{may_flush}
 use Rattle.embedded_run.specs.Ends.{disk_of}
 use Rattle.embedded_run.proofs.Elapsed.{opened_throughout}
@@ -19,8 +21,8 @@ serve-requires-clause-any_moment g c κs within told =
 pub serve-requires-clause-flushers : goal.serve-requires-clause-flushers
 serve-requires-clause-flushers g c κs within r h n low high few = may_flush (handlers_of c.in-Ok.opened) (2 ^ 32) h n low high few
 
-pub serve-requires-clause-regions : goal.serve-requires-clause-regions
-serve-requires-clause-regions g c κs within r low high = record { desk_is = refl; spent_is = refl; book_is = refl; base_is = refl }
+pub serve-requires-clause-name : goal.serve-requires-clause-name
+serve-requires-clause-name g c κs within = own_name g.D.Disk (λ r. callers (handlers_of c.in-Ok.opened) (2 ^ 32)) c.in-Ok.opened
 
 pub returns-in-Err-clause-any_moment : goal.returns-in-Err-clause-any_moment
 returns-in-Err-clause-any_moment g c told = opened_throughout (g.D.Disk.view c.args.disk) (g.D.Disk.view c.in-Err.field-0.disk) (c.in-Err.ensures.any_moment told)

@@ -4,6 +4,7 @@ use Rattle.script_model.specs.Calls.{Script}
 use Rattle.region_calls.specs.Names.{name_of}
 use Rattle.region_calls.specs.Seeds.{base_at, lasts_of}
 use Rattle.region_calls.specs.Store.{bases_of, disk_found, disk_now, handlers_of, regions_of}
+use Rattle.region_calls.proofs.OwnNames.{own_name}
 use Rattle.run_model.specs.Closed.{flushes_in}
 use Rattle.wal_split.specs.Moments.{During, WasOrAlike}
 use Rattle.run_model.specs.Headline.{KeepsFound, KeepsThroughout}
@@ -26,8 +27,9 @@ serve-requires-clause-any_moment g c κs within told =
 pub serve-requires-clause-named : goal.serve-requires-clause-named
 serve-requires-clause-named g c κs within = record { regions = all_named c.in-Ok-open.opened c.in-Ok-open.ensures.store; flushes = λ r. refl }
 
-pub serve-requires-clause-regions : goal.serve-requires-clause-regions
-serve-requires-clause-regions g c κs within r low high = record { desk_is = refl; spent_is = refl; book_is = refl; base_is = refl }
+pub serve-requires-clause-name : goal.serve-requires-clause-name
+serve-requires-clause-name g c κs within =
+    own_name g.D.Disk (λ r. flushes_in r (script_in c.script.inside.time (regions_of c.in-Ok-open.opened) c.in-Ok.rooms.items)) c.in-Ok-open.opened
 
 pub returns-in-Closed-clause-ran : goal.returns-in-Closed-clause-ran
 returns-in-Closed-clause-ran g c told =

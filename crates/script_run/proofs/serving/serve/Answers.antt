@@ -55,7 +55,7 @@ give_back-spent-requires-clause-of g c =
 pub give_back-spent-requires-clause-passes : goal.give_back-spent-requires-clause-passes
 give_back-spent-requires-clause-passes g c =
     let taken = taken_length 1 c.args.rooms.items c.take_passes.new.handlers.items c.take_passes.ensures.taken in
-    (c.take_passes.ensures.out, c.take_passes.ensures.back ∙ c.in-Ok-named.ensures.passes.1, omega (arith, c.run_on-handlers.ensures.run.len, taken, c.requires.few, c.requires.handlers, c.run_on-handlers.result.0.ok, c.args.rooms.ok))
+    (c.take_passes.ensures.out, c.take_passes.ensures.back ∙ c.in-Ok-named.ensures.passes.1, omega (arith, c.run_on-handlers.ensures.run.len, taken, c.requires.few, c.requires.name.handlers_are, c.run_on-handlers.result.0.ok, c.args.rooms.ok))
 
 pub close-requires : goal.close-requires
 close-requires g c =
@@ -70,7 +70,7 @@ close-requires g c =
         of = c.give_back-spent.ensures.of place (c.take_passes.ensures.of place c.in-Ok-named.ensures.passes.2).0
             (all_of g.N.ServerNaming.name place c.args.time c.take_passes.new.handlers.items c.run_on-handlers.result.0.items c.run_on-handlers.ensures.run);
         out = c.give_back-spent.ensures.out;
-        back = omega (arith, back, c.run_on-handlers.ensures.run.len, taken, c.requires.few, c.requires.handlers, c.args.rooms.ok);
+        back = omega (arith, back, c.run_on-handlers.ensures.run.len, taken, c.requires.few, c.requires.name.handlers_are, c.args.rooms.ok);
         seats = (
           omega (arith, c.put_back-2.ensures.count, c.put_back.ensures.count, c.in-Some.ensures.some, c.in-Some-next.ensures.some, c.in-Ok-named.ensures.helpers.0),
           c.put_back-2.ensures.of place first c.run_on-handlers.ensures.seats.1,
@@ -92,15 +92,15 @@ returns-in-Ok-close-clause-served g c told =
     let name : Naming = g.N.ServerNaming.name in
     let count = length-map c.args.opened.seeds.items base_of in
     let bases = bases_found files (bases_of c.args.opened) name (regions_of c.args.opened) (c.requires.store.recovered told) (omega (arith, count, c.requires.store.count))
-    (λ r low high. ap (λ (n : Naming). n.bases r) c.requires.name ∙ (c.requires.regions r low high).base_is) in
+    (λ r low high. ap (λ (n : Naming). n.bases r) c.requires.name.name_is ∙ (c.requires.name.tables_are r low high).base_is) in
     let closed = closed_from name place c.args.time (regions_of c.args.opened) c.args.rooms.items c.take_passes.new.handlers.items c.run_on-handlers.result.0.items files left c.in-Ok-close.field-0.regions.items c.in-Ok-close.field-0.broken
     (passes_back c.give_back-spent.new.passes) c.give_back-spent.new.parts.items c.give_back-spent.result c.requires.script c.requires.named c.take_passes.ensures.taken c.run_on-handlers.ensures.run c.give_back-spent.ensures.back
-    c.give_back-spent.ensures.parts c.give_back-spent.ensures.spent (c.requires.sound told) bases e.numbers e.regions (e.survives told) (subst (λ (f : Files). ∥ Leaves f left c.in-Ok-close.field-0.broken name.regions ∥₁) c.requires.found.0 (e.leaves told))
+    c.give_back-spent.ensures.parts c.give_back-spent.ensures.spent (c.requires.sound told) bases e.numbers e.regions (e.survives told) (subst (λ (f : Files). ∥ Leaves f left c.in-Ok-close.field-0.broken name.regions ∥₁) c.requires.name.found_is.0 (e.leaves told))
     e.seen_broken in (
       closed,
-      closed_throughout (g.D.Disk.view (disk_found c.args.opened)) (g.D.Disk.view (disk_now c.args.opened)) left g.N.ServiceNaming.start g.N.ServiceNaming.past c.requires.begun.1 c.requires.past (c.requires.any_moment told) c.in-Ok-close.field-0.regions.items closed.closed (e.survived told)
+      closed_throughout (g.D.Disk.view (disk_found c.args.opened)) (g.D.Disk.view (disk_now c.args.opened)) left g.N.ServiceNaming.start g.N.ServiceNaming.past c.requires.name.begins.1 c.requires.name.past_is (c.requires.any_moment told) c.in-Ok-close.field-0.regions.items closed.closed (e.survived told)
           (subst (λ (k : ℕ). ∥ HasElapsed g.N.ServiceNaming.start g.N.ServiceNaming.past files k left ∥₁) c.requires.named.regions
-          (subst (λ (f : Files). ∥ HasElapsed g.N.ServiceNaming.start g.N.ServiceNaming.past f name.regions left ∥₁) c.requires.found.0 (e.elapsed told))),
+          (subst (λ (f : Files). ∥ HasElapsed g.N.ServiceNaming.start g.N.ServiceNaming.past f name.regions left ∥₁) c.requires.name.found_is.0 (e.elapsed told))),
     )
 
 pub returns-in-Ok-close-clause-any_moment : goal.returns-in-Ok-close-clause-any_moment
@@ -112,14 +112,14 @@ returns-in-Ok-close-clause-any_moment g c told =
     let name : Naming = g.N.ServerNaming.name in
     let count = length-map c.args.opened.seeds.items base_of in
     let bases = bases_found files (bases_of c.args.opened) name (regions_of c.args.opened) (c.requires.store.recovered told) (omega (arith, count, c.requires.store.count))
-    (λ r low high. ap (λ (n : Naming). n.bases r) c.requires.name ∙ (c.requires.regions r low high).base_is) in
+    (λ r low high. ap (λ (n : Naming). n.bases r) c.requires.name.name_is ∙ (c.requires.name.tables_are r low high).base_is) in
     let closed = closed_from name place c.args.time (regions_of c.args.opened) c.args.rooms.items c.take_passes.new.handlers.items c.run_on-handlers.result.0.items files left c.in-Ok-close.field-0.regions.items c.in-Ok-close.field-0.broken
     (passes_back c.give_back-spent.new.passes) c.give_back-spent.new.parts.items c.give_back-spent.result c.requires.script c.requires.named c.take_passes.ensures.taken c.run_on-handlers.ensures.run c.give_back-spent.ensures.back
-    c.give_back-spent.ensures.parts c.give_back-spent.ensures.spent (c.requires.sound told) bases e.numbers e.regions (e.survives told) (subst (λ (f : Files). ∥ Leaves f left c.in-Ok-close.field-0.broken name.regions ∥₁) c.requires.found.0 (e.leaves told))
+    c.give_back-spent.ensures.parts c.give_back-spent.ensures.spent (c.requires.sound told) bases e.numbers e.regions (e.survives told) (subst (λ (f : Files). ∥ Leaves f left c.in-Ok-close.field-0.broken name.regions ∥₁) c.requires.name.found_is.0 (e.leaves told))
     e.seen_broken in
-    closed_moments (g.D.Disk.view (disk_found c.args.opened)) (g.D.Disk.view (disk_now c.args.opened)) left g.N.ServiceNaming.start g.N.ServiceNaming.past c.requires.begun.1 c.requires.past (c.requires.any_moment told) c.in-Ok-close.field-0.regions.items closed.closed (e.survived told)
+    closed_moments (g.D.Disk.view (disk_found c.args.opened)) (g.D.Disk.view (disk_now c.args.opened)) left g.N.ServiceNaming.start g.N.ServiceNaming.past c.requires.name.begins.1 c.requires.name.past_is (c.requires.any_moment told) c.in-Ok-close.field-0.regions.items closed.closed (e.survived told)
     (subst (λ (k : ℕ). ∥ HasElapsed g.N.ServiceNaming.start g.N.ServiceNaming.past files k left ∥₁) c.requires.named.regions
-    (subst (λ (f : Files). ∥ HasElapsed g.N.ServiceNaming.start g.N.ServiceNaming.past f name.regions left ∥₁) c.requires.found.0 (e.elapsed told)))
+    (subst (λ (f : Files). ∥ HasElapsed g.N.ServiceNaming.start g.N.ServiceNaming.past f name.regions left ∥₁) c.requires.name.found_is.0 (e.elapsed told)))
 
 pub returns-in-Err-close-clause-served : goal.returns-in-Err-close-clause-served
 returns-in-Err-close-clause-served g c told =
@@ -128,9 +128,9 @@ returns-in-Err-close-clause-served g c told =
     let name : Naming = g.N.ServerNaming.name in
     let count = length-map c.args.opened.seeds.items base_of in
     let bases = bases_found files (bases_of c.args.opened) name (regions_of c.args.opened) (c.requires.store.recovered told) (omega (arith, count, c.requires.store.count))
-    (λ r low high. ap (λ (n : Naming). n.bases r) c.requires.name ∙ (c.requires.regions r low high).base_is) in
+    (λ r low high. ap (λ (n : Naming). n.bases r) c.requires.name.name_is ∙ (c.requires.name.tables_are r low high).base_is) in
     left_of name (g.D.Disk.view (disk_found c.args.opened)) left (passes_back c.in-Err-close.refusal.passes) (regions_of c.args.opened) c.requires.script.some_region c.requires.named.regions bases g.N.ServiceNaming.start (c.into_disk-in-Err-close.ensures.left told)
-    (subst (λ (f : Files). ∥ Leaves f left true name.regions ∥₁) c.requires.found.0 (c.into_disk-in-Err-close.ensures.leaves told))
+    (subst (λ (f : Files). ∥ Leaves f left true name.regions ∥₁) c.requires.name.found_is.0 (c.into_disk-in-Err-close.ensures.leaves told))
 
 pub returns-in-Err-close-clause-any_moment : goal.returns-in-Err-close-clause-any_moment
 returns-in-Err-close-clause-any_moment g c told =
@@ -139,11 +139,11 @@ returns-in-Err-close-clause-any_moment g c told =
     let name : Naming = g.N.ServerNaming.name in
     let count = length-map c.args.opened.seeds.items base_of in
     let bases = bases_found files (bases_of c.args.opened) name (regions_of c.args.opened) (c.requires.store.recovered told) (omega (arith, count, c.requires.store.count))
-    (λ r low high. ap (λ (n : Naming). n.bases r) c.requires.name ∙ (c.requires.regions r low high).base_is) in
-    left_moments (g.D.Disk.view (disk_found c.args.opened)) (g.D.Disk.view (disk_now c.args.opened)) left g.N.ServiceNaming.start g.N.ServiceNaming.past c.requires.begun.1 c.requires.past (c.requires.any_moment told) name
+    (λ r low high. ap (λ (n : Naming). n.bases r) c.requires.name.name_is ∙ (c.requires.name.tables_are r low high).base_is) in
+    left_moments (g.D.Disk.view (disk_found c.args.opened)) (g.D.Disk.view (disk_now c.args.opened)) left g.N.ServiceNaming.start g.N.ServiceNaming.past c.requires.name.begins.1 c.requires.name.past_is (c.requires.any_moment told) name
     (passes_back c.in-Err-close.refusal.passes) (regions_of c.args.opened) c.requires.script.some_region c.requires.named.regions bases
     (subst (λ (k : ℕ). ∥ HasElapsed g.N.ServiceNaming.start g.N.ServiceNaming.past files k left ∥₁) c.requires.named.regions
-    (subst (λ (f : Files). ∥ HasElapsed g.N.ServiceNaming.start g.N.ServiceNaming.past f name.regions left ∥₁) c.requires.found.0 (c.into_disk-in-Err-close.ensures.elapsed told)))
+    (subst (λ (f : Files). ∥ HasElapsed g.N.ServiceNaming.start g.N.ServiceNaming.past f name.regions left ∥₁) c.requires.name.found_is.0 (c.into_disk-in-Err-close.ensures.elapsed told)))
     (c.into_disk-in-Err-close.ensures.left told)
 
 pub returns-in_default-clause-any_moment : goal.returns-in_default-clause-any_moment

@@ -19,7 +19,7 @@ ask-asked-requires-clause-of g c =
     (one.1, two.1)
 
 pub ask-asked-requires-clause-region : goal.ask-asked-requires-clause-region
-ask-asked-requires-clause-region g c = subst (λ (n : Naming). 1 ≤ n.regions) (sym c.requires.name) c.requires.regions_there
+ask-asked-requires-clause-region g c = subst (λ (n : Naming). 1 ≤ n.regions) (sym c.requires.name.name_is) c.requires.regions_there
 
 pub put_back-requires-clause-of : goal.put_back-requires-clause-of
 put_back-requires-clause-of g c =
@@ -57,8 +57,8 @@ close-requires g c =
     record {
       back = record {
         of = c.put_back-2.ensures.of place (c.put_back.ensures.of place two.0 c.ask-asked.ensures.of.0) c.ask-asked.ensures.of.1;
-        out = omega (arith, c.put_back-2.ensures.out, c.put_back.ensures.out, c.in-Some-next.ensures.some.1, c.in-Some.ensures.some.1, c.in-Ok.ensures.passes.0, c.requires.few, c.requires.handlers);
-        back = omega (arith, none, first, second, c.requires.few, c.requires.handlers);
+        out = omega (arith, c.put_back-2.ensures.out, c.put_back.ensures.out, c.in-Some-next.ensures.some.1, c.in-Some.ensures.some.1, c.in-Ok.ensures.passes.0, c.requires.few, c.requires.name.handlers_are);
+        back = omega (arith, none, first, second, c.requires.few, c.requires.name.handlers_are);
         seats = c.in-Ok.ensures.helpers;
       };
     }

@@ -16,38 +16,38 @@ use Rattle.region_calls.proofs.store.Opened.named.Goals as goal
 
 pub make_room-requires-clause-named : goal.make_room-requires-clause-named
 make_room-requires-clause-named g c =
-    named_seeds g.N.LockNaming.desk g.N.LockNaming.spent g.N.VersionsNaming.book g.N.VersionsNaming.region_base g.N.ServiceNaming.lasts c.args.self.handlers c.args.self c.requires.store.each c.requires.lasts
-    (λ r low high. c.requires.regions r low (omega (arith, high, c.requires.store.count)))
+    named_seeds g.N.LockNaming.desk g.N.LockNaming.spent g.N.VersionsNaming.book g.N.VersionsNaming.region_base g.N.ServiceNaming.lasts c.args.self.handlers c.args.self c.requires.store.each c.requires.name.lasts_are
+    (λ r low high. c.requires.name.tables_are r low (omega (arith, high, c.requires.store.count)))
 
 pub start-requires-clause-whole : goal.start-requires-clause-whole
 start-requires-clause-whole g c told =
     let o = c.args.self in
-    subst (λ (F : Files). ∥ ((h : History) × BeginsAs F g.N.ServiceNaming.lasts o.device (g.D.Disk.view (disk_now o)) h) ∥₁) (sym c.requires.begun.0)
-    (subst (λ (l : List ℕ). ∥ ((h : History) × BeginsAs (g.D.Disk.view (disk_begun o)).files l o.device (g.D.Disk.view (disk_now o)) h) ∥₁) (sym c.requires.lasts) (c.requires.store.begins told))
+    subst (λ (F : Files). ∥ ((h : History) × BeginsAs F g.N.ServiceNaming.lasts o.device (g.D.Disk.view (disk_now o)) h) ∥₁) (sym c.requires.name.begins.0)
+    (subst (λ (l : List ℕ). ∥ ((h : History) × BeginsAs (g.D.Disk.view (disk_begun o)).files l o.device (g.D.Disk.view (disk_now o)) h) ∥₁) (sym c.requires.name.lasts_are) (c.requires.store.begins told))
 
 pub join-requires-clause-served : goal.join-requires-clause-served
 join-requires-clause-served g c =
     let o = c.args.self in
     let store = c.requires.store in
     let service = c.in-Ok-start.ensures.service in
-    let firsts = ap length c.requires.lasts in
+    let firsts = ap length c.requires.name.lasts_are in
     let lasts = len_map (λ (b : Base). b.last) (bases_of o) in
     let bases = len_map base_of o.seeds.items in
     record {
-      named = c.requires.name;
+      named = c.requires.name.name_is;
       ring_is = service.0;
       some = (omega (arith, service.1, store.some.0), omega (arith, service.1, store.some.1));
       all = omega (arith, service.1, firsts, lasts, bases, store.count);
-      seats = omega (arith, service.2, c.requires.handlers);
-      alike = λ told. subst (λ (F : Files). AllAlike g.N.ServerNaming.found F) (sym c.requires.begun.0) (subst (λ (F : Files). AllAlike F (g.D.Disk.view (disk_begun o)).files) (sym c.requires.found.0) (store.alike told));
+      seats = omega (arith, service.2, c.requires.name.handlers_are);
+      alike = λ told. subst (λ (F : Files). AllAlike g.N.ServerNaming.found F) (sym c.requires.name.begins.0) (subst (λ (F : Files). AllAlike F (g.D.Disk.view (disk_begun o)).files) (sym c.requires.name.found_is.0) (store.alike told));
       higher = λ told.
-          subst (λ (F : Files). AtMostOneHigher g.N.ServerNaming.found F) (sym c.requires.begun.0) (subst (λ (F : Files). AtMostOneHigher F (g.D.Disk.view (disk_begun o)).files) (sym c.requires.found.0) (store.higher told));
+          subst (λ (F : Files). AtMostOneHigher g.N.ServerNaming.found F) (sym c.requires.name.begins.0) (subst (λ (F : Files). AtMostOneHigher F (g.D.Disk.view (disk_begun o)).files) (sym c.requires.name.found_is.0) (store.higher told));
       recovered = λ told r low high.
           let within : r ≤ o.regions = omega (arith, high, service.1) in
           let base = base_of_region (g.D.Disk.view (disk_found o)).files (bases_of o) (store.recovered told) r low (omega (arith, within, bases, store.count)) in
-          subst (λ (F : Files). IsBaseOf F r (g.N.VersionsNaming.region_base r)) (sym c.requires.found.0) (subst (λ (b : Base). IsBaseOf (g.D.Disk.view (disk_found o)).files r b) (sym (c.requires.regions r low within).base_is) base);
-      cleared = λ told. subst (λ (F : Files). AreCleared F) (sym c.requires.begun.0) (store.cleared told);
+          subst (λ (F : Files). IsBaseOf F r (g.N.VersionsNaming.region_base r)) (sym c.requires.name.found_is.0) (subst (λ (b : Base). IsBaseOf (g.D.Disk.view (disk_found o)).files r b) (sym (c.requires.name.tables_are r low within).base_is) base);
+      cleared = λ told. subst (λ (F : Files). AreCleared F) (sym c.requires.name.begins.0) (store.cleared told);
       lasts_are = λ r low high.
           let within : r ≤ o.regions = omega (arith, high, service.1) in
-          ap (λ (l : List ℕ). last_before l r) c.requires.lasts ∙ last_at_base (bases_of o) r low (omega (arith, within, bases, store.count)) ∙ ap (λ (b : Base). b.last) (sym (c.requires.regions r low within).base_is);
+          ap (λ (l : List ℕ). last_before l r) c.requires.name.lasts_are ∙ last_at_base (bases_of o) r low (omega (arith, within, bases, store.count)) ∙ ap (λ (b : Base). b.last) (sym (c.requires.name.tables_are r low within).base_is);
     }
