@@ -5,7 +5,7 @@ ghost use Rattle.log_model.specs.Files.{Files, IsSound};
 ghost use Rattle.run_model.specs.Headline.{KeepsThroughout};
 ghost use Rattle.region_calls.specs.Names.{name_of, AreTablesOf};
 ghost use Rattle.region_calls.specs.Seeds.{lasts_of};
-ghost use Rattle.region_calls.specs.Store.{IsStore, disk_now, disk_found, disk_begun, regions_of, handlers_of, bases_of, ring_of, hand_of};
+ghost use Rattle.region_calls.specs.Store.{IsStore, disk_now, disk_found, disk_begun, regions_of, handlers_of, bases_of, ring_of, chain_ring_of};
 ghost use Rattle.wal_split.specs.Moments.{During, WasOrAlike};
 ghost use Rattle.embedded.specs.Flushers.{MayAllFlush};
 ghost use Rattle.embedded_run.specs.Ends.{HasEnded, HasCount, disk_of};
@@ -17,7 +17,7 @@ use crate::outcome::{Outcome, not_started};
 use crate::seated::make_room;
 use disk_images::Disk;
 use handler_threads::ServerName;
-use region_calls::{ClosedServer, Opened, StartRefusal, Started};
+use region_calls::{ClosedServer, OpenedStore, StartRefusal, Started};
 use std::alloc::Global;
 use std::sync::Wait;
 use std::thread::Threads;
@@ -28,7 +28,7 @@ pub(crate) fn serve<
     R: Threads + Wait + Sync,
     D: Disk + Send,
     H: Handler + Drop + Send + Sync,
->(rt: &R, alloc: Global, opened: Opened<D>, time: u64, handlers: Vec<H>) -> Outcome<D, H>
+>(rt: &R, alloc: Global, opened: OpenedStore<D>, time: u64, handlers: Vec<H>) -> Outcome<D, H>
     requires time { time < 2 ^ 63 }
     requires few { handlers_of opened ≡ vec_len handlers }
     requires sound { IsTrue D.told → IsSound (D.view (disk_found opened)).files }
@@ -39,7 +39,7 @@ pub(crate) fn serve<
     requires flushers { MayAllFlush N.name }
     requires handlers { N.handlers ≡ handlers_of opened }
     requires lasts { N.lasts ≡ lasts_of (bases_of opened) }
-    requires rings { (N.ring ≡ ring_of opened) × (N.hand ≡ hand_of opened) }
+    requires rings { (N.ring ≡ ring_of opened) × (N.chain_ring ≡ chain_ring_of opened) }
     requires regions { (r : ℕ) → 1 ≤ r → r ≤ regions_of opened → AreTablesOf N.desk N.spent N.book N.region_base opened r }
     requires begun { (N.begun ≡ (D.view (disk_begun opened)).files) × (N.start ≡ (D.view (disk_now opened)).clock)
         × (N.faults ≡ D.faults (disk_now opened)) }

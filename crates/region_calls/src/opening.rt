@@ -14,7 +14,7 @@ ghost use Rattle.region_calls.specs.Store.{IsStore, disk_found, regions_of, hand
 
 use crate::refusal::{StartRefusal, StartWhy, device_why, split_why};
 use crate::sowing::{Sown, sow};
-use crate::store::Opened;
+use crate::store::OpenedStore;
 use disk_images::Disk;
 use kv_cell::NoMemory;
 use log_device::{Device, DeviceRefusal};
@@ -29,7 +29,7 @@ pub fn open<D: Disk>(
     disk: D,
     regions: u32,
     handlers: u32,
-) -> Result<Opened<D>, StartRefusal<D>>
+) -> Result<OpenedStore<D>, StartRefusal<D>>
     requires regions { (1 ≤ regions) × (regions ≤ 64) }
     requires handlers { (1 ≤ handlers) × (handlers ≤ 16) }
 
@@ -64,7 +64,7 @@ fn begin<D: Disk>(
     recovered: Recovered,
     regions: u32,
     handlers: u32,
-) -> Result<Opened<D>, StartRefusal<D>>
+) -> Result<OpenedStore<D>, StartRefusal<D>>
     requires regions { (1 ≤ regions) × (regions ≤ 64) }
     requires handlers { (1 ≤ handlers) × (handlers ≤ 16) }
     requires all { length recovered ≡ 64 }
@@ -101,7 +101,7 @@ fn begin<D: Disk>(
                 rings,
                 seeds,
             } = sown;
-            Ok(Opened {
+            Ok(OpenedStore {
                 device,
                 rings,
                 seeds,

@@ -7,18 +7,18 @@ ghost use Rattle.run_model.specs.Closed.{IsNameFor};
 ghost use Rattle.run_model.specs.Headline.{KeepsThroughout};
 ghost use Rattle.region_calls.specs.Names.{name_of, AreTablesOf};
 ghost use Rattle.region_calls.specs.Seeds.{base_at, lasts_of};
-ghost use Rattle.region_calls.specs.Store.{IsStore, disk_now, disk_found, disk_begun, regions_of, handlers_of, bases_of, ring_of, hand_of};
+ghost use Rattle.region_calls.specs.Store.{IsStore, disk_now, disk_found, disk_begun, regions_of, handlers_of, bases_of, ring_of, chain_ring_of};
 ghost use Rattle.wal_split.specs.Moments.{During, WasOrAlike};
 ghost use Rattle.script_run.specs.Rooms.{AreRooms, script_in};
 ghost use Rattle.script_run.specs.Ends.{IsServed, HasCount, disk_left};
 
 use crate::handing::{give_back, take_passes};
-use crate::room::Room;
+use crate::room::CallRoom;
 use crate::running::run_on;
 use crate::served::Served;
 use disk_images::Disk;
 use handler_threads::ServerName;
-use region_calls::{ClosedServer, Gate, Opened, StartRefusal, Started};
+use region_calls::{ClosedServer, Gate, OpenedStore, StartRefusal, Started};
 use std::alloc::Global;
 use std::sync::Wait;
 use std::thread::Threads;
@@ -27,9 +27,9 @@ use std::thread::Threads;
 pub fn serve<N: ServerName + Send + Sync, R: Threads + Wait + Sync, D: Disk + Send, G: Gate + Sync>(
     rt: &R,
     alloc: Global,
-    opened: Opened<D>,
+    opened: OpenedStore<D>,
     time: u64,
-    rooms: Vec<Room>,
+    rooms: Vec<CallRoom>,
     gate: &G,
 ) -> Served<D>
     // The script, and that the store was opened for it.
@@ -44,7 +44,7 @@ pub fn serve<N: ServerName + Send + Sync, R: Threads + Wait + Sync, D: Disk + Se
     requires named { IsNameFor (script_in time (regions_of opened) rooms.items) N.name }
     requires handlers { N.handlers ≡ handlers_of opened }
     requires lasts { N.lasts ≡ lasts_of (bases_of opened) }
-    requires rings { (N.ring ≡ ring_of opened) × (N.hand ≡ hand_of opened) }
+    requires rings { (N.ring ≡ ring_of opened) × (N.chain_ring ≡ chain_ring_of opened) }
     requires regions { (r : ℕ) → 1 ≤ r → r ≤ regions_of opened → AreTablesOf N.desk N.spent N.book N.region_base opened r }
     requires begun { (N.begun ≡ (D.view (disk_begun opened)).files) × (N.start ≡ (D.view (disk_now opened)).clock)
         × (N.faults ≡ D.faults (disk_now opened)) }

@@ -4,13 +4,13 @@ ghost use Rattle.std.specs.Prelude.{◌≡◌, ◌≤◌, ℕ, length};
 ghost use Rattle.log_model.specs.Files.{Files};
 ghost use Rattle.region_calls.specs.Names.{name_of, AreTablesOf};
 ghost use Rattle.region_calls.specs.Seeds.{lasts_of};
-ghost use Rattle.region_calls.specs.Store.{IsStore, disk_now, disk_found, disk_begun, regions_of, handlers_of, bases_of, ring_of, hand_of};
+ghost use Rattle.region_calls.specs.Store.{IsStore, disk_now, disk_found, disk_begun, regions_of, handlers_of, bases_of, ring_of, chain_ring_of};
 
 use crate::asking::{Asked, ask};
 use crate::name::ServerName;
 use disk_fakes::MemDisk;
 use disk_images::Disk;
-use region_calls::{ClosedServer, Opened, StartRefusal, Started, open};
+use region_calls::{ClosedServer, OpenedStore, StartRefusal, Started, open};
 use std::alloc::Global;
 use std::marker::Brand;
 use std::sync::Wait;
@@ -31,7 +31,7 @@ struct Served<D> {
 fn serve<N: ServerName, R: Wait, D: Disk + Drop>(
     rt: &R,
     alloc: Global,
-    opened: Opened<D>,
+    opened: OpenedStore<D>,
 ) -> Option<Served<D>>
     requires few { handlers_of opened ≡ 2 }
     requires regions_there { 1 ≤ length N.lasts }
@@ -40,7 +40,7 @@ fn serve<N: ServerName, R: Wait, D: Disk + Drop>(
     requires name { N.name ≡ name_of (length N.lasts) N.handlers N.region_base N.flushes }
     requires handlers { N.handlers ≡ handlers_of opened }
     requires lasts { N.lasts ≡ lasts_of (bases_of opened) }
-    requires rings { (N.ring ≡ ring_of opened) × (N.hand ≡ hand_of opened) }
+    requires rings { (N.ring ≡ ring_of opened) × (N.chain_ring ≡ chain_ring_of opened) }
     requires regions { (r : ℕ) → 1 ≤ r → r ≤ regions_of opened → AreTablesOf N.desk N.spent N.book N.region_base opened r }
     requires begun { (N.begun ≡ (D.view (disk_begun opened)).files) × (N.start ≡ (D.view (disk_now opened)).clock)
         × (N.faults ≡ D.faults (disk_now opened)) }

@@ -1,7 +1,7 @@
 use Rattle.std.proofs.Common.{length, []}
 use Rattle.region_calls.specs.Names.{name_of}
 use Rattle.region_calls.specs.Seeds.{base_at, book_at, lasts_of, table_at}
-use Rattle.region_calls.specs.Store.{bases_of, books_of, desks_of, disk_begun, disk_found, disk_now, hand_of, handlers_of, ring_of, spents_of}
+use Rattle.region_calls.specs.Store.{bases_of, books_of, desks_of, disk_begun, disk_found, disk_now, chain_ring_of, handlers_of, ring_of, spents_of}
 use Rattle.server_trials.proofs.serving.open_and_serve.Given as goal
 
 -- the server of the store that was opened, none of whose calls is a flush
@@ -25,7 +25,7 @@ ghosts-serve-N-LockNaming g a = record {
 abbrev pub ghosts-serve-N-ServiceNaming : goal.ghosts-serve-N-ServiceNaming
 ghosts-serve-N-ServiceNaming g a = record {
   ring = ring_of a.opened;
-  hand = hand_of a.opened;
+  chain_ring = chain_ring_of a.opened;
   lasts = lasts_of (bases_of a.opened);
   begun = (g.D.Disk.view (disk_begun a.opened)).files;
   start = (g.D.Disk.view (disk_now a.opened)).clock;
