@@ -2,13 +2,13 @@
 use Rattle.std.proofs.Common.{◌≡◌, ℕ, zero, suc, ◌+◌, ◌<◌, List, [], ◌∷◌, length, set, arith, refl, ap, subst}
 use Rattle.std.specs.Prelude.{Option, Some, None, slice_get}
 use Rattle.atomic_table.specs.Seated.{TableId}
-use Rattle.append_ring.specs.declared.pass.RingPass.{RingPass}
+use Rattle.append_ring.specs.declared.pass.RingKey.{RingKey}
 use Rattle.append_ring.specs.Parts.{first_there, without_first, AreOut, ArePlacesBack, EachThere, IsNew, AreNewAfter}
 
 module _ {T : Type 0} (id : TableId) (lasts : List ℕ) where
   -- what `next` gives after n calls, and what it leaves
-  pub next_new : (k n : ℕ) (places : List (Option (RingPass T))) → AreNewAfter id lasts k n places → n < length places
-      → (p : RingPass T) × (first_there places ≡ Some p) × IsNew id lasts (k + n + 1) p × AreNewAfter id lasts k (suc n) (without_first places) × (length (without_first places) ≡ length places)
+  pub next_new : (k n : ℕ) (places : List (Option (RingKey T))) → AreNewAfter id lasts k n places → n < length places
+      → (p : RingKey T) × (first_there places ≡ Some p) × IsNew id lasts (k + n + 1) p × AreNewAfter id lasts k (suc n) (without_first places) × (length (without_first places) ≡ length places)
   next_new k zero [] all low = absurd (omega arith)
   next_new k zero (None ∷ places) all low = absurd all
   next_new k zero (Some p ∷ places) all low = let e : k + 1 ≡ k + 0 + 1 = omega arith in (p, refl, subst (λ (r : ℕ). IsNew id lasts r p) e all.0, all.1, refl)
@@ -20,7 +20,7 @@ module _ {T : Type 0} (id : TableId) (lasts : List ℕ) where
   next_new k (suc n) (Some p ∷ places) all low = absurd all
 
   -- once all are handed out, `next` gives none, and each place is empty
-  pub none_left : (k n : ℕ) (places : List (Option (RingPass T))) → AreNewAfter id lasts k n places → n ≡ length places → (first_there places ≡ None) × AreOut (length places) places
+  pub none_left : (k n : ℕ) (places : List (Option (RingKey T))) → AreNewAfter id lasts k n places → n ≡ length places → (first_there places ≡ None) × AreOut (length places) places
   none_left k zero [] all e = (refl, tt)
   none_left k zero (x ∷ places) all e = absurd (omega (arith, e))
   none_left k (suc n) [] all e = absurd all

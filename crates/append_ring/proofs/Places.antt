@@ -3,17 +3,17 @@ use Rattle.std.proofs.Common.{◌≡◌, ℕ, zero, suc, ◌+◌, ◌<◌, List,
 use Rattle.std.proofs.lemmas.Option.{none-some, same_Some}
 use Rattle.std.specs.Prelude.{Option, Some, None, slice_get, is_some, IsSome, IsSomeAnd}
 use Rattle.atomic_table.specs.Seated.{TableId}
-use Rattle.append_ring.specs.declared.pass.RingPass.{RingPass}
+use Rattle.append_ring.specs.declared.pass.RingKey.{RingKey}
 use Rattle.append_ring.specs.Parts.{first_there, without_first, AreOut, EachThere, IsNew, AreNew, AreInPlace, IsCounted, IsDrained}
 
-pub are_new-snoc : {T : Type 0} (id : TableId) (lasts : List ℕ) (k : ℕ) (ps : List (Option (RingPass T))) (p : RingPass T) → AreNew id lasts k ps → IsNew id lasts (k + length ps + 1) p → AreNew id lasts k (ps ++ Some p ∷ [])
+pub are_new-snoc : {T : Type 0} (id : TableId) (lasts : List ℕ) (k : ℕ) (ps : List (Option (RingKey T))) (p : RingKey T) → AreNew id lasts k ps → IsNew id lasts (k + length ps + 1) p → AreNew id lasts k (ps ++ Some p ∷ [])
 are_new-snoc id lasts k [] p all new = (let e : k + 0 + 1 ≡ k + 1 = omega arith in subst (λ (r : ℕ). IsNew id lasts r p) e new, tt)
 are_new-snoc id lasts k (None ∷ qs) p all new = absurd all
 are_new-snoc id lasts k (Some q ∷ qs) p all new =
     let e : k + suc (length qs) + 1 ≡ k + 1 + length qs + 1 = omega arith in
     (all.0, are_new-snoc id lasts (k + 1) qs p all.1 (subst (λ (r : ℕ). IsNew id lasts r p) e new))
 
-pub new_in_place : {T : Type 0} (id : TableId) (lasts : List ℕ) (k : ℕ) (ps : List (Option (RingPass T))) → AreNew id lasts k ps → AreInPlace k ps
+pub new_in_place : {T : Type 0} (id : TableId) (lasts : List ℕ) (k : ℕ) (ps : List (Option (RingKey T))) → AreNew id lasts k ps → AreInPlace k ps
 new_in_place id lasts k [] all = tt
 new_in_place id lasts k (None ∷ ps) all = absurd all
 new_in_place id lasts k (Some p ∷ ps) all = (all.0.1, new_in_place id lasts (k + 1) ps all.1)
@@ -94,23 +94,23 @@ module _ {A : Type 0} where
   each_next is_so places i a each e here = let s : suc i ≡ i + 1 = omega arith in subst (λ (k : ℕ). EachThere is_so (take k places)) s (each_suc is_so places i a each e here)
 
 module _ {T : Type 0} where
-  pub in_place-out : (k : ℕ) (places : List (Option (RingPass T))) → AreInPlace k places → AreInPlace k (without_first places)
+  pub in_place-out : (k : ℕ) (places : List (Option (RingKey T))) → AreInPlace k places → AreInPlace k (without_first places)
   in_place-out k [] p = tt
   in_place-out k (None ∷ os) p = in_place-out (k + 1) os p
   in_place-out k (Some a ∷ os) p = p.1
 
-  pub in_place-back : (k : ℕ) (places : List (Option (RingPass T))) (i : ℕ) (a : RingPass T) → AreInPlace k places → a.region ≡ k + i + 1 → AreInPlace k (set places i (Some a))
+  pub in_place-back : (k : ℕ) (places : List (Option (RingKey T))) (i : ℕ) (a : RingKey T) → AreInPlace k places → a.region ≡ k + i + 1 → AreInPlace k (set places i (Some a))
   in_place-back k [] i a p e = tt
   in_place-back k (None ∷ os) zero a p e = (omega (arith, e), p)
   in_place-back k (None ∷ os) (suc i) a p e = in_place-back (k + 1) os i a p (omega (arith, e))
   in_place-back k (Some b ∷ os) zero a p e = (omega (arith, e), p.1)
   in_place-back k (Some b ∷ os) (suc i) a p e = (p.0, in_place-back (k + 1) os i a p.1 (omega (arith, e)))
 
-  pub in_place_at : (k : ℕ) (places : List (Option (RingPass T))) (i : ℕ) (a : RingPass T) → AreInPlace k places → slice_get places i ≡ Some (Some a) → (a.region ≡ k + i + 1) × (i < length places)
+  pub in_place_at : (k : ℕ) (places : List (Option (RingKey T))) (i : ℕ) (a : RingKey T) → AreInPlace k places → slice_get places i ≡ Some (Some a) → (a.region ≡ k + i + 1) × (i < length places)
   in_place_at k [] i a p e = absurd (none-some _ e)
   in_place_at k (None ∷ os) zero a p e = absurd (none-some a (same_Some None (Some a) e))
   in_place_at k (None ∷ os) (suc i) a p e = let r = in_place_at (k + 1) os i a p e in (omega (arith, r.0), omega (arith, r.1))
-  in_place_at k (Some b ∷ os) zero a p e = (ap (λ (q : RingPass T). q.region) (sym (same_Some b a (same_Some (Some b) (Some a) e))) ∙ (p.0 ∙ omega arith), omega arith)
+  in_place_at k (Some b ∷ os) zero a p e = (ap (λ (q : RingKey T). q.region) (sym (same_Some b a (same_Some (Some b) (Some a) e))) ∙ (p.0 ∙ omega arith), omega arith)
   in_place_at k (Some b ∷ os) (suc i) a p e = let r = in_place_at (k + 1) os i a p.1 e in (omega (arith, r.0), omega (arith, r.1))
 
 -- all are those that are left and then those that are equal
@@ -118,14 +118,14 @@ abbrev pub EqualLater : {A : Type 0} → (A → Type 0) → List (Option A) → 
 EqualLater {A} is_so all left = (done : List (Option A)) × (all ≡ left ++ done) × EachThere is_so done
 
 -- where all are drained, the counts are equal
-pub drained_counted : {T : Type 0} (place : T → ℕ) (popped : List T) (places : List (Option (RingPass T))) → EachThere (IsDrained place popped) places → EachThere (IsCounted place popped) places
+pub drained_counted : {T : Type 0} (place : T → ℕ) (popped : List T) (places : List (Option (RingKey T))) → EachThere (IsDrained place popped) places → EachThere (IsCounted place popped) places
 drained_counted place popped [] all = tt
 drained_counted place popped (None ∷ os) all = absurd all
 drained_counted place popped (Some p ∷ os) all = (all.0.0, drained_counted place popped os all.1)
 
 -- the two passes of a new ring for two regions
-pub two_new : {T : Type 0} (id : TableId) (lasts : List ℕ) (places : List (Option (RingPass T))) → length places ≡ 2 → AreNew id lasts 0 places
-    → (p q : RingPass T) × (places ≡ Some p ∷ Some q ∷ []) × IsNew id lasts 1 p × IsNew id lasts 2 q
+pub two_new : {T : Type 0} (id : TableId) (lasts : List ℕ) (places : List (Option (RingKey T))) → length places ≡ 2 → AreNew id lasts 0 places
+    → (p q : RingKey T) × (places ≡ Some p ∷ Some q ∷ []) × IsNew id lasts 1 p × IsNew id lasts 2 q
 two_new id lasts [] n all = absurd (omega (arith, n))
 two_new id lasts (x ∷ []) n all = absurd (omega (arith, n))
 two_new id lasts (None ∷ _) n all = absurd all

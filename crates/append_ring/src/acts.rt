@@ -7,14 +7,14 @@ ghost use Rattle.append_ring.specs.Parts.{last_pushed};
 
 use crate::item::OfRegion;
 use crate::law::{Pop, Push};
-use crate::pass::{ConsumerPass, RingPass};
+use crate::pass::{ConsumerPass, RingKey};
 use crate::ring::{Full, Ring};
 use std::sync::Wait;
 
 impl<T: OfRegion> Ring<T> {
     /// Pushes an item under the pass of its region. A drawn number has to be one above the last drawn one pushed under the pass.
     /// The item comes back only where the ring held its capacity at one moment of the call.
-    pub fn push<R: Wait>(&self, rt: &R, pass: &mut RingPass<T>, item: T) -> Result<(), Full<T>>
+    pub fn push<R: Wait>(&self, rt: &R, pass: &mut RingKey<T>, item: T) -> Result<(), Full<T>>
         requires ring { pass.old.pass.table_id ≡ self.now.id }
         requires region { T.place item ≡ pass.old.region }
         requires whole { T.is_whole item }

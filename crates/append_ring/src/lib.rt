@@ -7,19 +7,19 @@
 mod acts;
 mod closing;
 mod item;
+mod keys;
 mod knows;
 mod law;
 mod memory;
 mod opening;
 mod pass;
-mod passes;
 mod ring;
 
 pub use item::OfRegion;
+pub use keys::RingKeys;
 pub use knows::Knows;
 pub use law::Law;
 pub use memory::NoMemory;
 pub use opening::RingParts;
-pub use pass::{ConsumerPass, RingPass};
-pub use passes::RingPasses;
+pub use pass::{ConsumerPass, RingKey};
 pub use ring::{Full, Ring};

@@ -5,11 +5,11 @@ ghost use Rattle.append_ring.specs.Rules.{knows, new_pass};
 ghost use Rattle.append_ring.specs.Parts.{AreNew};
 
 use crate::item::OfRegion;
+use crate::keys::RingKeys;
 use crate::knows::Knows;
 use crate::law::{Base, Bases, NextRegion};
 use crate::memory::NoMemory;
-use crate::pass::{ConsumerPass, RingPass};
-use crate::passes::RingPasses;
+use crate::pass::{ConsumerPass, RingKey};
 use crate::ring::{Queue, Ring};
 use crossbeam_queue::Pass;
 use std::alloc::Global;
@@ -21,7 +21,7 @@ const CAPACITY: u32 = 1024;
 #[derive(Drop)]
 pub struct RingParts<T: OfRegion> {
     pub ring: Ring<T>,
-    pub passes: RingPasses<T>,
+    pub passes: RingKeys<T>,
     pub consumer: ConsumerPass<T>,
 }
 
@@ -43,7 +43,7 @@ fn next_pass<T: OfRegion>(
     pass: &mut Pass<T, Knows<T>>,
     lasts: &[u64],
     made: u32,
-) -> RingPass<T>
+) -> RingKey<T>
     requires pass { IsPassOf queue.now pass.old × (view pass.old ≡ knows 0 true made lasts.now [] []) }
     requires room { (made < length lasts.now) × (length lasts.now ≤ 64) }
     ensures pass { IsPassOf queue.now pass.new × (view pass.new ≡ knows 0 true (made + 1) lasts.now [] []) }
@@ -53,7 +53,7 @@ fn next_pass<T: OfRegion>(
     // The contract alone uses it.
     let _ = lasts;
     let region = queue.another::<NextRegion>(pass);
-    RingPass {
+    RingKey {
         pass: region,
         region: made + 1,
         count: 0,
@@ -97,7 +97,7 @@ impl<T: OfRegion> Ring<T> {
         }
         Ok(RingParts {
             ring: Ring { queue },
-            passes: RingPasses { places },
+            passes: RingKeys { places },
             consumer: ConsumerPass { pass, counts },
         })
     }

@@ -1,4 +1,4 @@
-//! The passes of a ring.
+//! The keys of a ring, and the consumer's pass.
 ghost use Rattle.std.specs.Prelude.{◌≡◌, ℕ, ◌+◌, ◌-◌, ◌^◌, ◌<◌, ◌≤◌, min, slice_index, true, [], length};
 ghost use Rattle.crossbeam_queue.specs.Passes.{view};
 ghost use Rattle.append_ring.specs.Rules.{of};
@@ -8,7 +8,7 @@ use crate::knows::Knows;
 use crossbeam_queue::Pass;
 
 /// The right to push items of one region.
-pub struct RingPass<T> {
+pub struct RingKey<T> {
     /// The queue's own pass, whose view has the list of what was pushed.
     pub pass: Pass<T, Knows<T>>,
     /// The region, from 1 on.
@@ -20,9 +20,9 @@ pub struct RingPass<T> {
     ghost of: { ((view pass).region ≡ region) × (0 < region) × (region ≤ length (view pass).lasts) },
 }
 
-impl<T> Drop for RingPass<T> {
+impl<T> Drop for RingKey<T> {
     fn drop(self) {
-        let RingPass {
+        let RingKey {
             pass: _,
             region: _,
             count: _,
@@ -30,11 +30,11 @@ impl<T> Drop for RingPass<T> {
     }
 }
 
-impl<T> RingPass<T> {
+impl<T> RingKey<T> {
     pub(crate) fn into_pass(self) -> Pass<T, Knows<T>>
         ensures { result ≡ self.pass }
     {
-        let RingPass {
+        let RingKey {
             pass,
             region: _,
             count: _,

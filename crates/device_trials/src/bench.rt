@@ -5,10 +5,10 @@ ghost use Rattle.std.specs.Prelude.{◌≡◌, ◌<◌, ◌≤◌, ℕ, List, []
 ghost use Rattle.log_model.specs.Entry.{Entry};
 ghost use Rattle.log_trucks.specs.Held.{Carries};
 ghost use Rattle.log_ledger.specs.Bases.{AreRegions};
-ghost use Rattle.log_ledger.specs.Books.{IsServed};
+ghost use Rattle.log_ledger.specs.Numbers.{IsServed};
 ghost use Rattle.log_ledger.specs.History.{History};
 ghost use Rattle.log_device.specs.Opened.{IsOpened};
-ghost use Rattle.log_device.specs.Whole.{IsWhole, IsBroken, disk_of, books_of};
+ghost use Rattle.log_device.specs.Whole.{IsWhole, IsBroken, disk_of, numbers_of};
 
 use disk_images::Disk;
 use log_device::{
@@ -40,10 +40,10 @@ impl<D: Disk> Bench<D> {
     }
 
     pub(crate) fn stage(&mut self, truck: Box<Truck>) -> Result<(), StageFull>
-        requires served { IsServed (books_of self.old.device) truck.value.region }
+        requires served { IsServed (numbers_of self.old.device) truck.value.region }
         requires alone { truck.value.behind ≡ [] }
         requires entry { ∥ ((e : Entry) × Carries truck.value e) ∥₁ }
-        requires above { get_or (books_of self.old.device).drawn truck.value.region 0 < truck.value.number }
+        requires above { get_or (numbers_of self.old.device).drawn truck.value.region 0 < truck.value.number }
     {
         self.device.stage(truck)
     }
@@ -62,7 +62,7 @@ impl<D: Disk> Bench<D> {
         region: u32,
         family: Option<&[u8]>,
     ) -> Result<u64, DeviceFlush>
-        requires served { IsServed (books_of self.old.device) region }
+        requires served { IsServed (numbers_of self.old.device) region }
         requires family { IfSome family (λ f. (1 ≤ length f.now) × (length f.now ≤ 127)) }
     {
         self.device.flush(alloc, region, family)

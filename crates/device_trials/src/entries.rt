@@ -3,8 +3,8 @@
 ghost use Rattle.std.specs.Prelude.{◌≡◌, ◌≤◌, ◌<◌, ◌^◌, [], IfOk, get_or};
 ghost use Rattle.log_model.specs.Entry.{Entry};
 ghost use Rattle.log_trucks.specs.Held.{Carries};
-ghost use Rattle.log_ledger.specs.Books.{IsServed};
-ghost use Rattle.log_device.specs.Whole.{books_of};
+ghost use Rattle.log_ledger.specs.Numbers.{IsServed};
+ghost use Rattle.log_device.specs.Whole.{numbers_of};
 
 use crate::bench::Bench;
 use disk_fakes::{Fail, MemDisk};
@@ -125,9 +125,9 @@ pub(crate) fn truck(
 /// The number of the region's next edit, where the device has the region.
 pub(crate) fn next_number(bench: &Bench<MemDisk>, region: u32) -> Result<u64, TestFail>
     ensures region { IfOk result (λ n. (1 ≤ region) × (region ≤ 64)) }
-    ensures served { IfOk result (λ n. IsServed (books_of bench.now.device) region) }
+    ensures served { IfOk result (λ n. IsServed (numbers_of bench.now.device) region) }
     ensures number { IfOk result (λ n. (1 ≤ n) × (n < 2 ^ 48)) }
-    ensures above { IfOk result (λ n. get_or (books_of bench.now.device).drawn region 0 < n) }
+    ensures above { IfOk result (λ n. get_or (numbers_of bench.now.device).drawn region 0 < n) }
 {
     if region == 0 || region > 64 || bench.device.ledger().next_store(region) == 0 {
         Err("no such region")?

@@ -5,19 +5,19 @@ use Rattle.mask_model.specs.Masked.{masked}
 use Rattle.region_model.specs.Journal.{Caller}
 use Rattle.region_lock.specs.declared.scan.ScanReply.{ScanReply}
 use Rattle.server_model.specs.Pass.{Naming, Pass, IsLater}
-use Rattle.log_service.specs.Places.{Place}
+use Rattle.log_service.specs.Places.{ServiceId}
 use Rattle.embedded.specs.Flushers.{MayAllFlush}
 
 -- Where a session stands.
 pub record Setting : Type 0 where
   -- which server's it is
-  pub place : Place
+  pub place : ServiceId
   -- of each put's entry, in milliseconds
   pub time : ℕ
   -- what its pass knew when it was dealt out
   pub first : Pass
 
-abbrev pub setting_of : Place → ℕ → Pass → Setting
+abbrev pub setting_of : ServiceId → ℕ → Pass → Setting
 setting_of place time first = record { place = place; time = time; first = first }
 
 -- the next call of the pass's handler

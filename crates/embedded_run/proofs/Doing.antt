@@ -1,14 +1,14 @@
 -- Handlers once they have worked.
 use Rattle.std.proofs.Common.{◌≡◌, ℕ, zero, suc, ◌+◌, List, [], ◌∷◌, map, Contains, subst, refl, arith}
 use Rattle.server_model.specs.Pass.{Pass as ThePass, Naming}
-use Rattle.log_service.specs.Places.{Place}
+use Rattle.log_service.specs.Places.{ServiceId}
 use Rattle.region_lock.specs.declared.naming.LockNaming.{Ghosts}
 use Rattle.region_calls.specs.declared.pass.Pass.{Pass}
 use Rattle.embedded_run.specs.Seats.{AllAt, AreTaken, HasWorked, HaveAllWorked, pass_in, handler_in}
 use Rattle.embedded_run.specs.Deeds.{Deed, IsDone, AreDone, lasts_in}
 use Rattle.embedded_run.specs.declared.seated.Seated.{Seated}
 
-module _ {N H : Type 0} {g : Ghosts N} (says : H → Naming → ℕ → ThePass → ThePass → H → Type 0) (name : Naming) (place : Place) (time : ℕ) where
+module _ {N H : Type 0} {g : Ghosts N} (says : H → Naming → ℕ → ThePass → ThePass → H → Type 0) (name : Naming) (place : ServiceId) (time : ℕ) where
   abbrev EachWorked : List (Seated (Pass N g) H) → List (Seated (Pass N g) H) → Type 0
   EachWorked [] [] = Unit {0}
   EachWorked [] (x ∷ xs) = ⊥

@@ -14,12 +14,12 @@ use Rattle.region_calls.specs.Seeds.{base_of, base_at, lasts_of}
 use Rattle.region_calls.specs.Store.{IsStore, bases_of, regions_of}
 use Rattle.region_calls.specs.declared.refusal.StartWhy.{StartWhy}
 use Rattle.region_calls.specs.declared.refusal.StartWhy.TheVariants as whys
-use Rattle.region_calls.specs.declared.store.Opened.{Opened}
+use Rattle.region_calls.specs.declared.store.OpenedStore.{OpenedStore}
 use Rattle.region_calls.proofs.NamedSeeds.{base_of_region}
 use Rattle.embedded_run.specs.Ends.{IfDamaged}
 
 -- the regions of a server's name are those that its store was opened with
-pub all_named : {D : Type 0} {g : Ghosts D} (o : Opened D) → IsStore g o → length (lasts_of (bases_of o)) ≡ regions_of o
+pub all_named : {D : Type 0} {g : Ghosts D} (o : OpenedStore D) → IsStore g o → length (lasts_of (bases_of o)) ≡ regions_of o
 all_named o store = length-map (bases_of o) (λ (b : Base). b.last) ∙ length-map o.seeds.items base_of ∙ store.count
 
 -- the bases that a name tells are what the files recover to

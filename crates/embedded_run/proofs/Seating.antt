@@ -1,7 +1,7 @@
 -- Handlers as they take their passes.
 use Rattle.std.proofs.Common.{◌≡◌, ℕ, zero, suc, ◌+◌, ◌≤◌, List, [], ◌∷◌, ◌++◌, length, sym, subst, arith}
 use Rattle.server_model.specs.Pass.{Naming, IsFresh}
-use Rattle.log_service.specs.Places.{Place}
+use Rattle.log_service.specs.Places.{ServiceId}
 use Rattle.region_lock.specs.declared.naming.LockNaming.{Ghosts}
 use Rattle.region_calls.specs.declared.pass.Pass.{Pass}
 use Rattle.embedded_run.specs.Seats.{IsServer, IsAt, AllAt, IsTaken, AreTaken, AreSeated, pass_in}
@@ -21,12 +21,12 @@ module _ {N H : Type 0} {g : Ghosts N} where
   taken_push n (y ∷ hs) h [] s t is = absurd t
   taken_push n (y ∷ hs) h (x ∷ ss) s t is = (t.0, taken_push (n + 1) hs h ss s t.1 (subst (λ k. IsTaken k h s) (omega arith) is))
 
-  pub at_push : (place : Place) (ss : List (Seated (Pass N g) H)) (s : Seated (Pass N g) H) → AllAt place ss → IsAt place s.pass → AllAt place (ss ++ s ∷ [])
+  pub at_push : (place : ServiceId) (ss : List (Seated (Pass N g) H)) (s : Seated (Pass N g) H) → AllAt place ss → IsAt place s.pass → AllAt place (ss ++ s ∷ [])
   at_push place [] s all is = (is, tt)
   at_push place (x ∷ ss) s all is = (all.0, at_push place ss s all.1 is)
 
   -- handlers that have their passes may begin
-  pub seated_all : (name : Naming) (place : Place) (time regions n : ℕ) (hs : List H) (ss : List (Seated (Pass N g) H)) → IsServer name time regions → AreTaken n hs ss → AllAt place ss → 1 ≤ n
+  pub seated_all : (name : Naming) (place : ServiceId) (time regions n : ℕ) (hs : List H) (ss : List (Seated (Pass N g) H)) → IsServer name time regions → AreTaken n hs ss → AllAt place ss → 1 ≤ n
       → n + length hs ≤ name.handlers + 1 → AreSeated name place time regions ss
   seated_all name place time regions n [] [] server t all low few i d lt = absurd (omega (arith, lt))
   seated_all name place time regions n [] (s ∷ ss) server t all low few i d lt = absurd t

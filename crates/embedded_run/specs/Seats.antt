@@ -1,7 +1,7 @@
 -- Handlers with their passes, before and after their work.
 use Rattle.std.specs.Prelude.{◌≡◌, ℕ, ◌+◌, ◌<◌, ◌≤◌, ◌^◌, false, List, [], ◌∷◌, Option, Some, None}
 use Rattle.server_model.specs.Pass.{Pass as ThePass, Naming, IsFresh, IsLater}
-use Rattle.log_service.specs.Places.{Place}
+use Rattle.log_service.specs.Places.{ServiceId}
 use Rattle.region_lock.specs.declared.naming.LockNaming.{Ghosts}
 use Rattle.region_calls.specs.declared.pass.Pass.{Pass}
 use Rattle.region_calls.specs.Passes.{knows, IsPassOf, nothing_known}
@@ -26,12 +26,12 @@ module _ {N : Type 0} {g : Ghosts N} where
   known_in (Some p) = knows p
 
   -- the pass is there, and is one of the server at this place
-  abbrev pub IsAt : Place → Option (Pass N g) → Type 0
+  abbrev pub IsAt : ServiceId → Option (Pass N g) → Type 0
   IsAt place None = ⊥
   IsAt place (Some p) = IsPassOf place p
 
 module _ {N H : Type 0} {g : Ghosts N} where
-  abbrev pub AllAt : Place → List (Seated (Pass N g) H) → Type 0
+  abbrev pub AllAt : ServiceId → List (Seated (Pass N g) H) → Type 0
   AllAt place [] = Unit {0}
   AllAt place (s ∷ ss) = IsAt place s.pass × AllAt place ss
 
@@ -54,20 +54,20 @@ module _ {N H : Type 0} {g : Ghosts N} where
   AreTaken n (h ∷ hs) (s ∷ ss) = IsTaken n h s × AreTaken (n + 1) hs ss
 
   -- the handler may begin
-  pub record IsSeated (name : Naming) (place : Place) (time regions : ℕ) (s : Seated (Pass N g) H) : Type 0 where
+  pub record IsSeated (name : Naming) (place : ServiceId) (time regions : ℕ) (s : Seated (Pass N g) H) : Type 0 where
     pub server : IsServer name time regions
     pub there : IsAt place s.pass
     pub fresh : IsFresh (pass_in s).handler (pass_in s)
     pub number : (1 ≤ (pass_in s).handler) × ((pass_in s).handler ≤ name.handlers)
 
   -- the handler has worked, and says so by its own words
-  pub record HasWorked (says : H → Naming → ℕ → ThePass → ThePass → H → Type 0) (name : Naming) (place : Place) (time : ℕ) (old new : Seated (Pass N g) H) : Type 0 where
+  pub record HasWorked (says : H → Naming → ℕ → ThePass → ThePass → H → Type 0) (name : Naming) (place : ServiceId) (time : ℕ) (old new : Seated (Pass N g) H) : Type 0 where
     pub there : IsAt place new.pass
     pub later : IsLater (pass_in old) (pass_in new)
     pub said : says old.handler name time (pass_in old) (pass_in new) new.handler
 
-  abbrev pub AreSeated : Naming → Place → (time regions : ℕ) → List (Seated (Pass N g) H) → Type 0
+  abbrev pub AreSeated : Naming → ServiceId → (time regions : ℕ) → List (Seated (Pass N g) H) → Type 0
   AreSeated name place time regions ss = AreReady (λ p s. IsSeated name p time regions s) place ss
 
-  abbrev pub HaveAllWorked : (H → Naming → ℕ → ThePass → ThePass → H → Type 0) → Naming → Place → ℕ → List (Seated (Pass N g) H) → List (Seated (Pass N g) H) → Type 0
+  abbrev pub HaveAllWorked : (H → Naming → ℕ → ThePass → ThePass → H → Type 0) → Naming → ServiceId → ℕ → List (Seated (Pass N g) H) → List (Seated (Pass N g) H) → Type 0
   HaveAllWorked says name place time olds news = HaveWorked (λ p old new. HasWorked says name p time old new) place olds news

@@ -1,7 +1,7 @@
 //! Passes are handed to handlers, and come back.
 
 ghost use Rattle.std.specs.Prelude.{◌≡◌, ◌≤◌, [], map, vec_len, vec_capacity};
-ghost use Rattle.log_service.specs.Places.{Place};
+ghost use Rattle.log_service.specs.Places.{ServiceId};
 ghost use Rattle.region_calls.specs.Deals.{passes_out, passes_back, ArePassesOf};
 ghost use Rattle.embedded_run.specs.Seats.{AreTaken, AllAt, pass_in, handler_in};
 
@@ -15,12 +15,12 @@ pub(crate) fn seat_all<N: region_lock::LockNaming + region_versions::VersionsNam
     seated: &mut Vec<Seated<Pass<N>, H>>,
 )
     requires none { (seated.old.items ≡ []) × (vec_len handlers ≤ vec_capacity seated.old) }
-    requires of { (place : Place) × ArePassesOf place N.handlers passes.old }
+    requires of { (place : ServiceId) × ArePassesOf place N.handlers passes.old }
     requires passes { (passes_out passes.old ≡ 0) × (vec_len handlers ≡ N.handlers) }
     ensures taken { AreTaken 1 handlers.items seated.new.items }
     ensures out { passes_out passes.new ≡ N.handlers }
     ensures back { passes_back passes.new ≡ passes_back passes.old }
-    ensures of { (place : Place) → ArePassesOf place N.handlers passes.old → ArePassesOf place N.handlers passes.new × AllAt place seated.new.items }
+    ensures of { (place : ServiceId) → ArePassesOf place N.handlers passes.old → ArePassesOf place N.handlers passes.new × AllAt place seated.new.items }
 {
     for handler in handlers {
         let Some(pass) = passes.next() else {
@@ -40,11 +40,11 @@ pub(crate) fn give_back<N: region_lock::LockNaming + region_versions::VersionsNa
     handlers: &mut Vec<H>,
 )
     requires none { (handlers.old.items ≡ []) × (vec_len seated ≤ vec_capacity handlers.old) }
-    requires of { (place : Place) × ArePassesOf place N.handlers passes.old × AllAt place seated.items }
+    requires of { (place : ServiceId) × ArePassesOf place N.handlers passes.old × AllAt place seated.items }
     requires passes { (passes_out passes.old ≡ N.handlers) × (passes_back passes.old ≡ []) × (vec_len seated ≡ N.handlers) }
     ensures back { passes_back passes.new ≡ map pass_in seated.items }
     ensures out { passes_out passes.new ≡ N.handlers }
-    ensures of { (place : Place) → ArePassesOf place N.handlers passes.old → AllAt place seated.items → ArePassesOf place N.handlers passes.new }
+    ensures of { (place : ServiceId) → ArePassesOf place N.handlers passes.old → AllAt place seated.items → ArePassesOf place N.handlers passes.new }
     ensures handlers { handlers.new.items ≡ map handler_in seated.items }
 {
     for one in seated {

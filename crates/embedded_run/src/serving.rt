@@ -16,7 +16,7 @@ use crate::outcome::{Outcome, not_started};
 use crate::seated::make_room;
 use disk_images::Disk;
 use handler_threads::ServerName;
-use region_calls::{ClosedServer, Opened, StartRefusal, Started};
+use region_calls::{ClosedServer, OpenedStore, StartRefusal, Started};
 use std::alloc::Global;
 use std::sync::Wait;
 use std::thread::Threads;
@@ -27,7 +27,7 @@ pub(crate) fn serve<
     R: Threads + Wait + Sync,
     D: Disk + Send,
     H: Handler + Drop + Send + Sync,
->(rt: &R, alloc: Global, opened: Opened<D>, time: u64, handlers: Vec<H>) -> Outcome<D, H>
+>(rt: &R, alloc: Global, opened: OpenedStore<D>, time: u64, handlers: Vec<H>) -> Outcome<D, H>
     requires time { time < 2 ^ 63 }
     requires few { handlers_of opened ≡ vec_len handlers }
     requires sound { IsTrue D.told → IsSound (D.view (disk_found opened)).files }

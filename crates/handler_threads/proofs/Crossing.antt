@@ -1,7 +1,7 @@
 -- A server may be shared by threads, and a handler's pass may go to another thread. The check's own search doesn't get through all of it at once,
 -- so each step is shown by itself.
-use Rattle.append_ring.specs.contracts.pass.RingPass as ring_pass
-use Rattle.append_ring.specs.contracts.passes.RingPasses as idle
+use Rattle.append_ring.specs.contracts.pass.RingKey as ring_pass
+use Rattle.append_ring.specs.contracts.keys.RingKeys as idle
 use Rattle.atomic_table.proofs.shared.Seat.TheSendSync as seat
 use Rattle.atomic_table.specs.contracts.shared.Seat as table_seat
 use Rattle.disk_images.specs.declared.disk.Disk.{Ghosts as DiskGhosts}

@@ -14,7 +14,7 @@ first_of [] = nobody
 first_of (v ∷ vs) = v
 
 -- which berth it is, and how many regions and seats it has
-pub record Place : Type 0 where
+pub record BerthId : Type 0 where
   pub id : TableId
   pub regions : ℕ
   pub seats : ℕ

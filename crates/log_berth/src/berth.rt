@@ -22,9 +22,9 @@ pub struct Berth<W: Ware> {
 
 impl<W: Ware> Model for Berth<W> {
     ghost use Rattle.std.specs.Prelude.{◌≡◌, ℕ, ◌+◌, ◌<◌, ◌≤◌, [], vec_capacity};
-    ghost use Rattle.log_berth.specs.Standing.{Place};
+    ghost use Rattle.log_berth.specs.Standing.{BerthId};
 
-    ghost Value = { Place };
+    ghost Value = { BerthId };
 
     ghost view = { λ b. record { id = b.table.shared.table_id; regions = b.regions; seats = b.seats } };
 

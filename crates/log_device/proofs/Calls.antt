@@ -14,14 +14,14 @@ use Rattle.recovery_laws.proofs.Lists.{none_in, flush_cases, flushed_here, flush
 use Rattle.recovery_laws.proofs.Likes.{some_alike, flushed_alike, orderly_flushed}
 use Rattle.log_file.specs.Open.{OpenLog}
 use Rattle.log_ledger.specs.History.{History}
-use Rattle.log_ledger.specs.Books.{Books}
+use Rattle.log_ledger.specs.Numbers.{Numbers}
 use Rattle.log_ledger.specs.Counted.{IsCounted}
 use Rattle.log_device.specs.Bears.{Bears}
 use Rattle.log_device.specs.Keeps.{Keeps, Shows, Between, IsInOrder, log_name}
 use Rattle.log_device.specs.Leaves.{Leaves}
 use Rattle.log_device.proofs.Leaving.{AreGiven, AreFlushedTo, leaves, recovers_none, recovers_all, recovers_behind}
 
-module _ (file : OpenLog) (v : DiskView) (h : History) (b : Books) (keeps : Keeps file v h b.next_store) (counted : IsCounted b h) (sound : IsTrueDisk v) where
+module _ (file : OpenLog) (v : DiskView) (h : History) (b : Numbers) (keeps : Keeps file v h b.next_store) (counted : IsCounted b h) (sound : IsTrueDisk v) where
   like : IsLike h.kept v.files
   like = (keeps.images v.files sound.reads).like
 

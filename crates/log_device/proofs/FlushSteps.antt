@@ -8,18 +8,18 @@ use Rattle.disk_images.specs.Crash.{Throughout}
 use Rattle.disk_images.specs.declared.disk.Disk.{Ghosts}
 use Rattle.disk_images.proofs.Moments.{joined, weaker}
 use Rattle.log_file.specs.Open.{OpenLog}
-use Rattle.log_ledger.specs.Books.{Books, IsServed, AreStoresFew}
+use Rattle.log_ledger.specs.Numbers.{Numbers, IsServed, AreStoresFew}
 use Rattle.log_ledger.specs.Counted.{HasUnflushed}
 use Rattle.log_ledger.specs.History.{History, committed_in, flushed_in, family_in}
 use Rattle.recovery_laws.specs.Kept.{lasts}
 use Rattle.log_device.specs.Bears.{Bears}
-use Rattle.log_device.specs.Calls.{Syncs, Flushes, FlushesFrom, FlushesBooks}
+use Rattle.log_device.specs.Calls.{Syncs, Flushes, FlushesFrom, FlushesNumbers}
 use Rattle.log_device.specs.Flushed.{NoneKept, HasStore}
 use Rattle.log_device.specs.Leaves.{Leaves}
 use Rattle.log_device.specs.declared.device.Device.{Device}
 use Rattle.log_device.specs.declared.error.DeviceFlush.{DeviceFlush}
 use Rattle.log_device.specs.declared.error.DeviceFlush.TheVariants as refusals
-use Rattle.log_device.specs.Whole.{IsBroken, IsAtRest, IsCommitted, Breaks, NoneFell, LeavesAt, disk_of, log_of, books_of, view_of, HasHistory}
+use Rattle.log_device.specs.Whole.{IsBroken, IsAtRest, IsCommitted, Breaks, NoneFell, LeavesAt, disk_of, log_of, numbers_of, view_of, HasHistory}
 use Rattle.log_device.proofs.Bearing.{still_names}
 use Rattle.log_device.proofs.Calls.{still_leaves, leaves_behind}
 use Rattle.log_device.proofs.Results.{then, none_of, on_any}
@@ -38,8 +38,8 @@ pub still_flushes : {D : Type 0} (g : Ghosts D) (h : History) (r : ℕ) (family 
     → ((n : ℕ) → result ≡ Err (refusals.Nothing n) → (n ≡ lasts h.kept.first h.kept.durable r) × NoneKept h.kept r family) → HasHistory g new h → FlushesFrom g [] h r family result old new
 still_flushes {D} g h r family result old new sound whole same failed nothing after =
     let v = view_of g old in
-    let ns = (books_of old).next_store in record {
-      any_moment = (0, subst (λ (d : D). Throughout (LeavesAt g old []) 0 v (g.view d)) (sym same) (still_leaves whole.file v h (books_of old) whole.keeps whole.counted sound));
+    let ns = (numbers_of old).next_store in record {
+      any_moment = (0, subst (λ (d : D). Throughout (LeavesAt g old []) 0 v (g.view d)) (sym same) (still_leaves whole.file v h (numbers_of old) whole.keeps whole.counted sound));
       names = λ file is. (
         0,
         subst (λ (d : D). Throughout (Bears h.kept.base ns file.name.number) 0 v (g.view d)) (sym same) (still_names file v h ns (kept_file old v h file is whole) file.name.number 0 (omega arith)),
@@ -53,20 +53,20 @@ still_flushes {D} g h r family result old new sound whole same failed nothing af
 
 -- behind a commit
 pub flushes_behind : {D E : Type 0} (g : Ghosts D) (h : History) (r : ℕ) (family : Option (List ℕ)) (first : Result ℕ E) (result : Result ℕ DeviceFlush) (old mid new : Device D) → IsTrueDisk (view_of g old) → IsTrueDisk (view_of g mid)
-    → HasHistory g old h → HasHistory g mid (committed_in h) → books_of mid ≡ record (books_of old) { synced = (books_of old).drawn } → ((file : OpenLog) → log_of old ≡ Some file → IsCommitted file (log_of mid))
+    → HasHistory g old h → HasHistory g mid (committed_in h) → numbers_of mid ≡ record (numbers_of old) { synced = (numbers_of old).drawn } → ((file : OpenLog) → log_of old ≡ Some file → IsCommitted file (log_of mid))
     → Syncs g h first old mid → FlushesFrom g [] (committed_in h) r family result mid new → Flushes g h r family result old new
 flushes_behind g h r family first result old mid new sound sound_mid whole now same files sync said =
     let u = view_of g old in
     let v = view_of g mid in
     let w = view_of g new in
-    let ns = (books_of old).next_store in
-    let stores : (books_of mid).next_store ≡ ns = ap (λ (b : Books). b.next_store) same in
+    let ns = (numbers_of old).next_store in
+    let stores : (numbers_of mid).next_store ≡ ns = ap (λ (b : Numbers). b.next_store) same in
     let like = (now.keeps.images v.files sound_mid.reads).like in record {
       any_moment = (
         4 + said.any_moment.0,
         joined (LeavesAt g old h.kept.staged) 4 said.any_moment.0 u v w sync.any_moment
             (weaker (LeavesAt g mid []) (LeavesAt g old h.kept.staged) said.any_moment.0 v w
-            (λ J left. leaves_behind whole.file u h (books_of old) whole.keeps whole.counted sound v like J (subst (λ (b : Books). Leaves b.stored b.closed v.files [] J) same left)) said.any_moment.1),
+            (λ J left. leaves_behind whole.file u h (numbers_of old) whole.keeps whole.counted sound v like J (subst (λ (b : Numbers). Leaves b.stored b.closed v.files [] J) same left)) said.any_moment.1),
       );
       names = λ file is.
           let its = files file is in
@@ -96,15 +96,15 @@ still_breaks g old new unbroken disk log none = record {
 -- ---- the numbers
 
 -- behind a commit
-pub books_behind : {D : Type 0} (r : ℕ) (family : Option (List ℕ)) (result : Result ℕ DeviceFlush) (old mid new : Device D) → books_of mid ≡ record (books_of old) { synced = (books_of old).drawn }
-    → ((q : ℕ) → get_or (books_of old).synced q 0 ≤ get_or (books_of mid).synced q 0) → ((limit : ℕ) → AreStoresFew limit (books_of old) → AreStoresFew limit (books_of mid)) → ((file : OpenLog) → log_of old ≡ Some file → IsCommitted file (log_of mid))
-    → FlushesBooks r family result mid new → FlushesBooks r family result old new
-books_behind r family result old mid new same rises few files said =
-    let now = books_of new in
-    let drawn : (books_of mid).drawn ≡ (books_of old).drawn = ap (λ (b : Books). b.drawn) same in
-    let synced : (books_of mid).synced ≡ (books_of old).drawn = ap (λ (b : Books). b.synced) same in
-    let stored : (books_of mid).stored ≡ (books_of old).stored = ap (λ (b : Books). b.stored) same in
-    let closed : (books_of mid).closed ≡ (books_of old).closed = ap (λ (b : Books). b.closed) same in record {
+pub numbers_behind : {D : Type 0} (r : ℕ) (family : Option (List ℕ)) (result : Result ℕ DeviceFlush) (old mid new : Device D) → numbers_of mid ≡ record (numbers_of old) { synced = (numbers_of old).drawn }
+    → ((q : ℕ) → get_or (numbers_of old).synced q 0 ≤ get_or (numbers_of mid).synced q 0) → ((limit : ℕ) → AreStoresFew limit (numbers_of old) → AreStoresFew limit (numbers_of mid)) → ((file : OpenLog) → log_of old ≡ Some file → IsCommitted file (log_of mid))
+    → FlushesNumbers r family result mid new → FlushesNumbers r family result old new
+numbers_behind r family result old mid new same rises few files said =
+    let now = numbers_of new in
+    let drawn : (numbers_of mid).drawn ≡ (numbers_of old).drawn = ap (λ (b : Numbers). b.drawn) same in
+    let synced : (numbers_of mid).synced ≡ (numbers_of old).drawn = ap (λ (b : Numbers). b.synced) same in
+    let stored : (numbers_of mid).stored ≡ (numbers_of old).stored = ap (λ (b : Numbers). b.stored) same in
+    let closed : (numbers_of mid).closed ≡ (numbers_of old).closed = ap (λ (b : Numbers). b.closed) same in record {
       number = then result (λ n is. is ∙ ap (λ (l : List ℕ). get_or l r 0) drawn) said.number;
       nothing_number = λ n is. said.nothing_number n is ∙ ap (λ (l : List ℕ). get_or l r 0) drawn;
       above = λ all. then result (λ n is. subst (λ (m : ℕ). m < n) (ap (λ (l : List ℕ). get_or l r 0) stored) is) (said.above all);
@@ -113,26 +113,26 @@ books_behind r family result old mid new same rises few files said =
       stored_of_one = λ f one. said.stored_of_one f one ∙ stored;
       stored_still = λ failed. said.stored_still failed ∙ stored;
       others = λ q other. said.others q other ∙ ap (λ (l : List ℕ). get_or l q 0) stored;
-      next_store = subst (λ (b : Books). OnOk result (now.next_store ≡ slice_set b.next_store r (get_or b.next_store r 0 + 1))) same said.next_store;
-      next_store_still = subst (λ (b : Books). OnErr result (now.next_store ≡ b.next_store)) same said.next_store_still;
+      next_store = subst (λ (b : Numbers). OnOk result (now.next_store ≡ slice_set b.next_store r (get_or b.next_store r 0 + 1))) same said.next_store;
+      next_store_still = subst (λ (b : Numbers). OnErr result (now.next_store ≡ b.next_store)) same said.next_store_still;
       few = λ limit was. said.few limit (few limit was);
-      served = λ q served. said.served q (subst (λ (b : Books). IsServed b q) (sym same) served);
+      served = λ q served. said.served q (subst (λ (b : Numbers). IsServed b q) (sym same) served);
       file = λ file is unbroken.
           let first = files file is in
           let last = said.file first.0 first.1 unbroken in
           (last.0, last.1, last.2 ∙ first.2, omega (arith, last.3, first.3, first.4), last.4);
       emptied = said.emptied;
       synced = λ unbroken. said.synced unbroken ∙ drawn;
-      synced_either = elim said.synced_either as (λ _. (now.synced ≡ (books_of old).synced) ⊎ (now.synced ≡ (books_of old).drawn)) [ inl still ↦ inr (still ∙ synced) | inr raised ↦ inr (raised ∙ drawn) ];
-      later = none_fell_behind (books_of old) (books_of mid) now same rises said.later;
+      synced_either = elim said.synced_either as (λ _. (now.synced ≡ (numbers_of old).synced) ⊎ (now.synced ≡ (numbers_of old).drawn)) [ inl still ↦ inr (still ∙ synced) | inr raised ↦ inr (raised ∙ drawn) ];
+      later = none_fell_behind (numbers_of old) (numbers_of mid) now same rises said.later;
       closed = said.closed ∙ closed;
       drawn = said.drawn ∙ drawn;
     }
 
 module _ {D : Type 0} (g : Ghosts D) (r : ℕ) (family : Option (List ℕ)) (old new : Device D) (rest : IsAtRest g old) (same_log : log_of new ≡ log_of old)
-    (drawn : (books_of new).drawn ≡ (books_of old).drawn) (synced : (books_of new).synced ≡ (books_of old).synced) (closed : (books_of new).closed ≡ (books_of old).closed)
-    (few : (limit : ℕ) → AreStoresFew limit (books_of old) → AreStoresFew limit (books_of new)) where
-  later : ((q : ℕ) → get_or (books_of old).stored q 0 ≤ get_or (books_of new).stored q 0) → NoneFell (books_of old) (books_of new)
+    (drawn : (numbers_of new).drawn ≡ (numbers_of old).drawn) (synced : (numbers_of new).synced ≡ (numbers_of old).synced) (closed : (numbers_of new).closed ≡ (numbers_of old).closed)
+    (few : (limit : ℕ) → AreStoresFew limit (numbers_of old) → AreStoresFew limit (numbers_of new)) where
+  later : ((q : ℕ) → get_or (numbers_of old).stored q 0 ≤ get_or (numbers_of new).stored q 0) → NoneFell (numbers_of old) (numbers_of new)
   later rises = record {
     synced = λ q. let is = ap (λ (l : List ℕ). get_or l q 0) synced in omega (arith, is);
     stored = rises;
@@ -140,9 +140,9 @@ module _ {D : Type 0} (g : Ghosts D) (r : ℕ) (family : Option (List ℕ)) (old
   }
 
   -- a store was written
-  pub flushed_books : (n : ℕ) → n ≡ get_or (books_of old).drawn r 0 → (family ≡ None → get_or (books_of old).stored r 0 < n) → IsTold r family n (books_of old) (books_of new)
-      → (books_of new).next_store ≡ slice_set (books_of old).next_store r (get_or (books_of old).next_store r 0 + 1) → ((q : ℕ) → IsServed (books_of old) q → IsServed (books_of new) q) → FlushesBooks r family (Ok n) old new
-  flushed_books n is above told stores served = record {
+  pub flush_numbers : (n : ℕ) → n ≡ get_or (numbers_of old).drawn r 0 → (family ≡ None → get_or (numbers_of old).stored r 0 < n) → IsTold r family n (numbers_of old) (numbers_of new)
+      → (numbers_of new).next_store ≡ slice_set (numbers_of old).next_store r (get_or (numbers_of old).next_store r 0 + 1) → ((q : ℕ) → IsServed (numbers_of old) q → IsServed (numbers_of new) q) → FlushesNumbers r family (Ok n) old new
+  flush_numbers n is above told stores served = record {
     number = is;
     nothing_number = λ m nothing. absurd (cc nothing);
     above = above;
@@ -169,8 +169,8 @@ module _ {D : Type 0} (g : Ghosts D) (r : ℕ) (family : Option (List ℕ)) (old
       no_refusal (inr is) = absurd (cc is)
 
   -- there was nothing to flush
-  pub kept_books : (n : ℕ) → n ≡ get_or (books_of old).drawn r 0 → IsTold r family n (books_of old) (books_of new) → (books_of new).next_store ≡ (books_of old).next_store → FlushesBooks r family (Err (refusals.Nothing n)) old new
-  kept_books n is told stores = record {
+  pub kept_numbers : (n : ℕ) → n ≡ get_or (numbers_of old).drawn r 0 → IsTold r family n (numbers_of old) (numbers_of new) → (numbers_of new).next_store ≡ (numbers_of old).next_store → FlushesNumbers r family (Err (refusals.Nothing n)) old new
+  kept_numbers n is told stores = record {
     number = tt;
     nothing_number = λ m nothing. sym (cc nothing) ∙ is;
     above = λ all. tt;
@@ -197,8 +197,8 @@ module _ {D : Type 0} (g : Ghosts D) (r : ℕ) (family : Option (List ℕ)) (old
       no_refusal (inr is) = absurd (cc is)
 
   -- it was refused before a store was written
-  pub refused_books : (why : DeviceFlush) → ((n : ℕ) → why ≡ refusals.Nothing n → ⊥) → (books_of new).stored ≡ (books_of old).stored → (books_of new).next_store ≡ (books_of old).next_store → FlushesBooks r family (Err why) old new
-  refused_books why other stored stores = record {
+  pub refused_numbers : (why : DeviceFlush) → ((n : ℕ) → why ≡ refusals.Nothing n → ⊥) → (numbers_of new).stored ≡ (numbers_of old).stored → (numbers_of new).next_store ≡ (numbers_of old).next_store → FlushesNumbers r family (Err why) old new
+  refused_numbers why other stored stores = record {
     number = tt;
     nothing_number = λ m nothing. absurd (other m (cc nothing));
     above = λ all. tt;

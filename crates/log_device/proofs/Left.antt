@@ -5,9 +5,9 @@ use Rattle.std.proofs.lemmas.Bool.{cases_lt, and_parts, eqb-true}
 use Rattle.seq_accounting.specs.Marks.{has_family}
 use Rattle.seq_accounting.specs.Accounts.{flushed_at}
 use Rattle.log_model.specs.Recovered.{IsFor}
-use Rattle.log_ledger.specs.Books.{Books, AreInOrder, HasFewStores, IsLeft}
+use Rattle.log_ledger.specs.Numbers.{Numbers, AreInOrder, HasFewStores, IsLeft}
 
-module _ (b : Books) (r : ℕ) (family : List ℕ) (order : AreInOrder b) where
+module _ (b : Numbers) (r : ℕ) (family : List ℕ) (order : AreInOrder b) where
   lower : (f : List ℕ) → IsFor family f → flushed_at b.accounts r family ≤ flushed_at b.accounts r f
   lower f (inl all) = let at : flushed_at b.accounts r family ≡ flushed_at b.accounts r [] = ap (flushed_at b.accounts r) all in omega (arith, at, (order.regions r).whole f)
   lower f (inr one) = let at : flushed_at b.accounts r family ≡ flushed_at b.accounts r f = ap (flushed_at b.accounts r) one in omega (arith, at)

@@ -3,7 +3,7 @@ use Rattle.std.proofs.Common.{◌≡◌, ◌+◌, ◌<◌, ◌≤◌, min, Some,
 use Rattle.std.specs.Prelude.{sum}
 use Rattle.log_model.specs.declared.name.Name.{Name}
 use Rattle.log_file.specs.Open.{OpenLog}
-use Rattle.log_ledger.specs.Books.{Books}
+use Rattle.log_ledger.specs.Numbers.{Numbers}
 use Rattle.log_device.specs.Keeps.{log_name}
 use Rattle.log_device.specs.Numbered.{IsNumbered}
 
@@ -11,7 +11,7 @@ pub same_file : (a b : OpenLog) → Some a ≡ Some b → a ≡ b
 same_file a b is = cc (is)
 
 -- an entry more is drawn
-pub numbered_staged : (file now : OpenLog) (b after : Books) → IsNumbered file b → now.name ≡ file.name → sum b.drawn + 1 ≤ sum after.drawn → after.accounts.last ≡ b.accounts.last → IsNumbered now after
+pub numbered_staged : (file now : OpenLog) (b after : Numbers) → IsNumbered file b → now.name ≡ file.name → sum b.drawn + 1 ≤ sum after.drawn → after.accounts.last ≡ b.accounts.last → IsNumbered now after
 numbered_staged file now b after is name more last =
     let number : now.name.number ≡ file.name.number = ap (λ (n : Name). n.number) name in record {
       kind = ap (λ (n : Name). n.kind) name ∙ is.kind;
@@ -21,7 +21,7 @@ numbered_staged file now b after is name more last =
     }
 
 -- nothing is drawn, and the file has as many entries, committed or staged
-pub numbered_still : (file now : OpenLog) (b after : Books) → IsNumbered file b → now.name ≡ file.name → now.entries + now.staged ≡ file.entries + file.staged → sum after.drawn ≡ sum b.drawn → after.accounts.last ≡ b.accounts.last → IsNumbered now after
+pub numbered_still : (file now : OpenLog) (b after : Numbers) → IsNumbered file b → now.name ≡ file.name → now.entries + now.staged ≡ file.entries + file.staged → sum after.drawn ≡ sum b.drawn → after.accounts.last ≡ b.accounts.last → IsNumbered now after
 numbered_still file now b after is name count drawn last =
     let number : now.name.number ≡ file.name.number = ap (λ (n : Name). n.number) name in
     let few : min 1 (now.entries + now.staged) ≡ min 1 (file.entries + file.staged) = ap (min 1) count in record {
@@ -32,7 +32,7 @@ numbered_still file now b after is name count drawn last =
     }
 
 -- the next file begins behind one that has an entry
-pub numbered_next : (file now : OpenLog) (b after : Books) → IsNumbered file b → 0 < file.entries → now.name ≡ log_name (file.name.number + 1) → now.entries ≡ 0 → now.staged ≡ 0 → sum after.drawn ≡ sum b.drawn → after.accounts.last ≡ file.name.number → IsNumbered now after
+pub numbered_next : (file now : OpenLog) (b after : Numbers) → IsNumbered file b → 0 < file.entries → now.name ≡ log_name (file.name.number + 1) → now.entries ≡ 0 → now.staged ≡ 0 → sum after.drawn ≡ sum b.drawn → after.accounts.last ≡ file.name.number → IsNumbered now after
 numbered_next file now b after is some name none idle drawn last =
     let number : now.name.number ≡ file.name.number + 1 = ap (λ (n : Name). n.number) name in record {
       kind = ap (λ (n : Name). n.kind) name;

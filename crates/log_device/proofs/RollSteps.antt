@@ -8,17 +8,17 @@ use Rattle.disk_images.specs.Crash.{Throughout}
 use Rattle.disk_images.specs.declared.disk.Disk.{Ghosts}
 use Rattle.disk_images.proofs.Moments.{at_once, joined, more_time, weaker}
 use Rattle.log_file.specs.Open.{OpenLog}
-use Rattle.log_ledger.specs.Books.{Books, AreStoresFew}
+use Rattle.log_ledger.specs.Numbers.{Numbers, AreStoresFew}
 use Rattle.log_ledger.specs.History.{History, committed_in, closed_in}
 use Rattle.log_device.specs.Bears.{Bears}
-use Rattle.log_device.specs.Calls.{Syncs, Rolls, RollsFrom, RollsBooks, BeginsNext}
+use Rattle.log_device.specs.Calls.{Syncs, Rolls, RollsFrom, RollsNumbers, BeginsNext}
 use Rattle.log_device.specs.Keeps.{Between, IsInOrder, log_name}
 use Rattle.log_device.specs.Leaves.{Leaves}
 use Rattle.log_device.specs.declared.device.Device.{Device}
 use Rattle.log_device.specs.declared.error.Rolled.{Rolled}
 use Rattle.log_device.specs.declared.error.RollRefusal.{RollRefusal}
 use Rattle.log_device.specs.declared.error.RollRefusal.TheVariants as refusals
-use Rattle.log_device.specs.Whole.{IsBroken, IsCommitted, LeavesAt, disk_of, log_of, books_of, view_of, files_of, HasHistory, EachImage}
+use Rattle.log_device.specs.Whole.{IsBroken, IsCommitted, LeavesAt, disk_of, log_of, numbers_of, view_of, files_of, HasHistory, EachImage}
 use Rattle.log_device.proofs.Bearing.{bears_on, still_names}
 use Rattle.log_device.proofs.Calls.{still_leaves, roll_leaves, leaves_behind, none_next}
 use Rattle.log_device.proofs.Numbering.{same_file}
@@ -30,13 +30,13 @@ use Rattle.log_device.proofs.Whole.{kept_file}
 
 -- the next file was begun, or that was tried
 pub begins_next : {D T E : Type 0} (g : Ghosts D) (h : History) (result : Result T E) (old new : Device D) (log file : OpenLog) → IsTrueDisk (view_of g old) → HasHistory g old h → log_of old ≡ Some log → log_of old ≡ Some file
-    → Throughout (Between h.kept log.name h.current h.kept (log_name (log.name.number + 1)) []) 7 (view_of g old) (view_of g new) → Throughout (Bears h.kept.base (books_of old).next_store (log.name.number + 1)) 7 (view_of g old) (view_of g new)
+    → Throughout (Between h.kept log.name h.current h.kept (log_name (log.name.number + 1)) []) 7 (view_of g old) (view_of g new) → Throughout (Bears h.kept.base (numbers_of old).next_store (log.name.number + 1)) 7 (view_of g old) (view_of g new)
     → Throughout (IsInOrder log.name (log_name (log.name.number + 1)) h.current) 7 (view_of g old) (view_of g new) → AppendsTo log.name.number (files_of g old) (files_of g new)
     → OnOk result (HasHistory g new (closed_in h log.name.number)) → BeginsNext g h file result old new
 begins_next g h result old new log file sound whole its is over names in_order appends closed =
     subst (λ (f : OpenLog). BeginsNext g h f result old new) (same_file log file (sym its ∙ is))
     (record {
-      any_moment = roll_leaves log (view_of g old) h (books_of old) (kept_file old (view_of g old) h log its whole) whole.counted sound (log.name.number + 1) 7 (view_of g new) over;
+      any_moment = roll_leaves log (view_of g old) h (numbers_of old) (kept_file old (view_of g old) h log its whole) whole.counted sound (log.name.number + 1) 7 (view_of g new) over;
       names = names;
       in_order = in_order;
       appends = appends;
@@ -48,10 +48,10 @@ pub still_rolls : {D : Type 0} (g : Ghosts D) (h : History) (result : Result Rol
     → RollsFrom g 7 [] h result old new
 still_rolls {D} g h result old new sound whole same failed history =
     let v = view_of g old in
-    let ns = (books_of old).next_store in record {
+    let ns = (numbers_of old).next_store in record {
       any_moment =
           more_time (LeavesAt g old []) 0 7 v (view_of g new) (omega arith)
-          (subst (λ (d : D). Throughout (LeavesAt g old []) 0 v (g.view d)) (sym same) (still_leaves whole.file v h (books_of old) whole.keeps whole.counted sound));
+          (subst (λ (d : D). Throughout (LeavesAt g old []) 0 v (g.view d)) (sym same) (still_leaves whole.file v h (numbers_of old) whole.keeps whole.counted sound));
       names = λ file is.
           subst (λ (d : D). Throughout (Bears h.kept.base ns (file.name.number + 1)) 7 v (g.view d)) (sym same) (still_names file v h ns (kept_file old v h file is whole) (file.name.number + 1) 7 (omega arith));
       in_order = λ file is.
@@ -65,19 +65,19 @@ still_rolls {D} g h result old new sound whole same failed history =
     }
 
 -- the next file was begun, or that was tried, behind what changed no file
-pub rolls_by : {D T E : Type 0} (g : Ghosts D) (h : History) (first : Result T E) (result : Result Rolled RollRefusal) (old mid new : Device D) (whole : HasHistory g old h) → disk_of mid ≡ disk_of old → (books_of mid).stored ≡ (books_of old).stored
-    → (books_of mid).closed ≡ (books_of old).closed → (books_of mid).next_store ≡ (books_of old).next_store → BeginsNext g h whole.file first mid new
+pub rolls_by : {D T E : Type 0} (g : Ghosts D) (h : History) (first : Result T E) (result : Result Rolled RollRefusal) (old mid new : Device D) (whole : HasHistory g old h) → disk_of mid ≡ disk_of old → (numbers_of mid).stored ≡ (numbers_of old).stored
+    → (numbers_of mid).closed ≡ (numbers_of old).closed → (numbers_of mid).next_store ≡ (numbers_of old).next_store → BeginsNext g h whole.file first mid new
     → IfOk result (λ rolled. HasHistory g new (closed_in h rolled.closed) × (rolled.entries ≡ length h.current)) → OnErr result ((IsBroken new → ⊥) → HasHistory g new h) → RollsFrom g 7 [] h result old new
 rolls_by {D} g h first result old mid new whole disk stored closed stores begins rolled refused =
     let v = view_of g mid in
     let w = view_of g new in
     let n = whole.file.name.number in record {
       any_moment =
-          subst (λ (d : D). Throughout (Leaves (books_of old).stored (books_of old).closed (g.view d).files []) 7 (g.view d) w) disk
+          subst (λ (d : D). Throughout (Leaves (numbers_of old).stored (numbers_of old).closed (g.view d).files []) 7 (g.view d) w) disk
           (subst (λ (p : List ℕ × List ℕ). Throughout (Leaves p.0 p.1 v.files []) 7 v w) (λ i. (stored i, closed i)) begins.any_moment);
       names = λ file is.
-          subst (λ (f : OpenLog). EachImage g (Bears h.kept.base (books_of old).next_store (f.name.number + 1)) 7 old new) (same_file whole.file file (sym whole.is ∙ is))
-          (subst (λ (d : D). Throughout (Bears h.kept.base (books_of old).next_store (n + 1)) 7 (g.view d) w) disk
+          subst (λ (f : OpenLog). EachImage g (Bears h.kept.base (numbers_of old).next_store (f.name.number + 1)) 7 old new) (same_file whole.file file (sym whole.is ∙ is))
+          (subst (λ (d : D). Throughout (Bears h.kept.base (numbers_of old).next_store (n + 1)) 7 (g.view d) w) disk
           (subst (λ (l : List ℕ). Throughout (Bears h.kept.base l (n + 1)) 7 v w) stores begins.names));
       in_order = λ file is.
           subst (λ (f : OpenLog). EachImage g (IsInOrder f.name (log_name (f.name.number + 1)) h.current) 7 old new) (same_file whole.file file (sym whole.is ∙ is))
@@ -91,15 +91,15 @@ rolls_by {D} g h first result old mid new whole disk stored closed stores begins
 
 module _ {D E : Type 0} (g : Ghosts D) (h : History) (first : Result ℕ E) (old mid : Device D) (sync : Syncs g h first old mid) where
   -- the names of a commit, and of what comes behind it
-  more_names : (file : OpenLog) → log_of old ≡ Some file → EachImage g (Bears h.kept.base (books_of old).next_store (file.name.number + 1)) 4 old mid
+  more_names : (file : OpenLog) → log_of old ≡ Some file → EachImage g (Bears h.kept.base (numbers_of old).next_store (file.name.number + 1)) 4 old mid
   more_names file is =
-      let ns = (books_of old).next_store in
+      let ns = (numbers_of old).next_store in
       weaker (Bears h.kept.base ns file.name.number) (Bears h.kept.base ns (file.name.number + 1)) 4 (view_of g old) (view_of g mid)
       (λ J bears. bears_on h.kept.base ns ns file.name.number (file.name.number + 1) J (omega arith) (λ r. omega arith) bears) (sync.names file is)
 
   none_begun : (entries : History) (file : OpenLog) → log_of old ≡ Some file → EachImage g (IsInOrder file.name (log_name (file.name.number + 1)) entries.current) 4 old mid
   none_begun entries file is =
-      let ns = (books_of old).next_store in
+      let ns = (numbers_of old).next_store in
       weaker (Bears h.kept.base ns file.name.number) (IsInOrder file.name (log_name (file.name.number + 1)) entries.current) 4 (view_of g old) (view_of g mid)
       (λ J bears. none_next h.kept.base ns file.name.number file.name entries.current J bears) (sync.names file is)
 
@@ -109,7 +109,7 @@ module _ {D E : Type 0} (g : Ghosts D) (h : History) (first : Result ℕ E) (old
       let u = view_of g old in
       let v = view_of g mid in record {
         any_moment = more_time (LeavesAt g old h.kept.staged) 4 11 u v (omega arith) sync.any_moment;
-        names = λ file is. more_time (Bears h.kept.base (books_of old).next_store (file.name.number + 1)) 4 11 u v (omega arith) (more_names file is);
+        names = λ file is. more_time (Bears h.kept.base (numbers_of old).next_store (file.name.number + 1)) 4 11 u v (omega arith) (more_names file is);
         in_order = λ file is. more_time (IsInOrder file.name (log_name (file.name.number + 1)) (committed_in h).current) 4 11 u v (omega arith) (none_begun (committed_in h) file is);
         rolled = none_of result (λ rolled. HasHistory g mid (closed_in (committed_in h) rolled.closed) × (rolled.entries ≡ length (committed_in h).current)) failed;
         refused = on_any {P = (IsBroken mid → ⊥) → HasHistory g mid (committed_in h)} result (λ unbroken. absurd (unbroken broken));
@@ -118,18 +118,18 @@ module _ {D E : Type 0} (g : Ghosts D) (h : History) (first : Result ℕ E) (old
 
   -- behind the commit
   pub rolls_behind : (result : Result Rolled RollRefusal) (new : Device D) → IsTrueDisk (view_of g old) → IsTrueDisk (view_of g mid) → HasHistory g old h → HasHistory g mid (committed_in h)
-      → books_of mid ≡ record (books_of old) { synced = (books_of old).drawn } → ((file : OpenLog) → log_of old ≡ Some file → IsCommitted file (log_of mid)) → RollsFrom g 7 [] (committed_in h) result mid new → Rolls g h result old new
+      → numbers_of mid ≡ record (numbers_of old) { synced = (numbers_of old).drawn } → ((file : OpenLog) → log_of old ≡ Some file → IsCommitted file (log_of mid)) → RollsFrom g 7 [] (committed_in h) result mid new → Rolls g h result old new
   rolls_behind result new sound sound_mid whole now same files said =
       let u = view_of g old in
       let v = view_of g mid in
       let w = view_of g new in
-      let ns = (books_of old).next_store in
-      let stores : (books_of mid).next_store ≡ ns = ap (λ (b : Books). b.next_store) same in
+      let ns = (numbers_of old).next_store in
+      let stores : (numbers_of mid).next_store ≡ ns = ap (λ (b : Numbers). b.next_store) same in
       let like = (now.keeps.images v.files sound_mid.reads).like in record {
         any_moment =
             joined (LeavesAt g old h.kept.staged) 4 7 u v w sync.any_moment
             (weaker (LeavesAt g mid []) (LeavesAt g old h.kept.staged) 7 v w
-            (λ J left. leaves_behind whole.file u h (books_of old) whole.keeps whole.counted sound v like J (subst (λ (b : Books). Leaves b.stored b.closed v.files [] J) same left)) said.any_moment);
+            (λ J left. leaves_behind whole.file u h (numbers_of old) whole.keeps whole.counted sound v like J (subst (λ (b : Numbers). Leaves b.stored b.closed v.files [] J) same left)) said.any_moment);
         names = λ file is.
             let its = files file is in
             joined (Bears h.kept.base ns (file.name.number + 1)) 4 7 u v w (more_names file is)
@@ -149,14 +149,14 @@ module _ {D E : Type 0} (g : Ghosts D) (h : History) (first : Result ℕ E) (old
 -- ---- the numbers
 
 -- behind the commit
-pub books_behind : {D : Type 0} (result : Result Rolled RollRefusal) (old mid new : Device D) → books_of mid ≡ record (books_of old) { synced = (books_of old).drawn } → ((q : ℕ) → get_or (books_of old).synced q 0 ≤ get_or (books_of mid).synced q 0)
-    → ((limit : ℕ) → AreStoresFew limit (books_of old) → AreStoresFew limit (books_of mid)) → ((file : OpenLog) → log_of old ≡ Some file → IsCommitted file (log_of mid)) → RollsBooks result mid new → RollsBooks result old new
-books_behind result old mid new same rises few files said =
-    let now = books_of new in
-    let drawn : (books_of mid).drawn ≡ (books_of old).drawn = ap (λ (b : Books). b.drawn) same in
-    let synced : (books_of mid).synced ≡ (books_of old).drawn = ap (λ (b : Books). b.synced) same in
-    let stored : (books_of mid).stored ≡ (books_of old).stored = ap (λ (b : Books). b.stored) same in
-    let closed : (books_of mid).closed ≡ (books_of old).closed = ap (λ (b : Books). b.closed) same in record {
+pub numbers_behind : {D : Type 0} (result : Result Rolled RollRefusal) (old mid new : Device D) → numbers_of mid ≡ record (numbers_of old) { synced = (numbers_of old).drawn } → ((q : ℕ) → get_or (numbers_of old).synced q 0 ≤ get_or (numbers_of mid).synced q 0)
+    → ((limit : ℕ) → AreStoresFew limit (numbers_of old) → AreStoresFew limit (numbers_of mid)) → ((file : OpenLog) → log_of old ≡ Some file → IsCommitted file (log_of mid)) → RollsNumbers result mid new → RollsNumbers result old new
+numbers_behind result old mid new same rises few files said =
+    let now = numbers_of new in
+    let drawn : (numbers_of mid).drawn ≡ (numbers_of old).drawn = ap (λ (b : Numbers). b.drawn) same in
+    let synced : (numbers_of mid).synced ≡ (numbers_of old).drawn = ap (λ (b : Numbers). b.synced) same in
+    let stored : (numbers_of mid).stored ≡ (numbers_of old).stored = ap (λ (b : Numbers). b.stored) same in
+    let closed : (numbers_of mid).closed ≡ (numbers_of old).closed = ap (λ (b : Numbers). b.closed) same in record {
       file = λ file is.
           let its = files file is in
           then result (λ rolled told. (told.0 ∙ ap (λ (n : Name). n.number) its.2, omega (arith, told.1, its.3, its.4), told.2)) (said.file its.0 its.1);
@@ -177,10 +177,10 @@ books_behind result old mid new same rises few files said =
       closed_still = λ memory. said.closed_still memory ∙ closed;
       closed_broken = λ broken. said.closed_broken broken ∙ closed;
       synced = λ unbroken. said.synced unbroken ∙ drawn;
-      synced_either = elim said.synced_either as (λ _. (now.synced ≡ (books_of old).synced) ⊎ (now.synced ≡ (books_of old).drawn)) [ inl still ↦ inr (still ∙ synced) | inr raised ↦ inr (raised ∙ drawn) ];
-      later = none_fell_behind (books_of old) (books_of mid) now same rises said.later;
+      synced_either = elim said.synced_either as (λ _. (now.synced ≡ (numbers_of old).synced) ⊎ (now.synced ≡ (numbers_of old).drawn)) [ inl still ↦ inr (still ∙ synced) | inr raised ↦ inr (raised ∙ drawn) ];
+      later = none_fell_behind (numbers_of old) (numbers_of mid) now same rises said.later;
       stored = said.stored ∙ stored;
       drawn = said.drawn ∙ drawn;
-      next_store = said.next_store ∙ ap (λ (b : Books). b.next_store) same;
+      next_store = said.next_store ∙ ap (λ (b : Numbers). b.next_store) same;
       few = λ limit was. said.few limit (few limit was);
     }

@@ -11,7 +11,7 @@ use Rattle.recovery_laws.specs.Kept.{IsCut, lasts}
 use Rattle.flush_snapshot.specs.Cut.{cut_store, ordered_cells}
 use Rattle.store_file.specs.Whole.{IsWholeOrNot}
 use Rattle.log_file.specs.Open.{OpenLog}
-use Rattle.log_ledger.specs.Books.{Books}
+use Rattle.log_ledger.specs.Numbers.{Numbers}
 use Rattle.log_ledger.specs.Counted.{IsCounted, PutsCut}
 use Rattle.log_ledger.specs.History.{History, flushed_in}
 use Rattle.log_device.specs.Bears.{Bears}
@@ -22,7 +22,7 @@ use Rattle.log_device.proofs.Calls.{flush_leaves}
 use Rattle.log_device.proofs.Cut.{is_cut}
 use Rattle.log_device.proofs.Stored.{store_moments, store_kept}
 
-module _ (file : OpenLog) (u w : DiskView) (h : History) (b : Books) (keeps : Keeps file u h b.next_store) (counted : IsCounted b h) (sound : IsTrueDisk u) (r : ℕ) (family : List ℕ) (cells : List NumberedCell)
+module _ (file : OpenLog) (u w : DiskView) (h : History) (b : Numbers) (keeps : Keeps file u h b.next_store) (counted : IsCounted b h) (sound : IsTrueDisk u) (r : ℕ) (family : List ℕ) (cells : List NumberedCell)
     (none : h.kept.staged ≡ []) (puts : PutsCut h.kept r family (get_or b.drawn r 0) cells) (served : 0 < get_or b.next_store r 0) (from to number : ℕ) (to_is : to ≡ get_or b.drawn r 0) (number_is : number ≡ get_or b.next_store r 0) where
   -- it is the region's last number
   pub is_last : to ≡ lasts h.kept.first h.kept.durable r

@@ -5,17 +5,17 @@ use Rattle.std.proofs.lemmas.List.{get_or-set_same, get_or-set_other, get_or_pas
 use Rattle.recovery_laws.specs.Kept.{lasts}
 use Rattle.log_ledger.specs.declared.base.RegionBase.{RegionBase}
 use Rattle.log_ledger.specs.Bases.{IsAmong, AreNumbersOf}
-use Rattle.log_ledger.specs.Books.{Books, IsServed, AreInOrder}
+use Rattle.log_ledger.specs.Numbers.{Numbers, IsServed, AreInOrder}
 use Rattle.log_ledger.specs.History.{History, family_in}
 
 -- of the region it is this number where all of it was asked for, and else all is as it was
-pub record IsTold (r : ℕ) (family : Option (List ℕ)) (n : ℕ) (old new : Books) : Type 0 where
+pub record IsTold (r : ℕ) (family : Option (List ℕ)) (n : ℕ) (old new : Numbers) : Type 0 where
   pub all : family ≡ None → get_or new.stored r 0 ≡ n
   pub one : (f : List ℕ) → family ≡ Some f → new.stored ≡ old.stored
   pub others : (q : ℕ) → (q ≡ r → ⊥) → get_or new.stored q 0 ≡ get_or old.stored q 0
   pub rises : (q : ℕ) → get_or old.stored q 0 ≤ get_or new.stored q 0
 
-pub told_all : (r n : ℕ) (old new : Books) → r < length old.stored → new.stored ≡ set old.stored r n → get_or old.stored r 0 ≤ n → IsTold r None n old new
+pub told_all : (r n : ℕ) (old new : Numbers) → r < length old.stored → new.stored ≡ set old.stored r n → get_or old.stored r 0 ≤ n → IsTold r None n old new
 told_all r n old new place stored low = record { all = λ all. here; one = λ f one. absurd (cc one); others = elsewhere; rises = risen }
   where
     here : get_or new.stored r 0 ≡ n
@@ -30,7 +30,7 @@ told_all r n old new place stored low = record { all = λ all. here; one = λ f 
       | inr other ↦ (let same = elsewhere q other in omega (arith, same))
     ]
 
-pub told_one : (r n : ℕ) (f : List ℕ) (old new : Books) → new.stored ≡ old.stored → IsTold r (Some f) n old new
+pub told_one : (r n : ℕ) (f : List ℕ) (old new : Numbers) → new.stored ≡ old.stored → IsTold r (Some f) n old new
 told_one r n f old new same = record {
   all = λ all. absurd (cc all);
   one = λ g one. same;
@@ -39,7 +39,7 @@ told_one r n f old new same = record {
 }
 
 -- a region is served on when its store's number is counted on
-pub still_served : (old new : Books) (r : ℕ) → r < length old.next_store → new.next_store ≡ set old.next_store r (get_or old.next_store r 0 + 1) → (q : ℕ) → IsServed old q → IsServed new q
+pub still_served : (old new : Numbers) (r : ℕ) → r < length old.next_store → new.next_store ≡ set old.next_store r (get_or old.next_store r 0 + 1) → (q : ℕ) → IsServed old q → IsServed new q
 still_served old new r place stores q served = elim (cases_eq q r) as (λ _. IsServed new q) [
   | inl is ↦
       let next : get_or new.next_store q 0 ≡ get_or old.next_store r 0 + 1 = (λ i. get_or (stores i) (is i) 0) ∙ get_or-set_same old.next_store r (get_or old.next_store r 0 + 1) 0 place in
@@ -50,14 +50,14 @@ still_served old new r place stores q served = elim (cases_eq q r) as (λ _. IsS
 ]
 
 -- a region that is served has a place
-pub served_place : (b : Books) (r : ℕ) → AreInOrder b → IsServed b r → r < 65
+pub served_place : (b : Numbers) (r : ℕ) → AreInOrder b → IsServed b r → r < 65
 served_place b r order served = elim (cases_lt r (length b.next_store)) as (λ _. r < 65) [
   | inl within ↦ omega (arith, within, order.wide.next_store)
   | inr past ↦ absurd (let none = get_or_past b.next_store r 0 past in omega (arith, none, served))
 ]
 
 -- at the start each region is told as it was found
-pub started_low : (regions : List RegionBase) (flushed : ℕ → ℕ) (b : Books) → ((m : RegionBase) → Contains regions m → flushed m.region ≡ m.flushed) → ((r : ℕ) → IsServed b r ↔ IsAmong regions r)
+pub started_low : (regions : List RegionBase) (flushed : ℕ → ℕ) (b : Numbers) → ((m : RegionBase) → Contains regions m → flushed m.region ≡ m.flushed) → ((r : ℕ) → IsServed b r ↔ IsAmong regions r)
     → AreNumbersOf (λ m. m.flushed) regions b.drawn → b.stored ≡ b.drawn → (r : ℕ) → get_or b.stored r 0 ≤ flushed r
 started_low regions flushed b marks served numbers stored r = elim (cases_lt 0 (get_or b.next_store r 0)) as (λ _. get_or b.stored r 0 ≤ flushed r) [
   | inl some ↦
@@ -80,7 +80,7 @@ family_given (Some b) given f is none =
     omega (arith, given.0, empty)
 
 -- what a flush that came off tells
-pub stored_told : (r n : ℕ) (family : Option (List ℕ)) (old new : Books) → r < length old.stored → (family_in family ≡ [] → new.stored ≡ set old.stored r n) → (family_in family ≢ [] → new.stored ≡ old.stored)
+pub stored_told : (r n : ℕ) (family : Option (List ℕ)) (old new : Numbers) → r < length old.stored → (family_in family ≡ [] → new.stored ≡ set old.stored r n) → (family_in family ≢ [] → new.stored ≡ old.stored)
     → ((f : List ℕ) → family ≡ Some f → f ≢ []) → (family ≡ None → get_or old.stored r 0 ≤ n) → IsTold r family n old new
 stored_told r n None old new place all one given low = told_all r n old new place (all refl) (low refl)
 stored_told r n (Some f) old new place all one given low = told_one r n f old new (one (given f refl))
@@ -95,14 +95,14 @@ some_given None none says is = absurd (cc (says, ap not is))
 some_given (Some b) none says is = (b.now, refl)
 
 -- what a flush that found nothing tells
-pub kept_told : (r n : ℕ) (family : Option (List ℕ)) (old new : Books) → family ≡ None → r < length old.stored → new.stored ≡ set old.stored r n → get_or old.stored r 0 ≤ n → IsTold r family n old new
+pub kept_told : (r n : ℕ) (family : Option (List ℕ)) (old new : Numbers) → family ≡ None → r < length old.stored → new.stored ≡ set old.stored r n → get_or old.stored r 0 ≤ n → IsTold r family n old new
 kept_told r n family old new none place stored low = subst (λ (f : Option (List ℕ)). IsTold r f n old new) (sym none) (told_all r n old new place stored low)
 
-pub same_told_of : (r n : ℕ) (family : Option (List ℕ)) (f : List ℕ) (old : Books) → family ≡ Some f → IsTold r family n old old
+pub same_told_of : (r n : ℕ) (family : Option (List ℕ)) (f : List ℕ) (old : Numbers) → family ≡ Some f → IsTold r family n old old
 same_told_of r n family f old some = subst (λ (g : Option (List ℕ)). IsTold r g n old old) (sym some) (told_one r n f old old refl)
 
 -- behind a flush what is told of a region is its last committed number, or as it was
-pub told_after : (r n : ℕ) (family : Option (List ℕ)) (old new : Books) (h : History) → IsTold r family n old new → n ≡ lasts h.kept.first h.kept.durable r → ((q : ℕ) → get_or old.stored q 0 ≤ lasts h.kept.first h.kept.durable q)
+pub told_after : (r n : ℕ) (family : Option (List ℕ)) (old new : Numbers) (h : History) → IsTold r family n old new → n ≡ lasts h.kept.first h.kept.durable r → ((q : ℕ) → get_or old.stored q 0 ≤ lasts h.kept.first h.kept.durable q)
     → (q : ℕ) → get_or new.stored q 0 ≤ lasts h.kept.first h.kept.durable q
 told_after r n None old new h told is was q = elim (cases_eq q r) as (λ _. get_or new.stored q 0 ≤ lasts h.kept.first h.kept.durable q) [
   | inl here ↦ subst (λ (k : ℕ). get_or new.stored k 0 ≤ lasts h.kept.first h.kept.durable k) (sym here) (let now = told.all refl in omega (arith, now, is))

@@ -8,7 +8,7 @@ use Rattle.disk_images.specs.Calls.{HasCause}
 use Rattle.recovery_laws.specs.Kept.{lasts}
 use Rattle.log_file.specs.Open.{OpenLog}
 use Rattle.log_ledger.specs.History.{History}
-use Rattle.log_ledger.specs.Books.{Books}
+use Rattle.log_ledger.specs.Numbers.{Numbers}
 use Rattle.log_ledger.specs.Counted.{IsCounted}
 use Rattle.log_device.specs.declared.device.Device.{Device}
 use Rattle.log_device.specs.Keeps.{Keeps, log_name}
@@ -21,8 +21,8 @@ disk_of d = d.disk
 abbrev pub log_of : {D : Type 0} → Device D → Option OpenLog
 log_of d = d.log
 
-abbrev pub books_of : {D : Type 0} → Device D → Books
-books_of d = d.ledger.value
+abbrev pub numbers_of : {D : Type 0} → Device D → Numbers
+numbers_of d = d.ledger.value
 
 abbrev pub IsBroken : {D : Type 0} → Device D → Type 0
 IsBroken d = log_of d ≡ None
@@ -31,10 +31,10 @@ IsBroken d = log_of d ≡ None
 pub record IsWhole {D : Type 0} (d : Device D) (disk : DiskView) (h : History) : Type 0 where
   pub file : OpenLog
   pub is : log_of d ≡ Some file
-  pub keeps : Keeps file disk h (books_of d).next_store
-  pub counted : IsCounted (books_of d) h
+  pub keeps : Keeps file disk h (numbers_of d).next_store
+  pub counted : IsCounted (numbers_of d) h
   -- what is told of a region is committed
-  pub told : (r : ℕ) → get_or (books_of d).stored r 0 ≤ lasts h.kept.first h.kept.durable r
+  pub told : (r : ℕ) → get_or (numbers_of d).stored r 0 ≤ lasts h.kept.first h.kept.durable r
 
 -- what its disk tells
 abbrev pub view_of : {D : Type 0} → Ghosts D → Device D → DiskView
@@ -54,7 +54,7 @@ EachImage g P calls old new = Throughout P calls (view_of g old) (view_of g new)
 
 -- what a crash may leave in a call before which the device was this one, and so many entries were staged
 abbrev pub LeavesAt : {D : Type 0} → Ghosts D → Device D → List Entry → Files → Type 0
-LeavesAt g old staged J = Leaves (books_of old).stored (books_of old).closed (view_of g old).files staged J
+LeavesAt g old staged J = Leaves (numbers_of old).stored (numbers_of old).closed (view_of g old).files staged J
 
 -- no disk call was made but those of a commit: four at most, and none where nothing was staged
 pub record OnlyCommits {D : Type 0} (g : Ghosts D) (old new : Device D) : Type 0 where
@@ -84,8 +84,8 @@ pub record IsAtRest {D : Type 0} (g : Ghosts D) (d : Device D) : Type 0 where
   pub whole : IsTrue g.told → ∥ ((h : History) × HasHistory g d h × (h.kept.staged ≡ [])) ∥₁
   pub unbroken : IsBroken d → ⊥
   pub idle : IsIdle (log_of d)
-  pub synced : (books_of d).synced ≡ (books_of d).drawn
-  pub closed : (r : ℕ) → get_or (books_of d).closed r 0 ≤ get_or (books_of d).synced r 0
+  pub synced : (numbers_of d).synced ≡ (numbers_of d).drawn
+  pub closed : (r : ℕ) → get_or (numbers_of d).closed r 0 ≤ get_or (numbers_of d).synced r 0
 
 -- one more entry of so many bytes is staged into the file
 pub record HasStaged (file : OpenLog) (len : ℕ) (log : Option OpenLog) : Type 0 where
@@ -97,7 +97,7 @@ pub record HasStaged (file : OpenLog) (len : ℕ) (log : Option OpenLog) : Type 
   pub bytes : length now.bytes ≡ length file.bytes + len + 1
 
 -- none of the numbers that are told has fallen
-pub record NoneFell (old new : Books) : Type 0 where
+pub record NoneFell (old new : Numbers) : Type 0 where
   pub synced : (r : ℕ) → get_or old.synced r 0 ≤ get_or new.synced r 0
   pub stored : (r : ℕ) → get_or old.stored r 0 ≤ get_or new.stored r 0
   pub closed : (r : ℕ) → get_or old.closed r 0 ≤ get_or new.closed r 0

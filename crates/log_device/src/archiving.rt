@@ -4,7 +4,7 @@ ghost use Rattle.std.specs.Prelude.{◌≡◌, ◌↔◌, IsTrue, IsErr};
 ghost use Rattle.chronicle_model.specs.Growth.{Prolongs};
 ghost use Rattle.log_ledger.specs.History.{History};
 ghost use Rattle.log_device.specs.Whole.{IsBroken, files_of, HasHistory, CausesFault};
-ghost use Rattle.log_device.specs.Calls.{Archives, ArchivesBooks};
+ghost use Rattle.log_device.specs.Calls.{Archives, ArchivesNumbers};
 
 use crate::device::Device;
 use crate::error::WriteFault;
@@ -20,7 +20,7 @@ impl<D: Disk> Device<D> {
         // What the disk and each crash image hold, and what the numbers and the file say, on any disk.
         ensures archives { IsTrue D.told → (h : History) → HasHistory D.Disk self.old h
             → Archives D.Disk h result self.old self.new }
-        ensures books { ArchivesBooks result self.old self.new }
+        ensures numbers { ArchivesNumbers result self.old self.new }
 
         // The logs' chronicle before the call begins the one after it, whatever it answers.
         ensures chronicle { IsTrue D.told → (h : History) → HasHistory D.Disk self.old h

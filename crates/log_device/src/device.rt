@@ -19,13 +19,13 @@ pub struct Device<D> {
 }
 
 impl<D> Device<D> {
-    ghost use Rattle.log_device.specs.Whole.{disk_of, books_of, IsBroken};
+    ghost use Rattle.log_device.specs.Whole.{disk_of, numbers_of, IsBroken};
 
     /// The number of the region's last entry whose commit answered Ok, or that up to which the region was flushed at the
     /// start. It never falls.
     pub fn synced(&self, region: u32) -> u64
         requires { region ≤ 64 }
-        ensures number { result ≡ get_or (books_of self.now).synced region 0 }
+        ensures number { result ≡ get_or (numbers_of self.now).synced region 0 }
         ensures limit { result < 2 ^ 48 }
     {
         self.ledger.synced(region)
@@ -35,8 +35,8 @@ impl<D> Device<D> {
     /// start. It never falls.
     pub fn stored(&self, region: u32) -> u64
         requires { region ≤ 64 }
-        ensures number { result ≡ get_or (books_of self.now).stored region 0 }
-        ensures synced { result ≤ get_or (books_of self.now).synced region 0 }
+        ensures number { result ≡ get_or (numbers_of self.now).stored region 0 }
+        ensures synced { result ≤ get_or (numbers_of self.now).synced region 0 }
         ensures limit { result < 2 ^ 48 }
     {
         self.ledger.stored(region)
@@ -46,8 +46,8 @@ impl<D> Device<D> {
     /// start. It never falls.
     pub fn closed(&self, region: u32) -> u64
         requires { region ≤ 64 }
-        ensures number { result ≡ get_or (books_of self.now).closed region 0 }
-        ensures synced { result ≤ get_or (books_of self.now).synced region 0 }
+        ensures number { result ≡ get_or (numbers_of self.now).closed region 0 }
+        ensures synced { result ≤ get_or (numbers_of self.now).synced region 0 }
     {
         self.ledger.closed(region)
     }
@@ -68,7 +68,7 @@ impl<D> Device<D> {
 
     /// All its numbers.
     pub fn ledger(&self) -> &Ledger
-        ensures { result.now ≡ books_of self.now }
+        ensures { result.now ≡ numbers_of self.now }
     {
         &self.ledger
     }

@@ -8,13 +8,13 @@ ghost use Rattle.chronicle_model.specs.Growth.{LogsStay, Prolongs};
 ghost use Rattle.log_file.specs.Open.{OpenLog};
 ghost use Rattle.flush_snapshot.specs.Cut.{AreOf, IsWithin};
 ghost use Rattle.log_ledger.specs.History.{History, flushed_in, family_in};
-ghost use Rattle.log_ledger.specs.Books.{IsServed, IsLeft, AreInOrder, AreStoresFew};
+ghost use Rattle.log_ledger.specs.Numbers.{IsServed, IsLeft, AreInOrder, AreStoresFew};
 ghost use Rattle.log_ledger.specs.Counted.{PutsCut, HasUnflushed};
 ghost use Rattle.log_device.specs.Bears.{Bears};
 ghost use Rattle.log_device.specs.Keeps.{Between};
 ghost use Rattle.log_device.specs.Flushed.{HasStore, NoneKept};
-ghost use Rattle.log_device.specs.Whole.{IsBroken, IsAtRest, Breaks, log_of, books_of, HasHistory, EachImage, CausesFault, OnlyCommits, disk_of, view_of, files_of};
-ghost use Rattle.log_device.specs.Calls.{Flushes, FlushesFrom, FlushesBooks};
+ghost use Rattle.log_device.specs.Whole.{IsBroken, IsAtRest, Breaks, log_of, numbers_of, HasHistory, EachImage, CausesFault, OnlyCommits, disk_of, view_of, files_of};
+ghost use Rattle.log_device.specs.Calls.{Flushes, FlushesFrom, FlushesNumbers};
 
 use crate::device::Device;
 use crate::error::DeviceFlush;
@@ -36,14 +36,14 @@ impl<D: Disk> Device<D> {
         region: u32,
         family: Option<&[u8]>,
     ) -> Result<u64, DeviceFlush>
-        requires served { IsServed (books_of self.old) region }
+        requires served { IsServed (numbers_of self.old) region }
         requires family { IfSome family (λ f. (1 ≤ length f.now) × (length f.now ≤ 127)) }
         requires whole { IsTrue D.told → (IsBroken self.old → ⊥) → ∥ ((h : History) × HasHistory D.Disk self.old h) ∥₁ }
 
         // What the disk and each crash image hold, and what the numbers and the file say, on any disk.
         ensures flushes { IsTrue D.told → (h : History) → HasHistory D.Disk self.old h
             → Flushes D.Disk h region (option_copied family.entry) result self.old self.new }
-        ensures books { FlushesBooks region (option_copied family.entry) result self.old self.new }
+        ensures numbers { FlushesNumbers region (option_copied family.entry) result self.old self.new }
 
         // The logs' chronicle before the call begins the one after it, whatever it answers.
         ensures chronicle { IsTrue D.told → (h : History) → HasHistory D.Disk self.old h
@@ -67,13 +67,13 @@ impl<D: Disk> Device<D> {
         region: u32,
         family: Option<&[u8]>,
     ) -> Result<u64, DeviceFlush>
-        requires served { IsServed (books_of self.old) region }
+        requires served { IsServed (numbers_of self.old) region }
         requires family { IfSome family (λ f. (1 ≤ length f.now) × (length f.now ≤ 127)) }
         requires rest { IsAtRest D.Disk self.old }
 
         ensures flushes { IsTrue D.told → (h : History) → HasHistory D.Disk self.old h → h.kept.staged ≡ []
             → FlushesFrom D.Disk [] h region (option_copied family.entry) result self.old self.new }
-        ensures books { FlushesBooks region (option_copied family.entry) result self.old self.new }
+        ensures numbers { FlushesNumbers region (option_copied family.entry) result self.old self.new }
         ensures logs { IsTrue D.told → LogsStay (files_of D.Disk self.old) (files_of D.Disk self.new) }
         ensures memory { IsErrOf result DeviceFlush.Memory → disk_of self.new ≡ disk_of self.old }
         ensures breaks { Breaks D.Disk (IsErrOf result DeviceFlush.WriteFault) self.old self.new }
@@ -95,15 +95,15 @@ impl<D: Disk> Device<D> {
     /// A region, or one family of it, has nothing to flush: what is told of a region that is asked for as a whole is its last
     /// number then, which it gives.
     fn found_nothing(&mut self, region: u32, family: Option<&[u8]>) -> u64
-        requires served { IsServed (books_of self.old) region }
+        requires served { IsServed (numbers_of self.old) region }
         requires rest { IsAtRest D.Disk self.old }
-        requires order { AreInOrder (books_of self.old) }
-        requires none { option_copied family ≡ None → get_or (books_of self.old).chains region [] ≡ [] }
+        requires order { AreInOrder (numbers_of self.old) }
+        requires none { option_copied family ≡ None → get_or (numbers_of self.old).chains region [] ≡ [] }
 
         ensures flushes { IsTrue D.told → (h : History) → HasHistory D.Disk self.old h → h.kept.staged ≡ []
             → NoneKept h.kept region (option_copied family.entry)
             → FlushesFrom D.Disk [] h region (option_copied family.entry) (Err (DeviceFlush.Nothing result)) self.old self.new }
-        ensures books { FlushesBooks region (option_copied family.entry) (Err (DeviceFlush.Nothing result)) self.old self.new }
+        ensures numbers { FlushesNumbers region (option_copied family.entry) (Err (DeviceFlush.Nothing result)) self.old self.new }
         ensures disk { disk_of self.new ≡ disk_of self.old }
         ensures log { log_of self.new ≡ log_of self.old }
     {
@@ -123,23 +123,23 @@ impl<D: Disk> Device<D> {
         cells: NumberedCells,
         room: FlushRoom,
     ) -> Result<u64, DeviceFlush>
-        requires served { IsServed (books_of self.old) region }
+        requires served { IsServed (numbers_of self.old) region }
         requires family { IfSome family (λ f. (1 ≤ length f.now) × (length f.now ≤ 127)) }
-        requires order { AreInOrder (books_of self.old) }
-        requires left { IsLeft (books_of self.old) region (family_in (option_copied family)) }
-        requires above { option_copied family ≡ None → get_or (books_of self.old).stored region 0 < get_or (books_of self.old).drawn region 0 }
-        requires low { flushed_at (books_of self.old).accounts region (family_in (option_copied family)) < get_or (books_of self.old).drawn region 0 }
-        requires within { IsWithin (flushed_at (books_of self.old).accounts region (family_in (option_copied family)) + 1)
-            (get_or (books_of self.old).drawn region 0) cells }
+        requires order { AreInOrder (numbers_of self.old) }
+        requires left { IsLeft (numbers_of self.old) region (family_in (option_copied family)) }
+        requires above { option_copied family ≡ None → get_or (numbers_of self.old).stored region 0 < get_or (numbers_of self.old).drawn region 0 }
+        requires low { flushed_at (numbers_of self.old).accounts region (family_in (option_copied family)) < get_or (numbers_of self.old).drawn region 0 }
+        requires within { IsWithin (flushed_at (numbers_of self.old).accounts region (family_in (option_copied family)) + 1)
+            (get_or (numbers_of self.old).drawn region 0) cells }
         requires of { AreOf (family_in (option_copied family)) cells }
         requires room { room ≡ family_in (option_copied family) }
         requires rest { IsAtRest D.Disk self.old }
 
         ensures flushes { IsTrue D.told → (h : History) → HasHistory D.Disk self.old h → h.kept.staged ≡ []
             → HasUnflushed h.kept region (option_copied family.entry)
-            → PutsCut h.kept region (family_in (option_copied family.entry)) (get_or (books_of self.old).drawn region 0) cells
+            → PutsCut h.kept region (family_in (option_copied family.entry)) (get_or (numbers_of self.old).drawn region 0) cells
             → FlushesFrom D.Disk [] h region (option_copied family.entry) result self.old self.new }
-        ensures books { FlushesBooks region (option_copied family.entry) result self.old self.new }
+        ensures numbers { FlushesNumbers region (option_copied family.entry) result self.old self.new }
         ensures logs { IsTrue D.told → LogsStay (files_of D.Disk self.old) (files_of D.Disk self.new) }
         ensures memory { IsErrOf result DeviceFlush.Memory → disk_of self.new ≡ disk_of self.old }
         ensures breaks { Breaks D.Disk (IsErrOf result DeviceFlush.WriteFault) self.old self.new }

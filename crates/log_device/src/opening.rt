@@ -8,12 +8,12 @@ ghost use Rattle.disk_images.specs.Crash.{Throughout};
 ghost use Rattle.disk_images.specs.Calls.{HasCause, Looks};
 ghost use Rattle.log_file.specs.Open.{OpenLog};
 ghost use Rattle.log_ledger.specs.Bases.{AreRegions, IsAmong, AreNumbersOf};
-ghost use Rattle.log_ledger.specs.Books.{IsServed, AreStoresFew};
+ghost use Rattle.log_ledger.specs.Numbers.{IsServed, AreStoresFew};
 ghost use Rattle.log_ledger.specs.History.{started_in};
 ghost use Rattle.log_device.specs.Bears.{Bears};
 ghost use Rattle.log_device.specs.Keeps.{Keeps, log_name};
 ghost use Rattle.log_device.specs.Opened.{IsOpened, IsLastNumber, log_number, started_disk};
-ghost use Rattle.log_device.specs.Whole.{IsBroken, IsIdle, log_of, books_of, HasHistory};
+ghost use Rattle.log_device.specs.Whole.{IsBroken, IsIdle, log_of, numbers_of, HasHistory};
 
 use crate::device::Device;
 use crate::error::{DeviceRefusal, DeviceWhy};
@@ -45,13 +45,13 @@ impl<D: Disk> Device<D> {
             → Throughout (Bears (D.view disk).files [] (last + 1)) 4 (D.view disk) (D.view (started_disk result)) }
         ensures started { IsTrue D.told → (flushed : ℕ → ℕ) → IsOpened (D.view disk) regions.now flushed → IfOk result
             (λ d. HasHistory D.Disk d (started_in (D.view disk).files flushed)) }
-        ensures served { IfOk result (λ d. (r : ℕ) → IsServed (books_of d) r ↔ IsAmong regions.now r) }
-        ensures drawn { IfOk result (λ d. AreNumbersOf (λ m. m.flushed) regions.now (books_of d).drawn) }
-        ensures next_store { IfOk result (λ d. AreNumbersOf (λ m. m.next_store) regions.now (books_of d).next_store) }
+        ensures served { IfOk result (λ d. (r : ℕ) → IsServed (numbers_of d) r ↔ IsAmong regions.now r) }
+        ensures drawn { IfOk result (λ d. AreNumbersOf (λ m. m.flushed) regions.now (numbers_of d).drawn) }
+        ensures next_store { IfOk result (λ d. AreNumbersOf (λ m. m.next_store) regions.now (numbers_of d).next_store) }
         ensures few { (limit : ℕ) → ((m : RegionBase) → Contains regions.now m → m.next_store ≤ limit + 1)
-            → IfOk result (λ d. AreStoresFew limit (books_of d)) }
-        ensures numbers { IfOk result (λ d. ((books_of d).synced ≡ (books_of d).drawn)
-            × ((books_of d).stored ≡ (books_of d).drawn) × ((books_of d).closed ≡ (books_of d).drawn)) }
+            → IfOk result (λ d. AreStoresFew limit (numbers_of d)) }
+        ensures numbers { IfOk result (λ d. ((numbers_of d).synced ≡ (numbers_of d).drawn)
+            × ((numbers_of d).stored ≡ (numbers_of d).drawn) × ((numbers_of d).closed ≡ (numbers_of d).drawn)) }
         ensures unbroken { IfOk result (λ d. IsBroken d → ⊥) }
         ensures number { IsTrue D.told → (flushed : ℕ → ℕ) (last : ℕ) → IsOpened (D.view disk) regions.now flushed
             → IsLastNumber (D.view disk).files last → IfOk result

@@ -6,8 +6,8 @@ ghost use Rattle.log_file.specs.Open.{OpenLog};
 ghost use Rattle.log_ledger.specs.History.{History, closed_in};
 ghost use Rattle.log_device.specs.Bears.{Bears};
 ghost use Rattle.log_device.specs.Keeps.{Between, IsInOrder, log_name};
-ghost use Rattle.log_device.specs.Whole.{IsBroken, IsAtRest, Breaks, IsIdle, IsBegunAfter, log_of, books_of, files_of, HasHistory, EachImage, CausesFault, OnlyCommits, disk_of};
-ghost use Rattle.log_device.specs.Calls.{Rolls, RollsFrom, RollsBooks, BeginsNext, BeginsNextBooks};
+ghost use Rattle.log_device.specs.Whole.{IsBroken, IsAtRest, Breaks, IsIdle, IsBegunAfter, log_of, numbers_of, files_of, HasHistory, EachImage, CausesFault, OnlyCommits, disk_of};
+ghost use Rattle.log_device.specs.Calls.{Rolls, RollsFrom, RollsNumbers, BeginsNext, BeginsNextNumbers};
 
 use crate::device::Device;
 use crate::error::{RollRefusal, Rolled, WriteFault};
@@ -27,7 +27,7 @@ impl<D: Disk> Device<D> {
         // What the disk and each crash image hold, and what the numbers and the file say, on any disk.
         ensures rolls { IsTrue D.told → (h : History) → HasHistory D.Disk self.old h
             → Rolls D.Disk h result self.old self.new }
-        ensures books { RollsBooks result self.old self.new }
+        ensures numbers { RollsNumbers result self.old self.new }
 
         // The logs' chronicle before the call begins the one after it, whatever it answers.
         ensures chronicle { IsTrue D.told → (h : History) → HasHistory D.Disk self.old h
@@ -50,7 +50,7 @@ impl<D: Disk> Device<D> {
 
         ensures rolls { IsTrue D.told → (h : History) → HasHistory D.Disk self.old h → h.kept.staged ≡ []
             → RollsFrom D.Disk 7 [] h result self.old self.new }
-        ensures books { RollsBooks result self.old self.new }
+        ensures numbers { RollsNumbers result self.old self.new }
         ensures appends { IsTrue D.told → (h : History) (file : OpenLog) → HasHistory D.Disk self.old h
             → log_of self.old ≡ Some file → h.kept.staged ≡ []
             → AppendsTo file.name.number (files_of D.Disk self.old) (files_of D.Disk self.new) }
@@ -86,12 +86,12 @@ impl<D: Disk> Device<D> {
     fn begin_next(&mut self, stage: Stage) -> Result<(), WriteFault>
         requires rest { IsAtRest D.Disk self.old }
         requires some { (file : OpenLog) → log_of self.old ≡ Some file → 0 < file.entries }
-        requires room { 1 ≤ (books_of self.old).accounts.room }
-        requires small { sum (books_of self.old).drawn < 2 ^ 55 }
+        requires room { 1 ≤ (numbers_of self.old).accounts.room }
+        requires small { sum (numbers_of self.old).drawn < 2 ^ 55 }
 
         ensures begins { IsTrue D.told → (h : History) (file : OpenLog) → HasHistory D.Disk self.old h → log_of self.old ≡ Some file
             → h.kept.staged ≡ [] → BeginsNext D.Disk h file result self.old self.new }
-        ensures books { BeginsNextBooks result self.old self.new }
+        ensures numbers { BeginsNextNumbers result self.old self.new }
         ensures breaks { Breaks D.Disk (IsErr result) self.old self.new }
     {
         let Some(log) = self.log.take() else {

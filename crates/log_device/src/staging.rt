@@ -6,12 +6,12 @@ ghost use Rattle.chronicle_model.specs.Growth.{AppendsTo, Prolongs};
 ghost use Rattle.log_file.specs.Open.{OpenLog};
 ghost use Rattle.log_trucks.specs.Held.{Carries};
 ghost use Rattle.log_ledger.specs.History.{History, committed_in};
-ghost use Rattle.log_ledger.specs.Books.{IsServed, AreInOrder};
+ghost use Rattle.log_ledger.specs.Numbers.{IsServed, AreInOrder};
 ghost use Rattle.recovery_laws.specs.Kept.{committed};
 ghost use Rattle.log_device.specs.Bears.{Bears};
 ghost use Rattle.log_device.specs.Keeps.{Between};
-ghost use Rattle.log_device.specs.Whole.{IsBroken, Breaks, IsCommitted, IsIdle, disk_of, log_of, books_of, files_of, HasHistory, EachImage, CausesFault};
-ghost use Rattle.log_device.specs.Calls.{Stages, StagesBooks, Syncs, SyncsBooks};
+ghost use Rattle.log_device.specs.Whole.{IsBroken, Breaks, IsCommitted, IsIdle, disk_of, log_of, numbers_of, files_of, HasHistory, EachImage, CausesFault};
+ghost use Rattle.log_device.specs.Calls.{Stages, StagesNumbers, Syncs, SyncsNumbers};
 
 use crate::device::Device;
 use crate::error::{StageFull, WriteFault};
@@ -23,15 +23,15 @@ impl<D: Disk> Device<D> {
     /// and no memory is taken. It is refused exactly where the staged bytes, these and one gate byte pass 4,194,304, and
     /// on a broken device, which has no stage; then nothing changes, and the truck comes back.
     pub fn stage(&mut self, truck: Box<Truck>) -> Result<(), StageFull>
-        requires served { IsServed (books_of self.old) truck.value.region }
+        requires served { IsServed (numbers_of self.old) truck.value.region }
         requires alone { truck.value.behind ≡ [] }
         requires entry { ∥ ((e : Entry) × Carries truck.value e) ∥₁ }
-        requires above { get_or (books_of self.old).drawn truck.value.region 0 < truck.value.number }
+        requires above { get_or (numbers_of self.old).drawn truck.value.region 0 < truck.value.number }
 
         // What the device has after it, and what its numbers and its file say, on any disk.
         ensures stages { IsTrue D.told → (h : History) → HasHistory D.Disk self.old h
             → Stages D.Disk h truck.value result self.old self.new }
-        ensures books { StagesBooks truck.value result self.old self.new }
+        ensures numbers { StagesNumbers truck.value result self.old self.new }
 
         // What stays.
         ensures same { OnErr result (self.new ≡ self.old) }
@@ -62,7 +62,7 @@ impl<D: Disk> Device<D> {
         // What the disk and each crash image hold, and what the numbers and the file say, on any disk.
         ensures syncs { IsTrue D.told → (h : History) → HasHistory D.Disk self.old h
             → Syncs D.Disk h result self.old self.new }
-        ensures books { SyncsBooks result self.old self.new }
+        ensures numbers { SyncsNumbers result self.old self.new }
 
         // The logs' chronicle before the call begins the one after it, whatever it answers.
         ensures chronicle { IsTrue D.told → (h : History) → HasHistory D.Disk self.old h
@@ -82,11 +82,11 @@ impl<D: Disk> Device<D> {
 
         ensures syncs { IsTrue D.told → (h : History) → HasHistory D.Disk self.old h
             → Syncs D.Disk h result self.old self.new }
-        ensures books { SyncsBooks result self.old self.new }
+        ensures numbers { SyncsNumbers result self.old self.new }
         ensures appends { IsTrue D.told → (h : History) (file : OpenLog) → HasHistory D.Disk self.old h
             → log_of self.old ≡ Some file
             → AppendsTo file.name.number (files_of D.Disk self.old) (files_of D.Disk self.new) }
-        ensures order { OnOk result (AreInOrder (books_of self.old)) }
+        ensures order { OnOk result (AreInOrder (numbers_of self.old)) }
         ensures breaks { Breaks D.Disk (IsErr result) self.old self.new }
     {
         let Some(log) = &mut self.log else {

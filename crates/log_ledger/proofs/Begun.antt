@@ -13,7 +13,7 @@ use Rattle.seq_accounting.specs.Order.{IsInOrder}
 use Rattle.log_trucks.specs.Held.{Held}
 use Rattle.log_ledger.specs.declared.base.RegionBase.{RegionBase}
 use Rattle.log_ledger.specs.History.{started_in}
-use Rattle.log_ledger.specs.Books.{Books, IsServed, IsChain, IsRegionInOrder, AreStoresFew, AreInOrder}
+use Rattle.log_ledger.specs.Numbers.{Numbers, IsServed, IsChain, IsRegionInOrder, AreStoresFew, AreInOrder}
 use Rattle.log_ledger.specs.Counted.{IsHighest, AreCounted, CarriesUnflushed, IsCounted}
 use Rattle.log_ledger.specs.Bases.{AreRegions, IsAmong, mark_of, AreNumbersOf}
 use Rattle.log_ledger.proofs.Sets.{same_at, spread}
@@ -22,7 +22,7 @@ use Rattle.log_ledger.proofs.Highest.{highest_none}
 use Rattle.log_ledger.proofs.Bases.{among_or_not, same_flushed, numbers_bound}
 
 -- the numbers are those that the regions begin with
-pub record BegunWith (regions : List RegionBase) (b : Books) : Type 0 where
+pub record BegunWith (regions : List RegionBase) (b : Numbers) : Type 0 where
   pub drawn : AreNumbersOf (λ (m : RegionBase). m.flushed) regions b.drawn
   pub drawn_wide : length b.drawn ≡ 65
   pub synced : b.synced ≡ b.drawn
@@ -41,13 +41,13 @@ pub record BegunWith (regions : List RegionBase) (b : Books) : Type 0 where
   pub chains : b.chains ≡ replicate 65 []
 
 -- what is flushed of each family
-pub flushed_begun : (regions : List RegionBase) (b : Books) → BegunWith regions b → (r : ℕ) (f : List ℕ) → flushed_at b.accounts r f ≡ get_or b.drawn r 0
+pub flushed_begun : (regions : List RegionBase) (b : Numbers) → BegunWith regions b → (r : ℕ) (f : List ℕ) → flushed_at b.accounts r f ≡ get_or b.drawn r 0
 flushed_begun regions b begun r f =
     let none : number_of (get_or b.accounts.flushed r []) r f ≡ 0 = ap (λ (l : List FamilyMark). number_of l r f) (same_at (replicate 65 []) b.accounts.flushed r [] begun.flushed ∙ spread 65 r []) in
     omega (arith, none, same_flushed regions b.accounts.whole b.drawn begun.whole begun.drawn r)
 
 -- no flush came off yet
-pub few_begun : (regions : List RegionBase) (b : Books) → BegunWith regions b → (limit : ℕ) → ((m : RegionBase) → Contains regions m → m.next_store ≤ limit + 1) → AreStoresFew limit b
+pub few_begun : (regions : List RegionBase) (b : Numbers) → BegunWith regions b → (limit : ℕ) → ((m : RegionBase) → Contains regions m → m.next_store ≤ limit + 1) → AreStoresFew limit b
 few_begun regions b begun limit each = ∣ record {
   notes = [];
   noted = begun.history;
@@ -60,7 +60,7 @@ few_begun regions b begun limit each = ∣ record {
   };
 } ∣₁
 
-pub order_begun : (regions : List RegionBase) (b : Books) → AreRegions regions → BegunWith regions b → AreInOrder b
+pub order_begun : (regions : List RegionBase) (b : Numbers) → AreRegions regions → BegunWith regions b → AreInOrder b
 order_begun regions b are begun = record {
   wide = record {
     drawn = begun.drawn_wide;
@@ -92,7 +92,7 @@ order_begun regions b are begun = record {
               (record { entries = ∣ record { entries = []; held = tt; live = λ e has. absurd (none_at e has) } ∣₁; numbers = λ x has. absurd (none_at x has) });
         }
 
-pub served_begun : (regions : List RegionBase) (b : Books) → AreRegions regions → BegunWith regions b → (r : ℕ) → IsServed b r ↔ IsAmong regions r
+pub served_begun : (regions : List RegionBase) (b : Numbers) → AreRegions regions → BegunWith regions b → (r : ℕ) → IsServed b r ↔ IsAmong regions r
 served_begun regions b are begun r = (forth, back)
   where
     forth : IsServed b r → IsAmong regions r
@@ -104,7 +104,7 @@ served_begun regions b are begun r = (forth, back)
     back : IsAmong regions r → IsServed b r
     back among = subst (IsServed b) among.2 (omega (arith, begun.next_store.named among.0 among.1, (are.each among.0 among.1).store_given))
 
-pub counted_begun : (regions : List RegionBase) (b : Books) → AreRegions regions → BegunWith regions b
+pub counted_begun : (regions : List RegionBase) (b : Numbers) → AreRegions regions → BegunWith regions b
     → (F : Files) (flushed : ℕ → ℕ) → ((m : RegionBase) → Contains regions m → flushed m.region ≡ m.flushed) → HasNoLogs F → ((r : ℕ) (f : List ℕ) → IsFlushed F r f (flushed r)) → IsCounted b (started_in F flushed)
 counted_begun regions b are begun F flushed told none is = record {
   synced = λ r served. same_at b.drawn b.synced r 0 begun.synced ∙ drawn r served;

@@ -21,7 +21,7 @@ use Rattle.seq_accounting.specs.Accounts.{Accounts, is_for, flushed_at}
 use Rattle.log_trucks.specs.Held.{Held, AreHeld}
 use Rattle.log_trucks.specs.Unflushed.{is_unflushed, unflushed_cells}
 use Rattle.log_ledger.specs.History.{History}
-use Rattle.log_ledger.specs.Books.{Books, IsServed, AreInOrder}
+use Rattle.log_ledger.specs.Numbers.{Numbers, IsServed, AreInOrder}
 use Rattle.log_ledger.specs.Counted.{IsCounted, PutsCut}
 use Rattle.log_ledger.proofs.Chains.{at_first, at_later}
 use Rattle.log_ledger.proofs.Filters.{in_filter}
@@ -71,7 +71,7 @@ if_ok_prop : {A E : Type 0} (r : Result A E) (P : A → Type 0) → ((x : A) →
 if_ok_prop (Ok x) P each = each x
 if_ok_prop (Err e) P each = λ a b. refl
 
-pub cells_between : {E : Type 0} (res : Result (List NumberedCell) E) (b : Books) (r : ℕ) (family : List ℕ) → AreInOrder b
+pub cells_between : {E : Type 0} (res : Result (List NumberedCell) E) (b : Numbers) (r : ℕ) (family : List ℕ) → AreInOrder b
     → ((es : List Entry) → AreHeld (get_or b.chains r []) es → IfOk res (λ cells. cells ≡ due_of_all b.accounts r family es))
     → IfOk res (AllByRecursion (IsBetween (flushed_at b.accounts r family) (get_or b.drawn r 0)))
 cells_between res b r family order told =
@@ -101,7 +101,7 @@ all_of : (family : List ℕ) (xs : List NumberedCell) → AllByRecursion (IsOf f
 all_of family [] all = tt
 all_of family (x ∷ xs) all = ((λ some. (bytes_decides x.1.family family).0 (all.0 some)), all_of family xs all.1)
 
-pub cells_of : {E : Type 0} (res : Result (List NumberedCell) E) (b : Books) (r : ℕ) (family : List ℕ) → AreInOrder b
+pub cells_of : {E : Type 0} (res : Result (List NumberedCell) E) (b : Numbers) (r : ℕ) (family : List ℕ) → AreInOrder b
     → ((es : List Entry) → AreHeld (get_or b.chains r []) es → IfOk res (λ cells. cells ≡ due_of_all b.accounts r family es))
     → IfOk res (AllByRecursion (λ (x : NumberedCell). family ≢ [] → x.1.family ≡ family))
 cells_of res b r family order told = IfOk-weaker res (AllByRecursion (IsOf family)) (AllByRecursion (λ (x : NumberedCell). family ≢ [] → x.1.family ≡ family)) (all_of family) (
@@ -114,7 +114,7 @@ cells_of res b r family order told = IfOk-weaker res (AllByRecursion (IsOf famil
         let both = and_both (is_for family c.family) (is_unflushed b.accounts r e.number c) (in_filter (λ (d : Cell). is_for family d.family && is_unflushed b.accounts r e.number d) e.batch.cells c of).1 in
         elim ((for_decides family c.family).0 both.0) as (λ _. is_same c.family family ≡ true) [ inl all ↦ absurd (some all) | inr one ↦ (bytes_decides c.family family).1 (sym one) ]
 
-pub cells_cut : {E : Type 0} (res : Result (List NumberedCell) E) (b : Books) (h : History) (r : ℕ) (family : List ℕ) → AreInOrder b → IsServed b r → IsCounted b h → h.kept.staged ≡ []
+pub cells_cut : {E : Type 0} (res : Result (List NumberedCell) E) (b : Numbers) (h : History) (r : ℕ) (family : List ℕ) → AreInOrder b → IsServed b r → IsCounted b h → h.kept.staged ≡ []
     → ((es : List Entry) → AreHeld (get_or b.chains r []) es → IfOk res (λ cells. cells ≡ due_of_all b.accounts r family es)) → IfOk res (PutsCut h.kept r family (get_or b.drawn r 0))
 cells_cut res b h r family order served counted none told =
     IfOk-weaker res (λ cells. cells ≡ due_of_all b.accounts r family (counted.chains r served).entries) (PutsCut h.kept r family (get_or b.drawn r 0)) (λ cells same v p. (forth cells same v p, back cells same v p))

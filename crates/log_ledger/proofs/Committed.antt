@@ -10,14 +10,14 @@ use Rattle.seq_accounting.specs.Marks.{FamilyMark, number_of}
 use Rattle.seq_accounting.specs.Accounts.{ClosedFile}
 use Rattle.seq_accounting.specs.Noted.{Note, HasNoted}
 use Rattle.log_ledger.specs.History.{History, committed_in, closed_in}
-use Rattle.log_ledger.specs.Books.{Books, IsServed, AreInOrder}
+use Rattle.log_ledger.specs.Numbers.{Numbers, IsServed, AreInOrder}
 use Rattle.log_ledger.specs.Counted.{IsHighest, IsCountedLog, AreCounted, CarriesUnflushed, IsUnflushedEntry, IsCounted, note_of}
 use Rattle.log_ledger.proofs.Sets.{same_at}
 use Rattle.log_ledger.proofs.Highest.{highest_none}
 use Rattle.log_ledger.proofs.Logs.{counted_logs, counted_more}
 use Rattle.log_ledger.proofs.Steps.{ClosedBy, flushed_same}
 
-pub counted_committed : (b : Books) (h : History) → AreInOrder b → IsCounted b h → IsCounted (record b { synced = b.drawn }) (committed_in h)
+pub counted_committed : (b : Numbers) (h : History) → AreInOrder b → IsCounted b h → IsCounted (record b { synced = b.drawn }) (committed_in h)
 counted_committed b h order counted = record {
   synced = λ r served. counted.drawn r served ∙ sym (lasts-append h.kept.first h.kept.durable h.kept.staged r);
   drawn = λ r served. counted.drawn r served ∙ sym (lasts-append h.kept.first h.kept.durable h.kept.staged r);
@@ -54,7 +54,7 @@ counted_committed b h order counted = record {
 pub written : (h : History) → h.kept.staged ≡ [] → h.current ++ h.kept.staged ≡ h.current
 written h none = ap (λ (l : List Entry). h.current ++ l) none ∙ append-nil h.current
 
-pub counted_closed : (old new : Books) (file : ℕ) (h : History) → AreInOrder old → ClosedBy old new file → IsCounted old h → h.kept.staged ≡ [] → IsCounted new (closed_in h file)
+pub counted_closed : (old new : Numbers) (file : ℕ) (h : History) → AreInOrder old → ClosedBy old new file → IsCounted old h → h.kept.staged ≡ [] → IsCounted new (closed_in h file)
 counted_closed old new file h order s counted none = record {
   synced = λ r served. same_at old.synced new.synced r 0 s.synced ∙ counted.synced r (was r served);
   drawn = λ r served. same_at old.drawn new.drawn r 0 s.drawn ∙ counted.drawn r (was r served);
@@ -92,7 +92,7 @@ counted_closed old new file h order s counted none = record {
       given = λ e has. counted.given e (Contains-append_left h.current h.kept.staged e has);
     }
 
-pub counted_empty : (b : Books) (h : History) → IsCounted b h → h.kept.staged ≡ [] → h.current ≡ [] → IsCounted (record b { closed = b.synced }) h
+pub counted_empty : (b : Numbers) (h : History) → IsCounted b h → h.kept.staged ≡ [] → h.current ≡ [] → IsCounted (record b { closed = b.synced }) h
 counted_empty b h counted none empty = record {
   synced = counted.synced;
   drawn = counted.drawn;
@@ -109,7 +109,7 @@ counted_empty b h counted none empty = record {
 }
 
 -- room says nothing of the history
-pub counted_room : (b : Books) (n : ℕ) (h : History) → ((notes : List Note) → HasNoted b.accounts notes → HasNoted (record b.accounts { room = n }) notes) → IsCounted b h → IsCounted (record b { accounts = record b.accounts { room = n } }) h
+pub counted_room : (b : Numbers) (n : ℕ) (h : History) → ((notes : List Note) → HasNoted b.accounts notes → HasNoted (record b.accounts { room = n }) notes) → IsCounted b h → IsCounted (record b { accounts = record b.accounts { room = n } }) h
 counted_room b n h history counted = record {
   synced = counted.synced;
   drawn = counted.drawn;

@@ -15,7 +15,7 @@ use Rattle.seq_accounting.specs.Live.{AreCounted, AreRisingTo, Takes}
 use Rattle.seq_accounting.proofs.LiveLaws.{note_is_counted, flush_is_counted, flushes_are_few}
 use Rattle.recovery_laws.proofs.Lists.{flush_cases}
 use Rattle.log_trucks.specs.Held.{Haul, Carries}
-use Rattle.log_ledger.specs.Books.{Books, IsServed, AreInOrder, IsLeft, notes_of, IsStoreFew, AreStoresFew, FewStoresAreFew}
+use Rattle.log_ledger.specs.Numbers.{Numbers, IsServed, AreInOrder, IsLeft, notes_of, IsStoreFew, AreStoresFew, FewStoresAreFew}
 use Rattle.log_ledger.specs.Counted.{note_of}
 use Rattle.log_ledger.proofs.Sets.{same_at, set_here, set_there, within}
 use Rattle.log_ledger.proofs.Filters.{to_filter}
@@ -23,7 +23,7 @@ use Rattle.log_ledger.proofs.Families.{noted_as, noted_there}
 use Rattle.log_ledger.proofs.Steps.{StagedBy, FlushedBy, flushed_same, flushed_here, flushed_there}
 
 -- the same numbers have the same count
-one_same : (limit : ℕ) (a b : Books) (notes : List Note) (r : ℕ) → ((f : List ℕ) → flushed_at b.accounts r f ≡ flushed_at a.accounts r f) → get_or b.drawn r 0 ≡ get_or a.drawn r 0
+one_same : (limit : ℕ) (a b : Numbers) (notes : List Note) (r : ℕ) → ((f : List ℕ) → flushed_at b.accounts r f ≡ flushed_at a.accounts r f) → get_or b.drawn r 0 ≡ get_or a.drawn r 0
     → get_or b.next_store r 0 ≡ get_or a.next_store r 0 → IsStoreFew limit a notes r → IsStoreFew limit b notes r
 one_same limit a b notes r flushed drawn next is = record {
   flushes = is.flushes;
@@ -33,7 +33,7 @@ one_same limit a b notes r flushed drawn next is = record {
   next_store = omega (arith, is.next_store, next);
 }
 
-pub few_same : (limit : ℕ) (a b : Books) → ((notes : List Note) → HasNoted a.accounts notes → HasNoted b.accounts notes) → ((r : ℕ) (f : List ℕ) → flushed_at b.accounts r f ≡ flushed_at a.accounts r f) → b.drawn ≡ a.drawn
+pub few_same : (limit : ℕ) (a b : Numbers) → ((notes : List Note) → HasNoted a.accounts notes → HasNoted b.accounts notes) → ((r : ℕ) (f : List ℕ) → flushed_at b.accounts r f ≡ flushed_at a.accounts r f) → b.drawn ≡ a.drawn
     → b.next_store ≡ a.next_store → AreStoresFew limit a → AreStoresFew limit b
 few_same limit a b history flushed drawn next few = ∥∥₁_map few (λ h. record {
   notes = h.notes;
@@ -55,7 +55,7 @@ small_more : (P : Note → Type 0) (xs : List Note) (x : Note) → AllByRecursio
 small_more P [] x all one = (one, tt)
 small_more P (y ∷ ys) x all one = (all.0, small_more P ys x all.1 one)
 
-pub few_staged : (limit : ℕ) (old new : Books) (t : Haul) → AreInOrder old → StagedBy old new t → IsServed old t.region → get_or old.drawn t.region 0 < t.number
+pub few_staged : (limit : ℕ) (old new : Numbers) (t : Haul) → AreInOrder old → StagedBy old new t → IsServed old t.region → get_or old.drawn t.region 0 < t.number
     → ∥ ((e : Entry) × Carries t e) ∥₁ → AreStoresFew limit old → AreStoresFew limit new
 few_staged limit old new t order s ours above entry few = ∥∥₁_map₂ entry few (λ c h. record {
   notes = h.notes ++ note_of c.0 ∷ [];
@@ -96,7 +96,7 @@ few_staged limit old new t order s ours above entry few = ∥∥₁_map₂ entry
           next_store = now.next_store;
         }
 
-pub few_flushed : (limit : ℕ) (old new : Books) (r : ℕ) (family : List ℕ) → AreInOrder old → FlushedBy old new r family → IsServed old r → IsLeft old r family
+pub few_flushed : (limit : ℕ) (old new : Numbers) (r : ℕ) (family : List ℕ) → AreInOrder old → FlushedBy old new r family → IsServed old r → IsLeft old r family
     → get_or old.drawn r 0 ≤ get_or old.synced r 0 → AreStoresFew limit old → AreStoresFew limit new
 few_flushed limit old new r family order s ours left committed few = ∥∥₁_map₂ left few (λ l h. record {
   notes = h.notes;
@@ -145,7 +145,7 @@ few_are_few limit b r few low = ∥∥₁_elim few le_prop (λ h.
     omega (arith, is.next_store, bound))
 
 -- what is left to flush has a sequence id
-pub some_drawn : (b : Books) (r : ℕ) (family : List ℕ) → AreInOrder b → IsLeft b r family → 1 ≤ get_or b.drawn r 0
+pub some_drawn : (b : Numbers) (r : ℕ) (family : List ℕ) → AreInOrder b → IsLeft b r family → 1 ≤ get_or b.drawn r 0
 some_drawn b r family order left = ∥∥₁_elim left le_prop (λ l. ∥∥₁_elim order.few le_prop (λ h.
     let least = (h.noted.oldest r l.0).some l.2 in
     let there = noted_there least.note r l.0 least.of in

@@ -12,7 +12,7 @@ use Rattle.seq_accounting.specs.Accounts.{ClosedFile, flushed_at, unflushed}
 use Rattle.log_trucks.specs.Held.{Held}
 use Rattle.log_trucks.specs.Unflushed.{has_unflushed}
 use Rattle.log_ledger.specs.History.{ClosedLog, History, flushed_in, with_logs}
-use Rattle.log_ledger.specs.Books.{Books, IsServed, AreInOrder}
+use Rattle.log_ledger.specs.Numbers.{Numbers, IsServed, AreInOrder}
 use Rattle.log_ledger.specs.Counted.{IsHighest, AreCounted, CarriesUnflushed, IsUnflushedEntry, IsCounted, LogsLeft, note_of}
 use Rattle.log_ledger.proofs.Sets.{same_at, set_here, set_there, within}
 use Rattle.log_ledger.proofs.Chains.{none_at, truck_of}
@@ -22,7 +22,7 @@ use Rattle.log_ledger.proofs.Logs.{counted_logs, counted_length, IsTested, Sieve
 use Rattle.log_ledger.proofs.Steps.{FlushedBy, ForgottenBy, flushed_same, flushed_here, flushed_there}
 
 -- an entry of the region of which a family isn't flushed has a truck, and so a sequence id above the stored one, up to the last one staged
-pub unflushed_bound : (b : Books) (h : History) (r : ℕ) → AreInOrder b → CarriesUnflushed h.kept r (get_or b.chains r [])
+pub unflushed_bound : (b : Numbers) (h : History) (r : ℕ) → AreInOrder b → CarriesUnflushed h.kept r (get_or b.chains r [])
     → (e : Entry) → Contains (h.kept.durable ++ h.kept.staged) e → e.region ≡ r → IsUnflushedEntry h.kept e → (get_or b.stored r 0 < e.number) × (e.number ≤ get_or b.drawn r 0)
 unflushed_bound b h r order carries e has region above =
     let t = truck_of (get_or b.chains r []) carries.entries carries.held e ((carries.each e).1 (has, region, above)) in
@@ -36,7 +36,7 @@ apart_filter p (e ∷ es) apart = elim (cases_Bool (p e)) as (λ _. AreApart (fi
   | inr not ↦ subst AreApart (sym (ap (λ (b : Bool). cond b (e ∷ filter p es) (filter p es)) not)) (apart_filter p es apart.1)
 ]
 
-module _ (old new : Books) (r : ℕ) (family : List ℕ) (h : History) (order : AreInOrder old) (s : FlushedBy old new r family) (served : IsServed old r) (counted : IsCounted old h) (none : h.kept.staged ≡ []) where
+module _ (old new : Numbers) (r : ℕ) (family : List ℕ) (h : History) (order : AreInOrder old) (s : FlushedBy old new r family) (served : IsServed old r) (counted : IsCounted old h) (none : h.kept.staged ≡ []) where
   place : r < 65
   place = omega (arith, within old.next_store r served, order.wide.next_store)
 
@@ -152,7 +152,7 @@ module _ (old new : Books) (r : ℕ) (family : List ℕ) (h : History) (order : 
   }
 
 -- a flush that found nothing
-pub counted_kept : (b : Books) (r : ℕ) (h : History) → AreInOrder b → IsServed b r → get_or b.chains r [] ≡ [] → IsCounted b h → IsCounted (record b { stored = set b.stored r (get_or b.synced r 0) }) h
+pub counted_kept : (b : Numbers) (r : ℕ) (h : History) → AreInOrder b → IsServed b r → get_or b.chains r [] ≡ [] → IsCounted b h → IsCounted (record b { stored = set b.stored r (get_or b.synced r 0) }) h
 counted_kept b r h order served empty counted = record {
   synced = counted.synced;
   drawn = counted.drawn;
@@ -181,7 +181,7 @@ counted_kept b r h order served empty counted = record {
         let t = truck_of (get_or b.chains r []) carries.entries carries.held e there in
         none_at t.0 (subst (λ (l : List Held). Contains l t.0) empty t.1)
 
-pub counted_forgotten : (old new : Books) (h : History) → ForgottenBy old new → ((c : ClosedFile) → Contains old.accounts.closed c → IsTested old c) → IsCounted old h
+pub counted_forgotten : (old new : Numbers) (h : History) → ForgottenBy old new → ((c : ClosedFile) → Contains old.accounts.closed c → IsTested old c) → IsCounted old h
     → (left : List ClosedLog) × LogsLeft h left × (length new.accounts.closed ≡ length left) × IsCounted new (with_logs h left)
 counted_forgotten old new h s tested counted = (
   found.left,

@@ -9,7 +9,7 @@ use Rattle.seq_accounting.specs.Accounts.{Accounts, flushed_at, oldest_at}
 use Rattle.seq_accounting.specs.Noted.{Note, is_noted_of, NoneAbove, IsLeastAbove, HasNoted}
 use Rattle.log_trucks.specs.Held.{Held, AreHeld}
 use Rattle.log_ledger.specs.History.{History, family_in}
-use Rattle.log_ledger.specs.Books.{Books, IsServed, IsLive, HasLive, AreInOrder, IsLeft}
+use Rattle.log_ledger.specs.Numbers.{Numbers, IsServed, IsLive, HasLive, AreInOrder, IsLeft}
 use Rattle.log_ledger.specs.Counted.{IsCounted, HasUnflushed, NoneUnflushed, note_of}
 use Rattle.log_ledger.proofs.Chains.{none_at, at_first, at_later, at_either, truck_of}
 use Rattle.log_ledger.proofs.Families.{note_from, note_to}
@@ -42,11 +42,11 @@ in_notes (d ∷ es) e has = elim (at_either d es e has) as (λ _. Contains (map 
   | inr later ↦ at_later (note_of d) (map note_of es) (note_of e) (in_notes es e later)
 ]
 
-abbrev pub IsAnswer : Books → ℕ → List ℕ → Option ℕ → Type 0
+abbrev pub IsAnswer : Numbers → ℕ → List ℕ → Option ℕ → Type 0
 IsAnswer b r f o = (notes : List Note) → HasNoted b.accounts notes → MatchOption o (NoneAbove notes r f (flushed_at b.accounts r f)) (λ n. IsLeastAbove notes r f (flushed_at b.accounts r f) n)
 
 -- one family, where its oldest number was asked for
-module _ (b : Books) (r : ℕ) (f : List ℕ) (o : Option ℕ) (family : Option (List ℕ)) (given : family ≡ Some f) (order : AreInOrder b) (answer : IsAnswer b r f o) where
+module _ (b : Numbers) (r : ℕ) (f : List ℕ) (o : Option ℕ) (family : Option (List ℕ)) (given : family ≡ Some f) (order : AreInOrder b) (answer : IsAnswer b r f o) where
   pub left_one : is_some o ≡ true → IsLeft b r (family_in family)
   left_one some = ∥∥₁_map order.few (λ h. let least = told_some o (NoneAbove h.notes r f (flushed_at b.accounts r f)) (λ n. IsLeastAbove h.notes r f (flushed_at b.accounts r f) n) some (answer h.notes h.noted) in
       (f, inr (ap family_in given), some_oldest b.accounts h.notes r f least.0 h.noted least.1))
@@ -84,7 +84,7 @@ first_of a r chain some is = by chain is.entries refl is.held is.live
     by (x ∷ xs) (e ∷ es) here are live = (e, live e (at_first e es))
 
 -- all families, where the region's chain was asked
-module _ (b : Books) (r : ℕ) (family : Option (List ℕ)) (given : family ≡ None) (order : AreInOrder b) where
+module _ (b : Numbers) (r : ℕ) (family : Option (List ℕ)) (given : family ≡ None) (order : AreInOrder b) where
   pub left_any : (get_or b.chains r [] ≡ [] → ⊥) → IsLeft b r (family_in family)
   left_any some = ∥∥₁_map (order.regions r).chain.entries (λ is. let e = first_of b.accounts r (get_or b.chains r []) some is in
       (e.1.some.0, inl (ap family_in given), e.1.noted e.1.some.0 e.1.some.1 e.1.some.2))

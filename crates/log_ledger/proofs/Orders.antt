@@ -11,7 +11,7 @@ use Rattle.seq_accounting.specs.Noted.{Note, HasNoted}
 use Rattle.seq_accounting.specs.Order.{IsInOrder}
 use Rattle.log_trucks.specs.Held.{Held, Haul, Carries, noted_of, AreHeld}
 use Rattle.log_trucks.specs.Unflushed.{has_unflushed}
-use Rattle.log_ledger.specs.Books.{Books, IsServed, IsLive, HasLive, IsChain, IsRegionInOrder, AreInOrder, IsLeft}
+use Rattle.log_ledger.specs.Numbers.{Numbers, IsServed, IsLive, HasLive, IsChain, IsRegionInOrder, AreInOrder, IsLeft}
 use Rattle.log_ledger.proofs.Sets.{same_at, set_here, set_there, length_of_set, within}
 use Rattle.log_ledger.proofs.Chains.{none_at, at_either, truck_of, entry_in}
 use Rattle.log_ledger.proofs.Filters.{in_filter}
@@ -20,7 +20,7 @@ use Rattle.log_ledger.proofs.Few.{few_same, few_staged, few_flushed}
 use Rattle.log_ledger.proofs.Steps.{StagedBy, ClosedBy, FlushedBy, ForgottenBy, flushed_same, oldest_same, flushed_here, flushed_there, oldest_there}
 
 -- the numbers of one region are the same
-pub record SameAt (old new : Books) (r : ℕ) : Type 0 where
+pub record SameAt (old new : Numbers) (r : ℕ) : Type 0 where
   pub drawn : get_or new.drawn r 0 ≡ get_or old.drawn r 0
   pub noted : get_or new.accounts.noted r 0 ≡ get_or old.accounts.noted r 0
   pub synced : get_or new.synced r 0 ≡ get_or old.synced r 0
@@ -41,14 +41,14 @@ live_same a b r e flushed oldest is = record {
 all_live : (a b : Accounts) (r : ℕ) (chain : List Held) → ((f : List ℕ) → flushed_at b r f ≡ flushed_at a r f) → ((f : List ℕ) → 0 < oldest_at a r f → 0 < oldest_at b r f) → HasLive a r chain → HasLive b r chain
 all_live a b r chain flushed oldest is = record { entries = is.entries; held = is.held; live = λ e has. live_same a b r e flushed oldest (is.live e has) }
 
-chain_same : (old new : Books) (r : ℕ) → SameAt old new r → IsChain old.accounts r (get_or old.stored r 0) (get_or old.drawn r 0) (get_or old.chains r [])
+chain_same : (old new : Numbers) (r : ℕ) → SameAt old new r → IsChain old.accounts r (get_or old.stored r 0) (get_or old.drawn r 0) (get_or old.chains r [])
     → IsChain new.accounts r (get_or new.stored r 0) (get_or new.drawn r 0) (get_or new.chains r [])
 chain_same old new r s is = record {
   entries = subst (λ (l : List Held). ∥ HasLive new.accounts r l ∥₁) (sym s.chain) (∥∥₁_map is.entries (all_live old.accounts new.accounts r (get_or old.chains r []) s.flushed s.oldest));
   numbers = λ h has. let was = is.numbers h (subst (λ (l : List Held). Contains l h) s.chain has) in (omega (arith, was.0, s.stored), omega (arith, was.1, s.drawn));
 }
 
-pub region_same : (old new : Books) (r : ℕ) → SameAt old new r → IsRegionInOrder old r → IsRegionInOrder new r
+pub region_same : (old new : Numbers) (r : ℕ) → SameAt old new r → IsRegionInOrder old r → IsRegionInOrder new r
 region_same old new r s is = record {
   drawn = omega (arith, is.drawn, s.drawn);
   noted = s.noted ∙ is.noted ∙ sym s.drawn;
@@ -72,7 +72,7 @@ first_some : (o n : ℕ) → 0 < n → 0 < first_given o n
 first_some o n some = grind (arith, some)
 
 -- a truck in front of a chain
-chain_more : (old new : Books) (t : Haul) → StagedBy old new t → IsRegionInOrder old t.region → get_or old.drawn t.region 0 < t.number → ∥ ((e : Entry) × Carries t e) ∥₁
+chain_more : (old new : Numbers) (t : Haul) → StagedBy old new t → IsRegionInOrder old t.region → get_or old.drawn t.region 0 < t.number → ∥ ((e : Entry) × Carries t e) ∥₁
     → IsChain new.accounts t.region (get_or old.stored t.region 0) t.number (noted_of t ∷ get_or old.chains t.region [])
 chain_more old new t s was above entry = record {
   entries = ∥∥₁_map₂ entry was.chain.entries (λ c is. record {
@@ -103,7 +103,7 @@ chain_more old new t s was above entry = record {
           (first_some (oldest_at old.accounts t.region g) t.number (omega (arith, above)));
     }
 
-pub order_staged : (old new : Books) (t : Haul) → AreInOrder old → StagedBy old new t → IsServed old t.region → get_or old.drawn t.region 0 < t.number → ∥ ((e : Entry) × Carries t e) ∥₁ → AreInOrder new
+pub order_staged : (old new : Numbers) (t : Haul) → AreInOrder old → StagedBy old new t → IsServed old t.region → get_or old.drawn t.region 0 < t.number → ∥ ((e : Entry) × Carries t e) ∥₁ → AreInOrder new
 order_staged old new t order s ours above entry = record {
   wide = record {
     drawn = length_of_set old.drawn new.drawn t.region t.number s.drawn ∙ order.wide.drawn;
@@ -167,7 +167,7 @@ order_staged old new t order s ours above entry = record {
         }
 
 -- the current file closed
-pub order_closed : (old new : Books) (file : ℕ) → AreInOrder old → ClosedBy old new file → AreInOrder new
+pub order_closed : (old new : Numbers) (file : ℕ) → AreInOrder old → ClosedBy old new file → AreInOrder new
 order_closed old new file order s = record {
   wide = record {
     drawn = ap length s.drawn ∙ order.wide.drawn;
@@ -207,7 +207,7 @@ order_closed old new file order s = record {
         }
 
 -- a family of a region flushed, or all
-module _ (old new : Books) (r : ℕ) (family : List ℕ) (order : AreInOrder old) (s : FlushedBy old new r family) (ours : IsServed old r) where
+module _ (old new : Numbers) (r : ℕ) (family : List ℕ) (order : AreInOrder old) (s : FlushedBy old new r family) (ours : IsServed old r) where
   private_place : r < 65
   private_place = omega (arith, within old.next_store r ours, order.wide.next_store)
 
@@ -353,7 +353,7 @@ module _ (old new : Books) (r : ℕ) (family : List ℕ) (order : AreInOrder old
   }
 
 -- closed files forgotten
-pub order_forgotten : (old new : Books) → AreInOrder old → ForgottenBy old new → AreInOrder new
+pub order_forgotten : (old new : Numbers) → AreInOrder old → ForgottenBy old new → AreInOrder new
 order_forgotten old new order s = record {
   wide = record {
     drawn = ap length s.drawn ∙ order.wide.drawn;
@@ -379,7 +379,7 @@ order_forgotten old new order s = record {
 }
 
 -- all that is staged committed
-pub order_committed : (b : Books) → AreInOrder b → AreInOrder (record b { synced = b.drawn })
+pub order_committed : (b : Numbers) → AreInOrder b → AreInOrder (record b { synced = b.drawn })
 order_committed b order = record {
   wide = record { drawn = order.wide.drawn; synced = order.wide.drawn; stored = order.wide.stored; closed = order.wide.closed; next_store = order.wide.next_store; chains = order.wide.chains };
   accounts = order.accounts;
@@ -398,7 +398,7 @@ order_committed b order = record {
 }
 
 -- an empty file closed
-pub order_empty : (b : Books) → AreInOrder b → AreInOrder (record b { closed = b.synced })
+pub order_empty : (b : Numbers) → AreInOrder b → AreInOrder (record b { closed = b.synced })
 order_empty b order = record {
   wide = record { drawn = order.wide.drawn; synced = order.wide.synced; stored = order.wide.stored; closed = order.wide.synced; next_store = order.wide.next_store; chains = order.wide.chains };
   accounts = order.accounts;
@@ -417,7 +417,7 @@ order_empty b order = record {
 }
 
 -- a flush that found nothing
-pub order_kept : (b : Books) (r : ℕ) → AreInOrder b → IsServed b r → get_or b.chains r [] ≡ [] → AreInOrder (record b { stored = set b.stored r (get_or b.synced r 0) })
+pub order_kept : (b : Numbers) (r : ℕ) → AreInOrder b → IsServed b r → get_or b.chains r [] ≡ [] → AreInOrder (record b { stored = set b.stored r (get_or b.synced r 0) })
 order_kept b r order ours none = record {
   wide = record { drawn = order.wide.drawn; synced = order.wide.synced; stored = length_of_set b.stored (set b.stored r (get_or b.synced r 0)) r (get_or b.synced r 0) refl ∙ order.wide.stored; closed = order.wide.closed; next_store = order.wide.next_store; chains = order.wide.chains };
   accounts = order.accounts;
@@ -455,7 +455,7 @@ order_kept b r order ours none = record {
     }
 
 -- more room
-pub order_room : (b : Books) (n : ℕ) → AreInOrder b → IsInOrder (record b.accounts { room = n }) → ((notes : List Note) → HasNoted b.accounts notes → HasNoted (record b.accounts { room = n }) notes)
+pub order_room : (b : Numbers) (n : ℕ) → AreInOrder b → IsInOrder (record b.accounts { room = n }) → ((notes : List Note) → HasNoted b.accounts notes → HasNoted (record b.accounts { room = n }) notes)
     → AreInOrder (record b { accounts = record b.accounts { room = n } })
 order_room b n order accounts history = record {
   wide = record { drawn = order.wide.drawn; synced = order.wide.synced; stored = order.wide.stored; closed = order.wide.closed; next_store = order.wide.next_store; chains = order.wide.chains };

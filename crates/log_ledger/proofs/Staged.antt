@@ -14,7 +14,7 @@ use Rattle.seq_accounting.specs.Accounts.{ClosedFile}
 use Rattle.seq_accounting.specs.Noted.{HasNoted}
 use Rattle.log_trucks.specs.Held.{Held, Haul, Carries, noted_of, IsHeld}
 use Rattle.log_ledger.specs.History.{History, staged_in}
-use Rattle.log_ledger.specs.Books.{Books, IsServed, AreInOrder}
+use Rattle.log_ledger.specs.Numbers.{Numbers, IsServed, AreInOrder}
 use Rattle.log_ledger.specs.Counted.{IsHighest, AreCounted, CarriesUnflushed, IsUnflushedEntry, IsCounted, note_of}
 use Rattle.log_ledger.proofs.Sets.{same_at, set_here, set_there, within}
 use Rattle.log_ledger.proofs.Chains.{truck_of}
@@ -73,7 +73,7 @@ carries_on k e r chain carries other = record { entries = carries.entries; held 
       | inr new ↦ absurd (other (ap (λ (y : Entry). y.region) new ∙ is.1))
     ]
 
-pub counted_staged : (old new : Books) (t : Haul) (h : History) (e : Entry) → AreInOrder old → StagedBy old new t → IsServed old t.region → get_or old.drawn t.region 0 < t.number
+pub counted_staged : (old new : Numbers) (t : Haul) (h : History) (e : Entry) → AreInOrder old → StagedBy old new t → IsServed old t.region → get_or old.drawn t.region 0 < t.number
     → IsCounted old h → Carries t e → IsCounted new (staged_in h e)
 counted_staged old new t h e order s ours above counted carries_it = let is = carries_it.entry in let bytes = carries_it.bytes in let region = carries_it.region in let number = carries_it.number in record {
   synced = λ r served. same_at old.synced new.synced r 0 s.synced ∙ counted.synced r (was r served);

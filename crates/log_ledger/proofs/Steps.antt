@@ -9,11 +9,11 @@ use Rattle.seq_accounting.specs.Noted.{Note, HasNoted, AreNotedAs}
 use Rattle.seq_accounting.specs.Order.{IsInOrder}
 use Rattle.log_trucks.specs.Held.{Haul, AreHeld, IsSetTo, noted_of}
 use Rattle.log_trucks.specs.Unflushed.{has_unflushed}
-use Rattle.log_ledger.specs.Books.{Books}
+use Rattle.log_ledger.specs.Numbers.{Numbers}
 use Rattle.log_ledger.proofs.Families.{pick_here, pick_there}
 
 -- a truck was staged
-pub record StagedBy (old new : Books) (t : Haul) : Type 0 where
+pub record StagedBy (old new : Numbers) (t : Haul) : Type 0 where
   pub drawn : new.drawn ≡ set old.drawn t.region t.number
   pub synced : new.synced ≡ old.synced
   pub stored : new.stored ≡ old.stored
@@ -31,7 +31,7 @@ pub record Keeps (a b : Accounts) : Type 0 where
   pub order : IsInOrder b
 
 -- the current file was closed
-pub record ClosedBy (old new : Books) (file : ℕ) : Type 0 where
+pub record ClosedBy (old new : Numbers) (file : ℕ) : Type 0 where
   pub drawn : new.drawn ≡ old.drawn
   pub synced : new.synced ≡ old.synced
   pub stored : new.stored ≡ old.stored
@@ -44,7 +44,7 @@ pub record ClosedBy (old new : Books) (file : ℕ) : Type 0 where
   pub chains : new.chains ≡ old.chains
 
 -- a family of a region was flushed, or all of them where it is empty
-pub record FlushedBy (old new : Books) (r : ℕ) (family : List ℕ) : Type 0 where
+pub record FlushedBy (old new : Numbers) (r : ℕ) (family : List ℕ) : Type 0 where
   pub drawn : new.drawn ≡ old.drawn
   pub synced : new.synced ≡ old.synced
   pub stored_all : family ≡ [] → new.stored ≡ set old.stored r (get_or old.drawn r 0)
@@ -57,7 +57,7 @@ pub record FlushedBy (old new : Books) (r : ℕ) (family : List ℕ) : Type 0 wh
   pub chains : IsSetTo old.chains new.chains r (λ held. (es : List Entry) → AreHeld (get_or old.chains r []) es → AreHeld held (filter (has_unflushed new.accounts r) es))
 
 -- the closed files that are wholly flushed were forgotten
-pub record ForgottenBy (old new : Books) : Type 0 where
+pub record ForgottenBy (old new : Numbers) : Type 0 where
   pub drawn : new.drawn ≡ old.drawn
   pub synced : new.synced ≡ old.synced
   pub stored : new.stored ≡ old.stored

@@ -11,7 +11,7 @@ use Rattle.seq_accounting.specs.Accounts.{ClosedFile, flushed_at}
 use Rattle.seq_accounting.specs.Noted.{Note, HasNoted}
 use Rattle.log_trucks.specs.Held.{Held, AreHeld}
 use Rattle.log_ledger.specs.History.{History, ClosedLog, family_in}
-use Rattle.log_ledger.specs.Books.{Books, IsServed}
+use Rattle.log_ledger.specs.Numbers.{Numbers, IsServed}
 
 -- the greatest sequence id that the region has in these entries, of those with a cell of this family, or 0
 abbrev pub IsHighest : ℕ → List ℕ → List Entry → ℕ → Type 0
@@ -22,14 +22,14 @@ abbrev pub note_of : Entry → Note
 note_of e = record { region = e.region; number = e.number; families = map (λ c. c.family) e.batch.cells }
 
 -- what is noted of a closed file is what stands in it
-pub record IsCountedLog (b : Books) (c : ClosedFile) (l : ClosedLog) : Type 0 where
+pub record IsCountedLog (b : Numbers) (c : ClosedFile) (l : ClosedLog) : Type 0 where
   pub number : c.file ≡ l.number
   pub highest : (r : ℕ) (f : List ℕ) → IsHighest r f l.entries (number_of c.highest r f)
   pub ours : (e : Entry) → Contains l.entries e → IsServed b e.region
   pub given : (e : Entry) → Contains l.entries e → (f : List ℕ) × HasFamily e f
 
 -- the same of each closed file, in order
-abbrev pub AreCounted : Books → List ClosedFile → List ClosedLog → Type 0
+abbrev pub AreCounted : Numbers → List ClosedFile → List ClosedLog → Type 0
 AreCounted b [] [] = Unit {0}
 AreCounted b [] (l ∷ ls) = ⊥
 AreCounted b (c ∷ cs) [] = ⊥
@@ -47,7 +47,7 @@ pub record CarriesUnflushed (k : Kept) (r : ℕ) (chain : List Held) : Type 0 wh
   pub each : (e : Entry) → Contains entries e ↔ (Contains (k.durable ++ k.staged) e × (e.region ≡ r) × IsUnflushedEntry k e)
 
 -- the numbers are those of this history
-pub record IsCounted (b : Books) (h : History) : Type 0 where
+pub record IsCounted (b : Numbers) (h : History) : Type 0 where
   pub synced : (r : ℕ) → IsServed b r → get_or b.synced r 0 ≡ lasts h.kept.first h.kept.durable r
   pub drawn : (r : ℕ) → IsServed b r → get_or b.drawn r 0 ≡ lasts (lasts h.kept.first h.kept.durable) h.kept.staged r
   pub flushed : (r : ℕ) (f : List ℕ) → IsServed b r → flushed_at b.accounts r f ≡ h.kept.flushed r f

@@ -1,4 +1,4 @@
 pub mod History
-pub mod Books
+pub mod Numbers
 pub mod Counted
 pub mod Bases

@@ -4,7 +4,7 @@ ghost use Rattle.std.specs.Prelude.{◌≡◌, length, map, IfOk};
 ghost use Rattle.log_ledger.specs.Bases.{AreRegions, AreNumbersOf, mark_of};
 
 use kv_cell::NoMemory;
-use seq_accounting::{REGIONS, RegionMark};
+use seq_accounting::{PLACES, RegionMark};
 use std::alloc::Global;
 
 /// A region that a device serves, with the numbers that it begins with.
@@ -33,12 +33,12 @@ pub(crate) fn marks_of(alloc: Global, regions: &[RegionBase]) -> Result<Vec<Regi
 }
 
 /// What is flushed of each region.
-pub(crate) fn flushed_of(regions: &[RegionBase]) -> [u64; REGIONS]
+pub(crate) fn flushed_of(regions: &[RegionBase]) -> [u64; PLACES]
     requires { AreRegions regions.now }
     ensures numbers { AreNumbersOf (λ m. m.flushed) regions.now result }
-    ensures wide { length result ≡ REGIONS }
+    ensures wide { length result ≡ PLACES }
 {
-    let mut flushed = [0; REGIONS];
+    let mut flushed = [0; PLACES];
     for base in regions {
         flushed[base.region as usize] = base.flushed;
     }
@@ -46,12 +46,12 @@ pub(crate) fn flushed_of(regions: &[RegionBase]) -> [u64; REGIONS]
 }
 
 /// The number of each region's next store file.
-pub(crate) fn next_stores_of(regions: &[RegionBase]) -> [u64; REGIONS]
+pub(crate) fn next_stores_of(regions: &[RegionBase]) -> [u64; PLACES]
     requires { AreRegions regions.now }
     ensures numbers { AreNumbersOf (λ m. m.next_store) regions.now result }
-    ensures wide { length result ≡ REGIONS }
+    ensures wide { length result ≡ PLACES }
 {
-    let mut next = [0; REGIONS];
+    let mut next = [0; PLACES];
     for base in regions {
         next[base.region as usize] = base.next_store;
     }

@@ -6,7 +6,7 @@ ghost use Rattle.std.specs.Option.{option_copied};
 ghost use Rattle.seq_accounting.specs.Accounts.{flushed_at, is_for};
 ghost use Rattle.seq_accounting.specs.Steps.{SameFiles};
 ghost use Rattle.log_ledger.specs.History.{History, family_in, flushed_in};
-ghost use Rattle.log_ledger.specs.Books.{IsServed, IsLeft, AreInOrder, AreStoresFew};
+ghost use Rattle.log_ledger.specs.Numbers.{IsServed, IsLeft, AreInOrder, AreStoresFew};
 ghost use Rattle.log_ledger.specs.Counted.{IsCounted, HasUnflushed, NoneUnflushed, PutsCut};
 
 use crate::ledger::Ledger;

@@ -6,14 +6,14 @@ ghost use Rattle.log_model.specs.Recovered.{IsFlushed};
 ghost use Rattle.recovery_laws.specs.Kept.{HasNoLogs};
 ghost use Rattle.log_ledger.specs.History.{started_in};
 ghost use Rattle.seq_accounting.specs.Accounts.{flushed_at};
-ghost use Rattle.log_ledger.specs.Books.{IsServed, AreStoresFew};
+ghost use Rattle.log_ledger.specs.Numbers.{IsServed, AreStoresFew};
 ghost use Rattle.log_ledger.specs.Counted.{IsCounted};
 ghost use Rattle.log_ledger.specs.Bases.{AreRegions, IsAmong, AreNumbersOf};
 
 use crate::base::{RegionBase, flushed_of, marks_of, next_stores_of};
 use kv_cell::NoMemory;
 use log_trucks::Chains;
-use seq_accounting::{Accounting, REGIONS};
+use seq_accounting::{Accounting, PLACES};
 use std::alloc::Global;
 use std::marker::Model;
 
@@ -21,19 +21,19 @@ use std::marker::Model;
 /// of numbers by region, and what they say of the device's history.
 #[derive(Drop)]
 pub struct Ledger {
-    pub(crate) drawn: [u64; REGIONS],
-    pub(crate) synced: [u64; REGIONS],
-    pub(crate) stored: [u64; REGIONS],
-    pub(crate) closed: [u64; REGIONS],
-    pub(crate) next_store: [u64; REGIONS],
+    pub(crate) drawn: [u64; PLACES],
+    pub(crate) synced: [u64; PLACES],
+    pub(crate) stored: [u64; PLACES],
+    pub(crate) closed: [u64; PLACES],
+    pub(crate) next_store: [u64; PLACES],
     pub(crate) accounts: Accounting,
     pub(crate) chains: Chains,
 }
 
 impl Model for Ledger {
-    ghost use Rattle.log_ledger.specs.Books.{Books, AreInOrder};
+    ghost use Rattle.log_ledger.specs.Numbers.{Numbers, AreInOrder};
 
-    ghost Value = { Books };
+    ghost Value = { Numbers };
 
     ghost view = { λ l. record { drawn = l.drawn; synced = l.synced; stored = l.stored; closed = l.closed; next_store = l.next_store; accounts = l.accounts; chains = l.chains } };
 

@@ -3,7 +3,7 @@
 ghost use Rattle.std.specs.Prelude.{◌≡◌, ◌+◌, ◌<◌, ◌≤◌, ◌^◌, ℕ, List, [], length, Contains, sum, OnOk, IfSome, MatchOption};
 ghost use Rattle.seq_accounting.specs.Accounts.{IsClosed};
 ghost use Rattle.log_ledger.specs.History.{ClosedLog, History, closed_in, with_logs};
-ghost use Rattle.log_ledger.specs.Books.{AreStoresFew, SameRegions};
+ghost use Rattle.log_ledger.specs.Numbers.{AreStoresFew, SameRegions};
 ghost use Rattle.log_ledger.specs.Counted.{IsCounted, NoneMayGoAbove, GoesNext, LogsLeft};
 
 use crate::ledger::Ledger;

@@ -6,7 +6,7 @@ ghost use Rattle.seq_accounting.specs.Accounts.{flushed_at};
 ghost use Rattle.seq_accounting.specs.Steps.{SameFiles};
 ghost use Rattle.log_trucks.specs.Held.{Carries};
 ghost use Rattle.log_ledger.specs.History.{History, staged_in, committed_in};
-ghost use Rattle.log_ledger.specs.Books.{IsServed, AreStoresFew, AreInOrder};
+ghost use Rattle.log_ledger.specs.Numbers.{IsServed, AreStoresFew, AreInOrder};
 ghost use Rattle.log_ledger.specs.Counted.{IsCounted};
 
 use crate::ledger::Ledger;

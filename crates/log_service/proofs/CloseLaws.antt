@@ -18,7 +18,7 @@ use Rattle.disk_images.proofs.Moments.{since_weaker}
 use Rattle.std.specs.Prelude.{Option, Some}
 use Rattle.std.proofs.lemmas.Option.{slice_get_within}
 use Rattle.crossbeam_queue.specs.Passes.{view}
-use Rattle.append_ring.specs.declared.pass.RingPass.{RingPass}
+use Rattle.append_ring.specs.declared.pass.RingKey.{RingKey}
 use Rattle.append_ring.specs.Rules.{base_of, of}
 use Rattle.append_ring.specs.Parts.{EachThere, IsEqual}
 use Rattle.append_ring.proofs.Places.{each_at}
@@ -29,10 +29,10 @@ use Rattle.log_service.specs.Numbers.{told_numbers, AreStoredSynced}
 use Rattle.log_service.proofs.Numbers.{synced_low, stored_low, closed_low}
 use Rattle.log_trucks.specs.Held.{Held, AreHeld}
 use Rattle.log_ledger.specs.History.{History}
-use Rattle.log_ledger.specs.Books.{IsServed}
+use Rattle.log_ledger.specs.Numbers.{IsServed}
 use Rattle.log_device.specs.declared.device.Device.{Device}
 use Rattle.log_device.specs.Leaves.{Leaves}
-use Rattle.log_device.specs.Whole.{books_of, IsBroken}
+use Rattle.log_device.specs.Whole.{numbers_of, IsBroken}
 use Rattle.log_device.proofs.Leaving.{leaves}
 use Rattle.log_service.specs.Trucks.{FollowFrom, of_held}
 use Rattle.log_service.specs.Order.{follow_front}
@@ -61,9 +61,9 @@ module _ (found : Files) (first : List ℕ) (r : ℕ) (low : 0 < r) (high : r �
       ap (λ (n : ℕ). last_of r n h.kept.durable) (began.first r low high) ∙ count_last (length first) (base_of first) ts h.kept.durable r (follow_front (length first) (base_of first) ts us follow) held
 
   module _ {D : Type 0} (d : Device D) (disk : DiskView) (popped : List Held) (h : History) (follow : FollowFrom first popped) (c : Content) (pushed : List Entry) (all : AreHeld (of_held r popped) pushed)
-      (content : IsContent (IsRecovered found r) c) (synced stored closed : ℕ) (synced_low : synced ≤ get_or (books_of d).synced r 0) (stored_low : stored ≤ get_or (books_of d).stored r 0) (closed_low : closed ≤ get_or (books_of d).closed r 0)
-      (stored_synced : get_or (books_of d).stored r 0 ≤ get_or (books_of d).synced r 0) where
-    pub whole_commits : Stands found first d disk popped h → IsServed (books_of d) r → Commits disk false r (base_of first r) c pushed synced stored closed
+      (content : IsContent (IsRecovered found r) c) (synced stored closed : ℕ) (synced_low : synced ≤ get_or (numbers_of d).synced r 0) (stored_low : stored ≤ get_or (numbers_of d).stored r 0) (closed_low : closed ≤ get_or (numbers_of d).closed r 0)
+      (stored_synced : get_or (numbers_of d).stored r 0 ≤ get_or (numbers_of d).synced r 0) where
+    pub whole_commits : Stands found first d disk popped h → IsServed (numbers_of d) r → Commits disk false r (base_of first r) c pushed synced stored closed
     whole_commits s served =
         let orderly = s.whole.keeps.orderly in
         let nil : popped ≡ popped ++ [] = sym (append-nil popped) in
@@ -72,9 +72,9 @@ module _ (found : Files) (first : List ℕ) (r : ℕ) (low : 0 < r) (high : r �
         let k : ℕ = length (entries_of r h.kept.durable) in
         let every : k ≡ length pushed = sym (held_length (of_held r popped) (entries_of r h.kept.durable) (held_region r popped h.kept.durable s.all)) ∙ held_length (of_held r popped) pushed all in
         let synced_is = s.whole.counted.synced r served in
-        let left : (J : Files) → IsImageNow disk J → Leaves (books_of d).stored (books_of d).closed J [] J = λ J now.
+        let left : (J : Files) → IsImageNow disk J → Leaves (numbers_of d).stored (numbers_of d).closed J [] J = λ J now.
         let shows = s.whole.keeps.images J now in
-        leaves (books_of d).stored (books_of d).closed h.kept s.whole.file.name h.current J [] J s.whole.keeps.kind s.whole.keeps.region shows s.whole.counted.stored
+        leaves (numbers_of d).stored (numbers_of d).closed h.kept s.whole.file.name h.current J [] J s.whole.keeps.kind s.whole.keeps.region shows s.whole.counted.stored
         (λ e member. s.whole.counted.newer e (Contains-append_left h.current h.kept.staged e member)) (some_alike h.kept J J shows.like shows.like orderly) in
         record {
           images = λ J now.
@@ -86,7 +86,7 @@ module _ (found : Files) (first : List ℕ) (r : ℕ) (low : 0 < r) (high : r �
           keeps_stored = λ J v p now recovers upto. (left J now).in_stores r v p recovers (omega (arith, upto, stored_low));
           keeps_closed = λ J name es e now last file member of.
               (let below = (left J now).in_last_log name es e last file member in
-              let at = ap (λ (q : ℕ). get_or (books_of d).closed q 0) of in
+              let at = ap (λ (q : ℕ). get_or (numbers_of d).closed q 0) of in
               omega (arith, below, at, closed_low));
           bound = omega (arith, stored_low, stored_synced, synced_is, count, every);
           bound_synced = omega (arith, synced_low, synced_is, count, every);
@@ -121,7 +121,7 @@ module _ (found : Files) (first : List ℕ) (r : ℕ) (low : 0 < r) (high : r �
           keeps_stored = λ J v p now recovers upto. (f.left J now).in_stores r v p recovers (omega (arith, upto, stored_low));
           keeps_closed = λ J name es e now last file member of.
               (let below = (f.left J now).in_last_log name es e last file member in
-              let at = ap (λ (q : ℕ). get_or (books_of d).closed q 0) of in
+              let at = ap (λ (q : ℕ). get_or (numbers_of d).closed q 0) of in
               omega (arith, below, at, closed_low));
           bound = bounded stored was (drop (length h.kept.durable) front ++ drop f.taken popped) was_all (held_take front h.kept.durable h.kept.staged f.all) (omega (arith, stored_low, stored_synced, synced_is, count));
           bound_synced = bounded synced was (drop (length h.kept.durable) front ++ drop f.taken popped) was_all (held_take front h.kept.durable h.kept.staged f.all) (omega (arith, synced_low, synced_is, count));
@@ -167,8 +167,8 @@ module _ {D : Type 0} (found : Files) (first : List ℕ) (d : Device D) (disk : 
   WhereBroken = IsBroken d → ∥ ((h : History) × Fell found first d disk popped h) ∥₁
 
   module _ (r : ℕ) (low : 0 < r) (high : r ≤ length first) (c : Content) (pushed : List Entry) (all : AreHeld (of_held r popped) pushed) (content : IsContent (IsRecovered found r) c) where
-    pub either_commits : (broken : Bool) → (broken ≡ true) ↔ IsBroken d → WhereWhole → WhereBroken → IsServed (books_of d) r → (synced stored closed : ℕ) → synced ≤ get_or (books_of d).synced r 0 → stored ≤ get_or (books_of d).stored r 0
-        → closed ≤ get_or (books_of d).closed r 0 → get_or (books_of d).stored r 0 ≤ get_or (books_of d).synced r 0 → ∥ Commits disk broken r (base_of first r) c pushed synced stored closed ∥₁
+    pub either_commits : (broken : Bool) → (broken ≡ true) ↔ IsBroken d → WhereWhole → WhereBroken → IsServed (numbers_of d) r → (synced stored closed : ℕ) → synced ≤ get_or (numbers_of d).synced r 0 → stored ≤ get_or (numbers_of d).stored r 0
+        → closed ≤ get_or (numbers_of d).closed r 0 → get_or (numbers_of d).stored r 0 ≤ get_or (numbers_of d).synced r 0 → ∥ Commits disk broken r (base_of first r) c pushed synced stored closed ∥₁
     either_commits true is whole fell served synced stored closed a b e le =
         ∥∥₁_map (fell (is.0 refl)) (λ x. fell_commits found first r low high d disk popped x.0 follow c pushed all content synced stored closed a b e le x.1)
     either_commits false is whole fell served synced stored closed a b e le =
@@ -182,7 +182,7 @@ module _ {D : Type 0} (found : Files) (first : List ℕ) (d : Device D) (disk : 
         (λ x past. since_commits found first r popped c pushed start disk follow all (last_then found first r low high x.0 x.1.began x.1.whole.keeps.orderly) content past)
 
   module _ (n : ℕ) (all_regions : n ≡ length first) (broken : Bool) (is : (broken ≡ true) ↔ IsBroken d) (whole : WhereWhole) (fell : WhereBroken) (items : List Item) (every : popped ≡ appended items)
-      (passes : List (Option (RingPass Item))) (there : length passes ≡ n) (equal : EachThere (IsEqual region_of items) passes) (r : ℕ) (c : Content) (pushed : List Entry) (p : Pushed found passes r c pushed) where
+      (passes : List (Option (RingKey Item))) (there : length passes ≡ n) (equal : EachThere (IsEqual region_of items) passes) (r : ℕ) (c : Content) (pushed : List Entry) (p : Pushed found passes r c pushed) where
     within : r ≤ length first
     within = omega (arith, slice_get_within passes (r - 1) (Some p.pass) p.is, p.above, there, all_regions)
 
@@ -193,11 +193,11 @@ module _ {D : Type 0} (found : Files) (first : List ℕ) (d : Device D) (disk : 
         ap appended (sym one) ∙ (ap (λ (k : ℕ). appended (of region_of k items)) p.region ∙ (appended_of r items ∙ ap (of_held r) (sym every))) in
         subst (λ (l : List Held). AreHeld l pushed) mine p.entries
 
-    pub region_commits : (words : List ℕ) → NoMore words (told_numbers n (books_of d)) → ((q : ℕ) → 0 < q → q ≤ length first → IsServed (books_of d) q) → AreStoredSynced (books_of d) → ∥ CommitsRegion disk broken n words first r c pushed ∥₁
+    pub region_commits : (words : List ℕ) → NoMore words (told_numbers n (numbers_of d)) → ((q : ℕ) → 0 < q → q ≤ length first → IsServed (numbers_of d) q) → AreStoredSynced (numbers_of d) → ∥ CommitsRegion disk broken n words first r c pushed ∥₁
     region_commits words low served stored =
         either_commits r p.above within c pushed all_held p.content broken is whole fell (served r p.above within) (synced_in words r) (stored_in n words r) (closed_in n words r)
-        (synced_low n (books_of d) words r low p.above (omega (arith, within, all_regions))) (stored_low n (books_of d) words r low p.above (omega (arith, within, all_regions)))
-        (closed_low n (books_of d) words r low p.above (omega (arith, within, all_regions))) (stored r)
+        (synced_low n (numbers_of d) words r low p.above (omega (arith, within, all_regions))) (stored_low n (numbers_of d) words r low p.above (omega (arith, within, all_regions)))
+        (closed_low n (numbers_of d) words r low p.above (omega (arith, within, all_regions))) (stored r)
 
     pub region_since : (start : ℕ) → ∥ Since start (RecoversHeld found popped) disk ∥₁ → ∥ CommitsSince start disk r (base_of first r) c pushed ∥₁
     region_since start since = either_since r p.above within c pushed all_held p.content broken is whole fell start since

@@ -4,7 +4,7 @@ use Rattle.std.proofs.lemmas.List.{get_or_append_left, get_or-append_right, get_
 use Rattle.std.proofs.lemmas.Grind.{get_or_after_one}
 use Rattle.log_berth.specs.Words.{starts, NoMore}
 use Rattle.log_berth.proofs.Numbers.{starts_at}
-use Rattle.log_ledger.specs.Books.{Books}
+use Rattle.log_ledger.specs.Numbers.{Numbers}
 use Rattle.log_service.specs.Numbers.{told_numbers}
 use Rattle.log_service.specs.Closed.{synced_in, stored_in, closed_in}
 
@@ -16,7 +16,7 @@ length_starts (suc n) (x ∷ xs) = ap suc (length_starts n xs)
 first_of : (n : ℕ) (xs : List ℕ) (i : ℕ) → i < n → get_or (starts n (drop 1 xs)) i 0 ≡ get_or xs (i + 1) 0
 first_of n xs i low = starts_at n (drop 1 xs) i low ∙ (get_or_after_one xs i 0 ∙ ap (λ (k : ℕ). get_or xs k 0) (omega arith))
 
-module _ (n : ℕ) (b : Books) where
+module _ (n : ℕ) (b : Numbers) where
   xs : List ℕ
   xs = starts n (drop 1 b.synced)
 
@@ -45,32 +45,32 @@ module _ (n : ℕ) (b : Books) where
   told_past i at = further i (omega (arith, at)) ∙ get_or_past (starts n (drop 1 b.closed)) ((i - n) - n) 0 (omega (arith, at, length_starts n (drop 1 b.closed)))
 
 -- words that are no more than what is told are no more than each region's numbers
-pub synced_low : (n : ℕ) (b : Books) (words : List ℕ) (r : ℕ) → NoMore words (told_numbers n b) → 0 < r → r ≤ n → synced_in words r ≤ get_or b.synced r 0
+pub synced_low : (n : ℕ) (b : Numbers) (words : List ℕ) (r : ℕ) → NoMore words (told_numbers n b) → 0 < r → r ≤ n → synced_in words r ≤ get_or b.synced r 0
 synced_low n b words r low above within =
     let at = told_synced n b (r - 1) (omega (arith, above, within)) in
     let place : (r - 1) + 1 ≡ r = omega (arith, above) in
     omega (arith, low (r - 1), at, ap (λ (k : ℕ). get_or b.synced k 0) place)
 
-pub stored_low : (n : ℕ) (b : Books) (words : List ℕ) (r : ℕ) → NoMore words (told_numbers n b) → 0 < r → r ≤ n → stored_in n words r ≤ get_or b.stored r 0
+pub stored_low : (n : ℕ) (b : Numbers) (words : List ℕ) (r : ℕ) → NoMore words (told_numbers n b) → 0 < r → r ≤ n → stored_in n words r ≤ get_or b.stored r 0
 stored_low n b words r low above within =
     let at = told_stored n b (n + r - 1) (omega (arith, above)) (omega (arith, above, within)) in
     let place : (n + r - 1 - n) + 1 ≡ r = omega (arith, above) in
     omega (arith, low (n + r - 1), at, ap (λ (k : ℕ). get_or b.stored k 0) place)
 
-pub closed_low : (n : ℕ) (b : Books) (words : List ℕ) (r : ℕ) → NoMore words (told_numbers n b) → 0 < r → r ≤ n → closed_in n words r ≤ get_or b.closed r 0
+pub closed_low : (n : ℕ) (b : Numbers) (words : List ℕ) (r : ℕ) → NoMore words (told_numbers n b) → 0 < r → r ≤ n → closed_in n words r ≤ get_or b.closed r 0
 closed_low n b words r low above within =
     let at = told_closed n b (n + n + r - 1) (omega (arith, above)) (omega (arith, above, within)) in
     let place : (n + n + r - 1 - n - n) + 1 ≡ r = omega (arith, above) in
     omega (arith, low (n + n + r - 1), at, ap (λ (k : ℕ). get_or b.closed k 0) place)
 
-pub synced_rose : (n : ℕ) (a b : Books) → NoMore (told_numbers n a) (told_numbers n b) → (r : ℕ) → 0 < r → r ≤ n → get_or a.synced r 0 ≤ get_or b.synced r 0
+pub synced_rose : (n : ℕ) (a b : Numbers) → NoMore (told_numbers n a) (told_numbers n b) → (r : ℕ) → 0 < r → r ≤ n → get_or a.synced r 0 ≤ get_or b.synced r 0
 synced_rose n a b later r above within =
     let was = told_synced n a (r - 1) (omega (arith, above, within)) in
     let is = told_synced n b (r - 1) (omega (arith, above, within)) in
     let here : (r - 1) + 1 ≡ r = omega (arith, above) in
     omega (arith, later (r - 1), was, is, ap (λ (k : ℕ). get_or a.synced k 0) here, ap (λ (k : ℕ). get_or b.synced k 0) here)
 
-pub stored_rose : (n : ℕ) (a b : Books) → NoMore (told_numbers n a) (told_numbers n b) → (r : ℕ) → 0 < r → r ≤ n → get_or a.stored r 0 ≤ get_or b.stored r 0
+pub stored_rose : (n : ℕ) (a b : Numbers) → NoMore (told_numbers n a) (told_numbers n b) → (r : ℕ) → 0 < r → r ≤ n → get_or a.stored r 0 ≤ get_or b.stored r 0
 stored_rose n a b later r above within =
     let was = told_stored n a (n + r - 1) (omega (arith, above)) (omega (arith, above, within)) in
     let is = told_stored n b (n + r - 1) (omega (arith, above)) (omega (arith, above, within)) in

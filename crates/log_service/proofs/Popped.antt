@@ -1,4 +1,4 @@
--- What is popped from the ring of loads, and from both rings at the close.
+-- What is popped from the ring of chains, and from both rings at the close.
 use Rattle.std.proofs.Common.{◌≡◌, ◌-◌, ℕ, suc, List, [], ◌∷◌, ◌++◌, refl, sym, ap, ◌∙◌, subst, arith}
 use Rattle.std.specs.Prelude.{Option, Some, None, MatchOption, slice_get, slice_set}
 use Rattle.std.proofs.Props.{props}
@@ -6,7 +6,7 @@ use Rattle.std.proofs.Math.Logic.{∥∥₁_map, ∥∥₁_elim}
 use Rattle.std.proofs.lemmas.List.{append-nil}
 use Rattle.atomic_table.specs.Seated.{TableId}
 use Rattle.append_ring.specs.declared.knows.Knows.{Knows}
-use Rattle.append_ring.specs.declared.pass.RingPass.{RingPass}
+use Rattle.append_ring.specs.declared.pass.RingKey.{RingKey}
 use Rattle.crossbeam_queue.specs.Passes.{view}
 use Rattle.append_ring.specs.Rules.{HasPopped, of}
 use Rattle.append_ring.specs.Parts.{EachThere, AreNew, AreNewAfter}
@@ -14,44 +14,44 @@ use Rattle.log_trucks.specs.Held.{Held}
 use Rattle.log_service.specs.declared.item.Item.{Item}
 use Rattle.log_service.specs.Items.{appended, held_in}
 use Rattle.log_service.specs.Trucks.{AreSpelled}
-use Rattle.log_service.specs.Loads.{all_trucks, IsWholeLoad, AreInOrder}
+use Rattle.log_service.specs.Chains.{all_trucks, IsWholeChain, AreInOrder}
 use Rattle.log_service.proofs.ItemLaws.{all_with}
 use Rattle.log_service.proofs.Committed.{of_all}
 
--- at most one load more was popped
+-- at most one chain more was popped
 pub record PoppedMore (v w : Knows (List Held)) : Type 0 where
   pub more : List Held
   pub spelled : AreSpelled more
   pub all : all_trucks w.popped ≡ all_trucks v.popped ++ more
   pub lasts : w.lasts ≡ v.lasts
 
-pub popped_more : (X : Type 0) (v w : Knows (List Held)) (o : Option (List Held)) → MatchOption o ((w ≡ v) × X) (λ load. HasPopped (λ _. 1) (λ _. None) IsWholeLoad AreInOrder v load w) → PoppedMore v w
+pub popped_more : (X : Type 0) (v w : Knows (List Held)) (o : Option (List Held)) → MatchOption o ((w ≡ v) × X) (λ chain. HasPopped (λ _. 1) (λ _. None) IsWholeChain AreInOrder v chain w) → PoppedMore v w
 popped_more X v w None p = record { more = []; spelled = tt; all = ap (λ (k : Knows (List Held)). all_trucks k.popped) p.0 ∙ sym (append-nil (all_trucks v.popped)); lasts = ap (λ (k : Knows (List Held)). k.lasts) p.0 }
-popped_more X v w (Some load) p = record {
-  more = load;
+popped_more X v w (Some chain) p = record {
+  more = chain;
   spelled = p.good.0.2;
-  all = ap (λ (k : Knows (List Held)). all_trucks k.popped) p.now ∙ all_with v.popped load;
+  all = ap (λ (k : Knows (List Held)). all_trucks k.popped) p.now ∙ all_with v.popped chain;
   lasts = ap (λ (k : Knows (List Held)). k.lasts) p.now;
 }
 
--- all that was pushed into the ring of loads was popped from it
-pub loads_pushed : (pass first : RingPass (List Held)) (loads popped : List (List Held)) → pass ≡ first → pass.region ≡ 1 → popped ≡ loads → of (λ (_ : List Held). 1) pass.region popped ≡ (view pass.pass).pushed → loads ≡ (view first.pass).pushed
-loads_pushed pass first loads popped is region same equal =
-    sym same ∙ (sym (of_all popped) ∙ (ap (λ (r : ℕ). of (λ (_ : List Held). 1) r popped) (sym region) ∙ (equal ∙ ap (λ (p : RingPass (List Held)). (view p.pass).pushed) is)))
+-- all that was pushed into the ring of chains was popped from it
+pub chains_pushed : (pass first : RingKey (List Held)) (chains popped : List (List Held)) → pass ≡ first → pass.region ≡ 1 → popped ≡ chains → of (λ (_ : List Held). 1) pass.region popped ≡ (view pass.pass).pushed → chains ≡ (view first.pass).pushed
+chains_pushed pass first chains popped is region same equal =
+    sym same ∙ (sym (of_all popped) ∙ (ap (λ (r : ℕ). of (λ (_ : List Held). 1) r popped) (sym region) ∙ (equal ∙ ap (λ (p : RingKey (List Held)). (view p.pass).pushed) is)))
 
--- all that was popped from the ring of items went through the ring of loads
-pub all_popped : (pushed loads : List (List Held)) (load : List Held) (held : Option Item) (items : List Item) → all_trucks pushed ++ (load ++ appended (held_in held)) ≡ appended items → load ≡ [] → held ≡ None → loads ≡ pushed
-    → all_trucks loads ≡ appended items
-all_popped pushed loads load held items tie empty none same =
+-- all that was popped from the ring of items went through the ring of chains
+pub all_popped : (pushed chains : List (List Held)) (chain : List Held) (held : Option Item) (items : List Item) → all_trucks pushed ++ (chain ++ appended (held_in held)) ≡ appended items → chain ≡ [] → held ≡ None → chains ≡ pushed
+    → all_trucks chains ≡ appended items
+all_popped pushed chains chain held items tie empty none same =
     ap all_trucks same
     ∙ (sym (append-nil (all_trucks pushed))
-    ∙ (ap (λ (p : List Held × Option Item). all_trucks pushed ++ (p.0 ++ appended (held_in p.1))) {x = ([], None)} {y = (load, held)} (λ i. (sym empty i, sym none i)) ∙ tie))
+    ∙ (ap (λ (p : List Held × Option Item). all_trucks pushed ++ (p.0 ++ appended (held_in p.1))) {x = ([], None)} {y = (chain, held)} (λ i. (sym empty i, sym none i)) ∙ tie))
 
 module _ {T : Type 0} (id : TableId) (lasts : List ℕ) where
-  named_prop : (p : RingPass T) → IsProp (p.pass.table_id ≡ id)
+  named_prop : (p : RingKey T) → IsProp (p.pass.table_id ≡ id)
   named_prop p = hlevel props
 
-  each_new : (k : ℕ) (places : List (Option (RingPass T))) → ∥ AreNew id lasts k places ∥₁ → EachThere (λ p. p.pass.table_id ≡ id) places
+  each_new : (k : ℕ) (places : List (Option (RingKey T))) → ∥ AreNew id lasts k places ∥₁ → EachThere (λ p. p.pass.table_id ≡ id) places
   each_new k [] new = tt
   each_new k (None ∷ places) new = absurd (∥∥₁_elim new (λ a b. absurd a) (λ n. n))
   each_new k (Some p ∷ places) new = (
@@ -60,23 +60,23 @@ module _ {T : Type 0} (id : TableId) (lasts : List ℕ) where
   )
 
   -- the first pass is handed out
-  pub idle_out : (places : List (Option (RingPass T))) → ∥ AreNewAfter id lasts 0 1 places ∥₁ → (rest : List (Option (RingPass T))) × (places ≡ None ∷ rest) × ∥ AreNew id lasts 1 rest ∥₁
+  pub idle_out : (places : List (Option (RingKey T))) → ∥ AreNewAfter id lasts 0 1 places ∥₁ → (rest : List (Option (RingKey T))) × (places ≡ None ∷ rest) × ∥ AreNew id lasts 1 rest ∥₁
   idle_out [] new = absurd (∥∥₁_elim new (λ a b. absurd a) (λ n. n))
   idle_out (Some p ∷ places) new = absurd (∥∥₁_elim new (λ a b. absurd a) (λ n. n))
   idle_out (None ∷ places) new = (places, refl, new)
 
   -- its place is empty
-  pub idle_empty : (places : List (Option (RingPass T))) (pass : RingPass T) → ∥ AreNewAfter id lasts 0 1 places ∥₁ → pass.region ≡ 1 → slice_get places (pass.region - 1) ≡ Some None
+  pub idle_empty : (places : List (Option (RingKey T))) (pass : RingKey T) → ∥ AreNewAfter id lasts 0 1 places ∥₁ → pass.region ≡ 1 → slice_get places (pass.region - 1) ≡ Some None
   idle_empty places pass new first = let o = idle_out places new in λ i. slice_get (o.1 i) (first i - 1)
 
   -- the first pass is back in its place
-  pub idle_back : (places : List (Option (RingPass T))) (pass : RingPass T) → ∥ AreNewAfter id lasts 0 1 places ∥₁ → pass.pass.table_id ≡ id → pass.region ≡ 1 → EachThere (λ p. p.pass.table_id ≡ id) (slice_set places (pass.region - 1) (Some pass))
+  pub idle_back : (places : List (Option (RingKey T))) (pass : RingKey T) → ∥ AreNewAfter id lasts 0 1 places ∥₁ → pass.pass.table_id ≡ id → pass.region ≡ 1 → EachThere (λ p. p.pass.table_id ≡ id) (slice_set places (pass.region - 1) (Some pass))
   idle_back places pass new of first =
       let o = idle_out places new in
-      subst (λ (q : List (Option (RingPass T)) × ℕ). EachThere (λ p. p.pass.table_id ≡ id) (slice_set q.0 q.1 (Some pass))) (λ i. (sym o.1 i, sym (ap (λ (r : ℕ). r - 1) first) i)) (of, each_new 1 o.0 o.2)
+      subst (λ (q : List (Option (RingKey T)) × ℕ). EachThere (λ p. p.pass.table_id ≡ id) (slice_set q.0 q.1 (Some pass))) (λ i. (sym o.1 i, sym (ap (λ (r : ℕ). r - 1) first) i)) (of, each_new 1 o.0 o.2)
 
   -- what holds of all holds of that one
-  pub idle_first : (is_so : RingPass T → Type 0) (places : List (Option (RingPass T))) (pass : RingPass T) → ∥ AreNewAfter id lasts 0 1 places ∥₁ → pass.region ≡ 1 → EachThere is_so (slice_set places (pass.region - 1) (Some pass)) → is_so pass
+  pub idle_first : (is_so : RingKey T → Type 0) (places : List (Option (RingKey T))) (pass : RingKey T) → ∥ AreNewAfter id lasts 0 1 places ∥₁ → pass.region ≡ 1 → EachThere is_so (slice_set places (pass.region - 1) (Some pass)) → is_so pass
   idle_first is_so places pass new first all =
       let o = idle_out places new in
-      (subst (λ (q : List (Option (RingPass T)) × ℕ). EachThere is_so (slice_set q.0 q.1 (Some pass))) {x = (places, pass.region - 1)} {y = (None ∷ o.0, 0)} (λ i. (o.1 i, ap (λ (r : ℕ). r - 1) first i)) all).0
+      (subst (λ (q : List (Option (RingKey T)) × ℕ). EachThere is_so (slice_set q.0 q.1 (Some pass))) {x = (places, pass.region - 1)} {y = (None ∷ o.0, 0)} (λ i. (o.1 i, ap (λ (r : ℕ). r - 1) first i)) all).0

@@ -1,13 +1,13 @@
--- What a seat has seen of the words, and the loads that were committed.
+-- What a seat has seen of the words, and the chains that were committed.
 use Rattle.std.proofs.Common.{◌≡◌, ◌≤◌, ◌<◌, ◌+◌, ◌-◌, ◌*◌, ℕ, List, false, length, get_or, refl, ap, ◌∙◌, arith}
 use Rattle.std.specs.Prelude.{Option, Some, None, is_none, Result, Ok, Err, IfOk}
 use Rattle.append_ring.specs.Rules.{base_of}
 use Rattle.log_berth.specs.declared.known.Known.{Known}
 use Rattle.log_berth.specs.Words.{NoMore}
 use Rattle.log_trucks.specs.Held.{Held}
-use Rattle.log_ledger.specs.Books.{Books}
+use Rattle.log_ledger.specs.Numbers.{Numbers}
 use Rattle.log_service.specs.Trucks.{come_to}
-use Rattle.log_service.specs.Loads.{all_trucks}
+use Rattle.log_service.specs.Chains.{all_trucks}
 use Rattle.log_service.specs.Numbers.{told_numbers, seen_closed, HasSeen}
 use Rattle.log_service.specs.Turns.{SawAtMost, SawCommitted}
 use Rattle.log_service.proofs.Numbers.{told_synced, told_stored, told_closed, synced_low}
@@ -32,7 +32,7 @@ then_whole (Ok t) why only step p = step t (λ broken. cc (only broken)) p
 then_whole (Err e) why only step p = tt
 
 -- where all words were raised to what is told, each is at its number
-pub has_seen : (n : ℕ) (k : Known) (b : Books) → ((i : ℕ) → i < 3 * n → get_or k.seen i 0 ≡ get_or (told_numbers n b) i 0) → HasSeen n k b
+pub has_seen : (n : ℕ) (k : Known) (b : Numbers) → ((i : ℕ) → i < 3 * n → get_or k.seen i 0 ≡ get_or (told_numbers n b) i 0) → HasSeen n k b
 has_seen n k b raised = record {
   synced = λ r above within.
       let here : (r - 1) + 1 ≡ r = omega (arith, above) in
@@ -45,23 +45,23 @@ has_seen n k b raised = record {
       raised (n + n + r - 1) (omega (arith, above, within)) ∙ (told_closed n b (n + n + r - 1) (omega (arith, above)) (omega (arith, above, within)) ∙ ap (λ (j : ℕ). get_or b.closed j 0) here);
 }
 
--- the numbers that a device tells, all of which it has committed, are those that the loads popped come to
-module _ (lasts : List ℕ) (n : ℕ) (b : Books) (loads : List (List Held)) (all : n ≡ length lasts) (synced : b.synced ≡ b.drawn)
-    (drawn : (r : ℕ) → 0 < r → r ≤ length lasts → get_or b.drawn r 0 ≡ come_to (base_of lasts) (all_trucks loads) r) where
-  pub saw_at_most : (k : Known) → NoMore k.seen (told_numbers n b) → SawAtMost lasts k loads
+-- the numbers that a device tells, all of which it has committed, are those that the chains popped come to
+module _ (lasts : List ℕ) (n : ℕ) (b : Numbers) (chains : List (List Held)) (all : n ≡ length lasts) (synced : b.synced ≡ b.drawn)
+    (drawn : (r : ℕ) → 0 < r → r ≤ length lasts → get_or b.drawn r 0 ≡ come_to (base_of lasts) (all_trucks chains) r) where
+  pub saw_at_most : (k : Known) → NoMore k.seen (told_numbers n b) → SawAtMost lasts k chains
   saw_at_most k low r above within =
       let is = ap (λ (l : List ℕ). get_or l r 0) synced ∙ drawn r above within in
       omega (arith, synced_low n b k.seen r low above (omega (arith, all, within)), is)
 
-  pub saw_committed : (k : Known) → ((i : ℕ) → i < n → get_or k.seen i 0 ≡ get_or (told_numbers n b) i 0) → SawCommitted lasts k loads
+  pub saw_committed : (k : Known) → ((i : ℕ) → i < n → get_or k.seen i 0 ≡ get_or (told_numbers n b) i 0) → SawCommitted lasts k chains
   saw_committed k raised r above within =
       let here : (r - 1) + 1 ≡ r = omega (arith, above) in
       raised (r - 1) (omega (arith, above, all, within)) ∙ (told_synced n b (r - 1) (omega (arith, above, all, within)) ∙ (ap (λ (j : ℕ). get_or b.synced j 0) here ∙ (ap (λ (l : List ℕ). get_or l r 0) synced ∙ drawn r above within)))
 
-  pub sees_all : (k : Known) → HasSeen n k b → SawCommitted lasts k loads
+  pub sees_all : (k : Known) → HasSeen n k b → SawCommitted lasts k chains
   sees_all k seen r above within = seen.synced r above (omega (arith, all, within)) ∙ (ap (λ (l : List ℕ). get_or l r 0) synced ∙ drawn r above within)
 
 -- where all was closed, the closed words are at or above the synced ones that were told
-pub closed_over : (n m : ℕ) → n ≡ m → (k : Known) (b : Books) (old : List ℕ) → NoMore old (told_numbers n b) → HasSeen m k b → b.closed ≡ b.synced → (r : ℕ) → 0 < r → r ≤ m → get_or old (r - 1) 0 ≤ seen_closed m k r
+pub closed_over : (n m : ℕ) → n ≡ m → (k : Known) (b : Numbers) (old : List ℕ) → NoMore old (told_numbers n b) → HasSeen m k b → b.closed ≡ b.synced → (r : ℕ) → 0 < r → r ≤ m → get_or old (r - 1) 0 ≤ seen_closed m k r
 closed_over n m same k b old low seen closed r above within =
     omega (arith, synced_low n b old r low above (omega (arith, within, same)), seen.closed r above within, ap (λ (l : List ℕ). get_or l r 0) closed)

@@ -8,7 +8,7 @@ use Rattle.log_model.specs.Files.{Files, IsLogFile, IsLastLog, IsFit, IsSound, I
 use Rattle.log_model.specs.Recovered.{IsRecovered, IsStored, IsContent, IsLast, IsFlushed, HasFamily, RecoversAlike, put_entries}
 use Rattle.disk_images.specs.Crash.{DiskView, IsImageNow, Since}
 use Rattle.append_ring.specs.Rules.{base_of}
-use Rattle.append_ring.specs.declared.pass.RingPass.{RingPass}
+use Rattle.append_ring.specs.declared.pass.RingKey.{RingKey}
 use Rattle.crossbeam_queue.specs.Passes.{view}
 use Rattle.log_trucks.specs.Held.{AreHeld}
 use Rattle.log_service.specs.declared.item.Item.{Item}
@@ -34,7 +34,7 @@ abbrev pub CommitsSince : ℕ → DiskView → ℕ → ℕ → Content → List 
 CommitsSince start disk r last c pushed = Since start (λ J. ∥ ((k : ℕ) × Image r last c pushed J k) ∥₁) disk
 
 -- the appends pushed under a pass are these entries
-abbrev pub HasPushedEntries : RingPass Item → List Entry → Type 0
+abbrev pub HasPushedEntries : RingKey Item → List Entry → Type 0
 HasPushedEntries p es = AreHeld (appended (view p.pass).pushed) es
 
 -- The word of region r in what a close gives, where there are n regions.
@@ -52,9 +52,9 @@ abbrev pub CommitsRegion : DiskView → Bool → ℕ → List ℕ → List ℕ �
 CommitsRegion disk broken n words first r c pushed = Commits disk broken r (base_of first r) c pushed (synced_in words r) (stored_in n words r) (closed_in n words r)
 
 -- a region had this content in these files, and the appends pushed under its pass are these entries
-pub record Pushed (found : Files) (passes : List (Option (RingPass Item))) (r : ℕ) (c : Content) (pushed : List Entry) : Type 0 where
+pub record Pushed (found : Files) (passes : List (Option (RingKey Item))) (r : ℕ) (c : Content) (pushed : List Entry) : Type 0 where
   pub above : 0 < r
-  pub pass : RingPass Item
+  pub pass : RingKey Item
   pub is : slice_get passes (r - 1) ≡ Some (Some pass)
   pub region : pass.region ≡ r
   pub content : IsContent (IsRecovered found r) c

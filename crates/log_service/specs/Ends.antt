@@ -2,7 +2,7 @@
 use Rattle.std.specs.Prelude.{◌≡◌, ℕ, ◌+◌, ◌<◌, ◌≤◌, List, get_or, Option, None}
 use Rattle.log_file.specs.Open.{OpenLog}
 use Rattle.log_berth.specs.declared.known.Known.{Known}
-use Rattle.log_ledger.specs.Books.{Books}
+use Rattle.log_ledger.specs.Numbers.{Numbers}
 use Rattle.log_device.specs.declared.error.Rolled.{Rolled}
 use Rattle.log_device.specs.Whole.{IsBegunAfter}
 use Rattle.log_service.specs.Numbers.{seen_synced, seen_stored}
@@ -21,14 +21,14 @@ pub record HasNoEntry (file : OpenLog) (n : ℕ) : Type 0 where
 
 -- A family of region r was flushed up to the region's last committed entry. Where all families were, that is the stored number now, and
 -- above the one of before.
-pub record IsFlushedTo (r : ℕ) (family : Option (List ℕ)) (n : ℕ) (old new : Books) : Type 0 where
+pub record IsFlushedTo (r : ℕ) (family : Option (List ℕ)) (n : ℕ) (old new : Numbers) : Type 0 where
   pub last : get_or new.synced r 0 ≡ n
   pub stored : family ≡ None → get_or new.stored r 0 ≡ n
   pub above : family ≡ None → get_or old.stored r 0 < n
 
 -- A family of region r had nothing to flush up to the region's last committed entry. Where all families were asked for, that is the stored
 -- number now.
-pub record HasNoneAbove (r : ℕ) (family : Option (List ℕ)) (n : ℕ) (new : Books) : Type 0 where
+pub record HasNoneAbove (r : ℕ) (family : Option (List ℕ)) (n : ℕ) (new : Numbers) : Type 0 where
   pub last : get_or new.synced r 0 ≡ n
   pub stored : family ≡ None → get_or new.stored r 0 ≡ n
 

@@ -1,7 +1,7 @@
 pub mod Names
 pub mod Trucks
 pub mod Items
-pub mod Loads
+pub mod Chains
 pub mod Order
 pub mod Props
 pub mod Numbers

@@ -7,15 +7,15 @@ use Rattle.log_trucks.specs.Held.{Held}
 use Rattle.log_service.specs.declared.item.Item.{Item}
 use Rattle.log_service.specs.Items.{appended, held_in}
 use Rattle.log_service.specs.Trucks.{FollowFrom, come_to}
-use Rattle.log_service.specs.Loads.{all_trucks, AreInOrder}
+use Rattle.log_service.specs.Chains.{all_trucks, AreInOrder}
 use Rattle.log_service.specs.Moves.{Bench, HasMoved, IsTooLong, WasEmpty, WasFull}
 use Rattle.log_service.specs.Numbers.{seen_synced}
 
 -- ---- turns of the consumer
 
--- the appends popped are in this order in the loads handed over, in the load, and held, and each region's numbers follow one another from the start's
+-- the appends popped are in this order in the chains handed over, in the chain, and held, and each region's numbers follow one another from the start's
 pub record IsBenchOf (lasts : List ℕ) (b : Bench) : Type 0 where
-  pub tie : all_trucks b.handed ++ (b.load ++ appended (held_in b.held)) ≡ appended b.popped
+  pub tie : all_trucks b.handed ++ (b.chain ++ appended (held_in b.held)) ≡ appended b.popped
   pub follow : FollowFrom lasts (appended b.popped)
 
 -- exactly n items were moved
@@ -34,7 +34,7 @@ pub record FoundEmpty (lasts : List ℕ) : Type 0 where
   pub from : pass.lasts ≡ lasts
   pub empty : WasEmpty pass
 
--- the next item is held, and doesn't fit the load
+-- the next item is held, and doesn't fit the chain
 pub record FoundTooLong (lasts : List ℕ) : Type 0 where
   pub bench : Bench
   pub is : IsBenchOf lasts bench
@@ -49,33 +49,33 @@ pub record HasMovedAll (lasts : List ℕ) : Type 0 where
 
 -- ---- turns of the device
 
--- the seat has seen no synced word above the number of its region's last entry in these loads, or that of the start
+-- the seat has seen no synced word above the number of its region's last entry in these chains, or that of the start
 abbrev pub SawAtMost : List ℕ → Known → List (List Held) → Type 0
-SawAtMost lasts k loads = (r : ℕ) → 0 < r → r ≤ length lasts → seen_synced k r ≤ come_to (base_of lasts) (all_trucks loads) r
+SawAtMost lasts k chains = (r : ℕ) → 0 < r → r ≤ length lasts → seen_synced k r ≤ come_to (base_of lasts) (all_trucks chains) r
 
 -- it has seen each synced word there
 abbrev pub SawCommitted : List ℕ → Known → List (List Held) → Type 0
-SawCommitted lasts k loads = (r : ℕ) → 0 < r → r ≤ length lasts → seen_synced k r ≡ come_to (base_of lasts) (all_trucks loads) r
+SawCommitted lasts k chains = (r : ℕ) → 0 < r → r ≤ length lasts → seen_synced k r ≡ come_to (base_of lasts) (all_trucks chains) r
 
--- A load of n entries was popped behind others, and committed: the seat had seen no word above what those come to, and now it has seen each one at
+-- A chain of n entries was popped behind others, and committed: the seat had seen no word above what those come to, and now it has seen each one at
 -- what all of them come to.
 pub record HasSynced (lasts : List ℕ) (old new : Known) (n : ℕ) : Type 0 where
   pub before : List (List Held)
-  pub load : List Held
-  pub count : n ≡ length load
+  pub chain : List Held
+  pub count : n ≡ length chain
   pub some : 1 ≤ n
-  pub in_order : AreInOrder lasts (before ++ load ∷ [])
+  pub in_order : AreInOrder lasts (before ++ chain ∷ [])
   pub saw : SawAtMost lasts old before
-  pub sees : SawCommitted lasts new (before ++ load ∷ [])
+  pub sees : SawCommitted lasts new (before ++ chain ∷ [])
 
--- the ring of loads was empty at a moment
+-- the ring of chains was empty at a moment
 pub record FoundNoLoad (lasts : List ℕ) (k : Known) : Type 0 where
   pub pass : Knows (List Held)
   pub from : pass.lasts ≡ lasts
   pub empty : WasFull 0 pass
   pub saw : SawAtMost lasts k pass.popped
 
--- the ring of loads was empty at a moment, and the seat has seen each synced word at what all loads popped come to
+-- the ring of chains was empty at a moment, and the seat has seen each synced word at what all chains popped come to
 pub record SawAllLoads (lasts : List ℕ) (k : Known) : Type 0 where
   pub pass : Knows (List Held)
   pub from : pass.lasts ≡ lasts

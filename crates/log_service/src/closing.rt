@@ -13,8 +13,8 @@ use crate::item::Item;
 use crate::name::ServiceNaming;
 use crate::seats::LogSeats;
 use crate::service::LogService;
-use crate::settling::{settle_items, settle_loads};
-use append_ring::RingPasses;
+use crate::settling::{settle_chains, settle_items};
+use append_ring::RingKeys;
 use disk_images::Disk;
 use log_berth::{Berthed, SyncedList};
 use std::sync::Wait;
@@ -30,12 +30,7 @@ pub struct ServiceClosed<D> {
 impl<D: Disk, N: ServiceNaming> LogService<D, N> {
     /// Moves and commits all that is left, unless the log is broken, and gives the disk, once all seats and passes are back. Of a broken
     /// log what is left is let go, and no disk call is made. It takes no memory.
-    pub fn close<R: Wait>(
-        self,
-        rt: &R,
-        seats: LogSeats,
-        passes: RingPasses<Item>,
-    ) -> ServiceClosed<D>
+    pub fn close<R: Wait>(self, rt: &R, seats: LogSeats, passes: RingKeys<Item>) -> ServiceClosed<D>
         requires consumers { AreBack self.consumer seats.consumers.seats }
         requires devices { AreBack self.device seats.devices.seats }
         requires all { length seats.devices.seats ≡ self.seats }
@@ -59,7 +54,7 @@ impl<D: Disk, N: ServiceNaming> LogService<D, N> {
     {
         let LogService {
             ring,
-            hand,
+            chain_ring,
             consumer,
             device,
             regions: _,
@@ -78,13 +73,13 @@ impl<D: Disk, N: ServiceNaming> LogService<D, N> {
             synced,
             broken: _,
         } = device.close(devices);
-        settle_items(rt, &ring, &passes, &hand, &mut mover, &mut committer);
+        settle_items(rt, &ring, &passes, &chain_ring, &mut mover, &mut committer);
         let (items, pass, mut idle) = mover.into_passes();
         idle.put_back(pass);
-        settle_loads(rt, &hand, &idle, &mut committer);
-        let (device, loads) = committer.into_parts();
+        settle_chains(rt, &chain_ring, &idle, &mut committer);
+        let (device, chains) = committer.into_parts();
         ring.close(passes, items);
-        hand.close(idle, loads);
+        chain_ring.close(idle, chains);
         let broken = device.broken();
         ServiceClosed {
             disk: device.into_disk(),

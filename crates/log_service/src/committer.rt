@@ -1,19 +1,19 @@
-//! The device's half: what commits loads.
+//! The device's half: what commits chains.
 ghost use Rattle.std.specs.Prelude.{◌≡◌, ◌<◌, ◌≤◌, ◌-◌, ℕ, length, get_or, IsTrue, slice_index};
 ghost use Rattle.crossbeam_queue.specs.Passes.{view};
 ghost use Rattle.disk_images.specs.Crash.{Since};
 ghost use Rattle.disk_images.specs.Calls.{HasCause};
-ghost use Rattle.log_ledger.specs.Books.{IsServed};
+ghost use Rattle.log_ledger.specs.Numbers.{IsServed};
 ghost use Rattle.log_ledger.specs.History.{History};
-ghost use Rattle.log_device.specs.Whole.{IsBroken, IsIdle, disk_of, log_of, books_of};
-ghost use Rattle.log_service.specs.Loads.{all_trucks};
+ghost use Rattle.log_device.specs.Whole.{IsBroken, IsIdle, disk_of, log_of, numbers_of};
+ghost use Rattle.log_service.specs.Chains.{all_trucks};
 ghost use Rattle.log_service.specs.Numbers.{AreStoredSynced};
 ghost use Rattle.append_ring.specs.Rules.{base_of};
 ghost use Rattle.log_service.specs.Trucks.{come_to};
 ghost use Rattle.log_service.specs.Halves.{Stands, Fell, RecoversHeld};
 ghost use Rattle.log_service.specs.Moments.{GoesOnFrom};
 
-use crate::load::Load;
+use crate::chain::FrameChain;
 use crate::name::ServiceNaming;
 use append_ring::ConsumerPass;
 use disk_images::Disk;
@@ -21,21 +21,21 @@ use log_berth::Ware;
 use log_device::Device;
 use std::marker::PhantomData;
 
-/// The device, and the pass that pops loads.
+/// The device, and the pass that pops chains.
 pub struct DeviceHalf<D: Disk, N: ServiceNaming> {
     pub(crate) device: Device<D>,
-    pub(crate) consumer: ConsumerPass<Load>,
+    pub(crate) consumer: ConsumerPass<FrameChain>,
     pub(crate) regions: u32,
     pub(crate) of: PhantomData<N>,
-    ghost from: { (consumer.pass.table_id ≡ N.hand) × ((view consumer.pass).lasts ≡ N.lasts) },
+    ghost from: { (consumer.pass.table_id ≡ N.chain_ring) × ((view consumer.pass).lasts ≡ N.lasts) },
     ghost all: { (regions ≡ length N.lasts) × (regions ≤ 64) },
-    ghost served: { (r : ℕ) → 0 < r → r ≤ length N.lasts → IsServed (books_of device) r },
+    ghost served: { (r : ℕ) → 0 < r → r ≤ length N.lasts → IsServed (numbers_of device) r },
     ghost idle: { IsIdle (log_of device) },
     // All that was drawn is committed.
     ghost drawn: { (IsBroken device → ⊥) → (r : ℕ) → 0 < r → r ≤ length N.lasts
-        → get_or (books_of device).drawn r 0 ≡ come_to (base_of N.lasts) (all_trucks (view consumer.pass).popped) r },
-    ghost synced: { (IsBroken device → ⊥) → (books_of device).synced ≡ (books_of device).drawn },
-    ghost stored: { AreStoredSynced (books_of device) },
+        → get_or (numbers_of device).drawn r 0 ≡ come_to (base_of N.lasts) (all_trucks (view consumer.pass).popped) r },
+    ghost synced: { (IsBroken device → ⊥) → (numbers_of device).synced ≡ (numbers_of device).drawn },
+    ghost stored: { AreStoredSynced (numbers_of device) },
     // While the device isn't broken, all that was popped is committed.
     ghost stands: { IsTrue D.told → (IsBroken device → ⊥)
         → ∥ ((h : History) × Stands N.begun N.lasts device (D.view (disk_of device)) (all_trucks (view consumer.pass).popped) h) ∥₁ },
@@ -60,11 +60,11 @@ impl<D: Disk + Drop, N: ServiceNaming> Drop for DeviceHalf<D, N> {
 }
 
 impl<D: Disk, N: ServiceNaming> Ware for DeviceHalf<D, N> {
-    ghost use Rattle.log_device.specs.Whole.{books_of};
+    ghost use Rattle.log_device.specs.Whole.{numbers_of};
     ghost use Rattle.log_service.specs.Numbers.{told_numbers};
     ghost use Rattle.log_service.specs.Halves.{broken_of};
 
-    ghost numbers = { λ h. told_numbers h.regions (books_of h.device) };
+    ghost numbers = { λ h. told_numbers h.regions (numbers_of h.device) };
 
     ghost is_broken = { λ h. broken_of h.device };
 
@@ -90,7 +90,7 @@ impl<D: Disk, N: ServiceNaming> DeviceHalf<D, N> {
     /// The synced number of a region.
     pub(crate) fn synced(&self, region: u32) -> u64
         requires { region ≤ 64 }
-        ensures { result ≡ get_or (books_of self.now.device).synced region 0 }
+        ensures { result ≡ get_or (numbers_of self.now.device).synced region 0 }
     {
         self.device.synced(region)
     }
@@ -108,8 +108,8 @@ impl<D: Disk, N: ServiceNaming> DeviceHalf<D, N> {
         device
     }
 
-    /// The device, and the pass that pops loads.
-    pub(crate) fn into_parts(self) -> (Device<D>, ConsumerPass<Load>)
+    /// The device, and the pass that pops chains.
+    pub(crate) fn into_parts(self) -> (Device<D>, ConsumerPass<FrameChain>)
         ensures { (result.0 ≡ self.device) × (result.1 ≡ self.consumer) }
     {
         let DeviceHalf {

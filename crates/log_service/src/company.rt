@@ -26,7 +26,7 @@ pub(crate) struct Company {
     // On what the committer sleeps, and whether it does.
     word: AtomicU64,
     sleeps: AtomicU64,
-    // Whether an item was found that doesn't fit the load, so that no company can come in.
+    // Whether an item was found that doesn't fit the chain, so that no company can come in.
     full: AtomicU64,
 }
 
@@ -73,7 +73,7 @@ impl Company {
         }
     }
 
-    /// Ends a committer's wait, since the next item doesn't fit the load.
+    /// Ends a committer's wait, since the next item doesn't fit the chain.
     pub(crate) fn hurry(&self) {
         self.full.store(1, Ordering::SeqCst);
         self.wake();

@@ -1,15 +1,15 @@
 //! What was moved is committed, by who has both turns.
 ghost use Rattle.std.specs.Prelude.{◌≡◌, ◌<◌, ◌≤◌, ◌+◌, ◌⊎◌, [], length, get_or, IsTrue, IsFalse};
 ghost use Rattle.crossbeam_queue.specs.Passes.{view};
-ghost use Rattle.log_device.specs.Whole.{IsBroken, books_of};
+ghost use Rattle.log_device.specs.Whole.{IsBroken, numbers_of};
 ghost use Rattle.log_service.specs.Numbers.{TellsLater};
 ghost use Rattle.log_service.specs.Moves.{WasEmpty, WasFull};
 
+use crate::chain::FrameChain;
 use crate::committer::DeviceHalf;
 use crate::committing::Commit;
 use crate::consumer::ConsumerHalf;
 use crate::item::Item;
-use crate::load::Load;
 use crate::moving::Moves;
 use crate::name::ServiceNaming;
 use append_ring::Ring;
@@ -21,16 +21,16 @@ use std::thread;
 const MOST: u64 = 1024;
 
 impl<N: ServiceNaming> ConsumerHalf<N> {
-    /// Moves items until the ring was empty at one moment, or 1,024 were moved. A load that they don't fit is committed, and the moves go
+    /// Moves items until the ring was empty at one moment, or 1,024 were moved. A chain that they don't fit is committed, and the moves go
     /// on. True where the device broke.
     pub(crate) fn move_all<D: Disk, R: Wait>(
         &mut self,
         rt: &R,
         ring: &Ring<Item>,
-        hand: &Ring<Load>,
+        chain_ring: &Ring<FrameChain>,
         committer: &mut DeviceHalf<D, N>,
     ) -> bool
-        requires rings { (ring.now.id ≡ N.ring) × (hand.now.id ≡ N.hand) }
+        requires rings { (ring.now.id ≡ N.ring) × (chain_ring.now.id ≡ N.chain_ring) }
         requires unbroken { IsBroken committer.old.device → ⊥ }
         ensures failed { IsTrue result → IsBroken committer.new.device }
         ensures unbroken { IsFalse result → IsBroken committer.new.device → ⊥ }
@@ -50,7 +50,7 @@ impl<N: ServiceNaming> ConsumerHalf<N> {
                     }
                 }
                 Moves::StageFull => {
-                    if self.drain(rt, hand, committer) {
+                    if self.drain(rt, chain_ring, committer) {
                         return true;
                     }
                 }
@@ -59,28 +59,28 @@ impl<N: ServiceNaming> ConsumerHalf<N> {
         unreachable!()
     }
 
-    /// Commits the loads in the ring of loads until it was empty at one moment, the own load among them. True where the device broke.
+    /// Commits the chains in the ring of chains until it was empty at one moment, the own chain among them. True where the device broke.
     pub(crate) fn drain<D: Disk, R: Wait>(
         &mut self,
         rt: &R,
-        hand: &Ring<Load>,
+        chain_ring: &Ring<FrameChain>,
         committer: &mut DeviceHalf<D, N>,
     ) -> bool
-        requires hand { hand.now.id ≡ N.hand }
+        requires chain_ring { chain_ring.now.id ≡ N.chain_ring }
         requires unbroken { IsBroken committer.old.device → ⊥ }
         ensures failed { IsTrue result → IsBroken committer.new.device }
         ensures unbroken { IsFalse result → IsBroken committer.new.device → ⊥ }
-        ensures done { IsFalse result → (self.new.load ≡ []) × WasFull 0 (view committer.new.consumer.pass) }
+        ensures done { IsFalse result → (self.new.chain ≡ []) × WasFull 0 (view committer.new.consumer.pass) }
         ensures later { TellsLater committer.old.regions committer.old.device committer.new.regions committer.new.device }
         ensures same { (committer.new.regions ≡ committer.old.regions) × (self.new.held ≡ self.old.held)
             × (view self.new.consumer.pass ≡ view self.old.consumer.pass) }
     {
-        for _load in rt.forever() {
-            self.push_load(rt, hand);
-            match committer.commit_one(rt, hand) {
+        for _chain in rt.forever() {
+            self.push_chain(rt, chain_ring);
+            match committer.commit_one(rt, chain_ring) {
                 Commit::Committed(_) => {}
                 Commit::Clean => {
-                    if self.load.len() == 0 {
+                    if self.chain.len() == 0 {
                         return false;
                     }
                 }
@@ -90,22 +90,22 @@ impl<N: ServiceNaming> ConsumerHalf<N> {
         unreachable!()
     }
 
-    /// Moves items and commits loads until the region's synced number is at or above `upto`. True where the device broke.
+    /// Moves items and commits chains until the region's synced number is at or above `upto`. True where the device broke.
     pub(crate) fn move_up_to<D: Disk, R: Wait>(
         &mut self,
         rt: &R,
         ring: &Ring<Item>,
-        hand: &Ring<Load>,
+        chain_ring: &Ring<FrameChain>,
         committer: &mut DeviceHalf<D, N>,
         region: u32,
         upto: u64,
     ) -> bool
-        requires rings { (ring.now.id ≡ N.ring) × (hand.now.id ≡ N.hand) }
+        requires rings { (ring.now.id ≡ N.ring) × (chain_ring.now.id ≡ N.chain_ring) }
         requires unbroken { IsBroken committer.old.device → ⊥ }
         requires region { region ≤ 64 }
         ensures failed { IsTrue result → IsBroken committer.new.device }
         ensures unbroken { IsFalse result → IsBroken committer.new.device → ⊥ }
-        ensures done { IsFalse result → upto ≤ get_or (books_of committer.new.device).synced region 0 }
+        ensures done { IsFalse result → upto ≤ get_or (numbers_of committer.new.device).synced region 0 }
         ensures grows { length (view self.old.consumer.pass).popped ≤ length (view self.new.consumer.pass).popped }
         ensures later { TellsLater committer.old.regions committer.old.device committer.new.regions committer.new.device }
         ensures same { committer.new.regions ≡ committer.old.regions }
@@ -115,8 +115,8 @@ impl<N: ServiceNaming> ConsumerHalf<N> {
                 return false;
             }
             let _moves = self.move_items(rt, ring);
-            self.push_load(rt, hand);
-            match committer.commit_one(rt, hand) {
+            self.push_chain(rt, chain_ring);
+            match committer.commit_one(rt, chain_ring) {
                 Commit::Committed(_) => {}
                 Commit::Clean => thread::yield_now(),
                 Commit::WriteFault => return true,

@@ -3,7 +3,7 @@ ghost use Rattle.std.specs.Prelude.{◌≡◌, ◌≤◌, ◌<◌, ◌+◌, ◌�
 ghost use Rattle.std.specs.Option.{option_map};
 ghost use Rattle.crossbeam_queue.specs.Passes.{view};
 ghost use Rattle.disk_images.specs.Calls.{Rose};
-ghost use Rattle.log_device.specs.Whole.{IsBroken, disk_of, books_of};
+ghost use Rattle.log_device.specs.Whole.{IsBroken, disk_of, numbers_of};
 ghost use Rattle.log_service.specs.Numbers.{TellsLater};
 ghost use Rattle.log_service.specs.Moves.{WasEmpty, WasFull};
 ghost use Rattle.log_service.specs.Places.{IsSeatOf, IsLaterSeat};
@@ -11,10 +11,10 @@ ghost use Rattle.log_service.specs.Turns.{HasMovedAll, SawAllLoads};
 ghost use Rattle.log_service.specs.Ends.{IsFlushedTo, HasNoneAbove, HasFlushed, HadNothing};
 
 use crate::archived::flush_archived;
+use crate::chain::FrameChain;
 use crate::committer::DeviceHalf;
 use crate::consumer::ConsumerHalf;
 use crate::item::Item;
-use crate::load::Load;
 use crate::name::ServiceNaming;
 use crate::seats::LogSeat;
 use crate::service::LogService;
@@ -38,9 +38,10 @@ impl<D: Disk, N: ServiceNaming> DeviceHalf<D, N> {
         requires region { (0 < region) × (region ≤ self.old.regions) }
         requires family { IfSome family (λ f. (1 ≤ length f.now) × (length f.now ≤ 127)) }
         ensures flushed { IfOk result (λ n. IsFlushedTo region (option_map (λ f. f.now) family.entry) n
-            (books_of self.old.device) (books_of self.new.device)) }
+            (numbers_of self.old.device) (numbers_of self.new.device)) }
         // Nothing comes where, after the commit, the family has no cell that isn't flushed.
-        ensures nothing { (n : ℕ) → result ≡ Err (DeviceFlush.Nothing n) → HasNoneAbove region (option_map (λ f. f.now) family.entry) n (books_of self.new.device) }
+        ensures nothing { (n : ℕ) → result ≡ Err (DeviceFlush.Nothing n)
+            → HasNoneAbove region (option_map (λ f. f.now) family.entry) n (numbers_of self.new.device) }
         ensures broken { IsErrOf result DeviceFlush.WriteFault ↔ IsBroken self.new.device }
         ensures fault { IsErrOf result DeviceFlush.WriteFault → Rose (D.faults (disk_of self.old.device)) (D.faults (disk_of self.new.device)) }
         ensures later { TellsLater self.old.regions self.old.device self.new.regions self.new.device }
@@ -57,36 +58,36 @@ impl<N: ServiceNaming> ConsumerHalf<N> {
         &mut self,
         rt: &R,
         alloc: Global,
-        rings: (&Ring<Item>, &Ring<Load>),
+        rings: (&Ring<Item>, &Ring<FrameChain>),
         committer: &mut DeviceHalf<D, N>,
         region: u32,
         upto: u64,
         family: Option<&[u8]>,
     ) -> Result<u64, DeviceFlush>
-        requires rings { (rings.0.now.id ≡ N.ring) × (rings.1.now.id ≡ N.hand) }
+        requires rings { (rings.0.now.id ≡ N.ring) × (rings.1.now.id ≡ N.chain_ring) }
         requires unbroken { IsBroken committer.old.device → ⊥ }
         requires region { (0 < region) × (region ≤ committer.old.regions) }
         requires family { IfSome family (λ f. (1 ≤ length f.now) × (length f.now ≤ 127)) }
         ensures flushed { IfOk result
-            (λ n. (upto ≤ n) × IsFlushedTo region (option_map (λ f. f.now) family.entry) n (books_of committer.old.device) (books_of committer.new.device)) }
+            (λ n. (upto ≤ n) × IsFlushedTo region (option_map (λ f. f.now) family.entry) n (numbers_of committer.old.device) (numbers_of committer.new.device)) }
         ensures nothing { (n : ℕ) → result ≡ Err (DeviceFlush.Nothing n)
-            → (upto ≤ n) × HasNoneAbove region (option_map (λ f. f.now) family.entry) n (books_of committer.new.device) }
+            → (upto ≤ n) × HasNoneAbove region (option_map (λ f. f.now) family.entry) n (numbers_of committer.new.device) }
         ensures broken { IsErrOf result DeviceFlush.WriteFault ↔ IsBroken committer.new.device }
         ensures later { TellsLater committer.old.regions committer.old.device committer.new.regions committer.new.device }
-        // The loads in the ring were committed until it was empty at one moment, and the own load with them.
-        ensures drained { (IsBroken committer.new.device → ⊥) → (self.new.load ≡ []) × WasFull 0 (view committer.new.consumer.pass) }
+        // The chains in the ring were committed until it was empty at one moment, and the own chain with them.
+        ensures drained { (IsBroken committer.new.device → ⊥) → (self.new.chain ≡ []) × WasFull 0 (view committer.new.consumer.pass) }
         ensures moved { (IsBroken committer.new.device → ⊥) → WasEmpty (view self.new.consumer.pass)
             ⊎ (length (view self.old.consumer.pass).popped + 1023 ≤ length (view self.new.consumer.pass).popped) }
         ensures same { committer.new.regions ≡ committer.old.regions }
     {
-        let (ring, hand) = rings;
-        if self.move_up_to(rt, ring, hand, committer, region, upto) {
+        let (ring, chain_ring) = rings;
+        if self.move_up_to(rt, ring, chain_ring, committer, region, upto) {
             return Err(DeviceFlush::WriteFault);
         }
-        if self.move_all(rt, ring, hand, committer) {
+        if self.move_all(rt, ring, chain_ring, committer) {
             return Err(DeviceFlush::WriteFault);
         }
-        if self.drain(rt, hand, committer) {
+        if self.drain(rt, chain_ring, committer) {
             return Err(DeviceFlush::WriteFault);
         }
         committer.flush(alloc, region, family)
@@ -129,7 +130,7 @@ impl<D: Disk, N: ServiceNaming> LogService<D, N> {
             self.tell_turn();
             return Err(DeviceFlush::WriteFault);
         }
-        let rings = (&self.ring, &self.hand);
+        let rings = (&self.ring, &self.chain_ring);
         let flushed = mover
             .ware
             .flush(rt, alloc, rings, &mut turn.ware, region, upto, family);

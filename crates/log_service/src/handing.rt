@@ -4,9 +4,9 @@ ghost use Rattle.crossbeam_queue.specs.Passes.{view};
 ghost use Rattle.log_service.specs.Moves.{bench_of, HasHanded, WasFull};
 ghost use Rattle.log_service.specs.Places.{FoundTaken, HadTurn, LastFoundTaken, LastHadTurn};
 
+use crate::chain::FrameChain;
 use crate::consumer::ConsumerHalf;
 use crate::item::Item;
-use crate::load::Load;
 use crate::moving::{MOST, Moves};
 use crate::name::ServiceNaming;
 use crate::service::LogService;
@@ -23,35 +23,37 @@ const TRIES: u32 = 1000;
 const MOVES: u64 = 16;
 
 impl<N: ServiceNaming> ConsumerHalf<N> {
-    /// Pushes the load into the ring of loads, unless it has no truck or that ring is full. It takes no memory.
-    pub(crate) fn push_load<R: Wait>(&mut self, rt: &R, hand: &Ring<Load>)
-        requires hand { hand.now.id ≡ N.hand }
-        ensures handed { HasHanded hand.now.capacity (view self.old.hand.pass) (bench_of self.old) (bench_of self.new) }
+    /// Pushes the chain into the ring of chains, unless it has no truck or that ring is full. It takes no memory.
+    pub(crate) fn push_chain<R: Wait>(&mut self, rt: &R, chain_ring: &Ring<FrameChain>)
+        requires chain_ring { chain_ring.now.id ≡ N.chain_ring }
+        ensures handed { HasHanded chain_ring.now.capacity (view self.old.chain_key.pass) (bench_of self.old) (bench_of self.new) }
         ensures same { view self.new.consumer.pass ≡ view self.old.consumer.pass }
     {
-        if self.load.len() == 0 {
+        if self.chain.len() == 0 {
             return;
         }
-        let load = mem::replace(&mut self.load, Load::new());
-        match hand.push(rt, &mut self.hand, load) {
+        let chain = mem::replace(&mut self.chain, FrameChain::new());
+        match chain_ring.push(rt, &mut self.chain_key, chain) {
             Ok(()) => self.asked = false,
-            Err(Full { item }) => self.load = item,
+            Err(Full { item }) => self.chain = item,
         }
     }
 
-    /// The same where a sync request was moved since the last hand-over, or an item is held. Then the load has no truck, or neither is
-    /// so, or the ring of loads held its capacity at a moment.
-    pub(crate) fn hand_over<R: Wait>(&mut self, rt: &R, hand: &Ring<Load>)
-        requires hand { hand.now.id ≡ N.hand }
-        ensures handed { (self.new.load ≡ []) ⊎ (((self.new.asked ≡ false) × (self.new.held ≡ None)) ⊎ WasFull hand.now.capacity (view self.old.hand.pass)) }
+    /// The same where a sync request was moved since the last hand-over, or an item is held. Then the chain has no truck, or neither is
+    /// so, or the ring of chains held its capacity at a moment.
+    pub(crate) fn hand_over<R: Wait>(&mut self, rt: &R, chain_ring: &Ring<FrameChain>)
+        requires chain_ring { chain_ring.now.id ≡ N.chain_ring }
+        ensures handed { (self.new.chain ≡ []) ⊎ (((self.new.asked ≡ false) × (self.new.held ≡ None))
+            ⊎ WasFull chain_ring.now.capacity (view self.old.chain_key.pass)) }
         ensures same { (view self.new.consumer.pass ≡ view self.old.consumer.pass) × (self.new.held ≡ self.old.held) }
-        ensures kept { self.old.asked ≡ false → self.old.held ≡ None → (self.new.load ≡ self.old.load) × (view self.new.hand.pass ≡ view self.old.hand.pass) }
+        ensures kept { self.old.asked ≡ false → self.old.held ≡ None → (self.new.chain ≡ self.old.chain)
+            × (view self.new.chain_key.pass ≡ view self.old.chain_key.pass) }
     {
         if self.asked || self.held.is_some() {
-            self.push_load(rt, hand);
+            self.push_chain(rt, chain_ring);
         }
     }
-    /// Moves what is in the ring, as far as it fits the load, and so all that was pushed before. It ends after 1,024 items, as many as the ring holds.
+    /// Moves what is in the ring, as far as it fits the chain, and so all that was pushed before. It ends after 1,024 items, as many as the ring holds.
     pub(crate) fn move_pushed<R: Wait>(&mut self, rt: &R, ring: &Ring<Item>)
         requires { ring.now.id ≡ N.ring }
     {
@@ -73,9 +75,9 @@ impl<N: ServiceNaming> ConsumerHalf<N> {
 }
 
 impl<D: Disk, N: ServiceNaming> LogService<D, N> {
-    /// Hands the load over where a sync request was moved since the last time or an item is held. False where another seat has the consumer's
+    /// Hands the chain over where a sync request was moved since the last time or an item is held. False where another seat has the consumer's
     /// turn at each of many tries: it has it for a moment only, unless it has lost its processor.
-    pub(crate) fn hand_load<R: Wait>(&self, rt: &R, seat: &mut BerthSeat, moves: bool) -> bool
+    pub(crate) fn hand_chain<R: Wait>(&self, rt: &R, seat: &mut BerthSeat, moves: bool) -> bool
         requires seat { seat.old.berth ≡ self.now.consumer }
         requires no_turn { seat.old.knows.turn ≡ false }
         ensures seat { (seat.new.berth ≡ seat.old.berth) × (seat.new.knows.turn ≡ false) }
@@ -105,7 +107,7 @@ impl<D: Disk, N: ServiceNaming> LogService<D, N> {
         if moves {
             turn.ware.move_pushed(rt, &self.ring);
         }
-        turn.ware.hand_over(rt, &self.hand);
+        turn.ware.hand_over(rt, &self.chain_ring);
         self.company.serve(turn.ware.take_requests());
         self.consumer.give(seat, turn);
         true

@@ -43,7 +43,7 @@ impl<D: Disk, N: ServiceNaming> LogService<D, N> {
                 Helped::Nothing,
             (_, SyncTurn::Busy) => Helped::Busy,
             (ConsumerTurn::Empty, SyncTurn::Clean) => Helped::Nothing,
-            // Another seat moved items, or handed over the load that they did not fit.
+            // Another seat moved items, or handed over the chain that they did not fit.
             (ConsumerTurn::Busy | ConsumerTurn::StageFull, SyncTurn::Clean) => Helped::Something,
         }
     }

@@ -1,12 +1,13 @@
-//! The log service: handlers push entries and sync requests, and whoever waits moves them into loads and commits loads.
+//! The log service: handlers push entries and sync requests, and whoever waits moves them into chains and commits chains.
 //!
-//! The consumer's half pops items into a load and hands loads over, and the device's half commits them. Each half lies in a berth of its
-//! own, so that one thread moves items while another one commits. Kept true: the entries of the loads handed over, of the own load and a
+//! The consumer's half pops items into a chain and hands chains over, and the device's half commits them. Each half lies in a berth of its
+//! own, so that one thread moves items while another one commits. Kept true: the entries of the chains handed over, of the own chain and a
 //! held one are the appends popped, in order; while the device isn't broken, what was committed since the start are the entries of the
-//! loads popped. No word is raised above what is committed. Nothing is said of who takes a turn, nor that a wait ends.
+//! chains popped. No word is raised above what is committed. Nothing is said of who takes a turn, nor that a wait ends.
 #![tactic(auto)]
 
 mod archived;
+mod chain;
 mod closing;
 mod committer;
 mod committing;
@@ -18,7 +19,6 @@ mod flushing;
 mod handing;
 mod helping;
 mod item;
-mod load;
 mod looking;
 mod moving;
 mod name;
@@ -34,13 +34,13 @@ mod starting;
 mod turning;
 mod waiting;
 
+pub use chain::FrameChain;
 pub use closing::ServiceClosed;
 pub use committer::DeviceHalf;
 pub use committing::Commit;
 pub use consumer::ConsumerHalf;
 pub use helping::Helped;
 pub use item::Item;
-pub use load::Load;
 pub use moving::Moves;
 pub use name::ServiceNaming;
 pub use seats::{LogSeat, LogSeats};

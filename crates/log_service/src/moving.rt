@@ -5,9 +5,9 @@ ghost use Rattle.log_service.specs.declared.item.Item.{Item as TheItem};
 ghost use Rattle.log_service.specs.Items.{appended, held_in, is_sync};
 ghost use Rattle.log_service.specs.Moves.{bench_of, HasMoved, IsTooLong, WasEmpty};
 
+use crate::chain::{FrameChain, len_of};
 use crate::consumer::ConsumerHalf;
 use crate::item::Item;
-use crate::load::{Load, len_of};
 use crate::name::ServiceNaming;
 use append_ring::Ring;
 use std::sync::Wait;
@@ -22,7 +22,7 @@ pub enum Moves {
     Moved(u64),
     /// The ring was empty.
     Empty,
-    /// The next item doesn't fit the load.
+    /// The next item doesn't fit the chain.
     StageFull,
 }
 
@@ -35,7 +35,7 @@ impl<N: ServiceNaming> ConsumerHalf<N> {
             × ((view self.new.consumer.pass).popped ≡ (view self.old.consumer.pass).popped ++ more) × (held_in self.new.held ≡ held_in self.old.held ++ more) }
         ensures empty { IsFalse result → (self.old.held ≡ None) × (self.new.held ≡ None)
             × ((view self.new.consumer.pass) ≡ (view self.old.consumer.pass)) × WasEmpty (view self.old.consumer.pass) }
-        ensures same { (self.new.load ≡ self.old.load) × (self.new.asked ≡ self.old.asked) × (view self.new.hand.pass ≡ view self.old.hand.pass) }
+        ensures same { (self.new.chain ≡ self.old.chain) × (self.new.asked ≡ self.old.asked) × (view self.new.chain_key.pass ≡ view self.old.chain_key.pass) }
     {
         if self.held.is_some() {
             return true;
@@ -51,10 +51,10 @@ impl<N: ServiceNaming> ConsumerHalf<N> {
     fn put(&mut self) -> bool
         requires { IsSome self.old.held }
         ensures moved { IsTrue result → (x : TheItem) × (self.old.held ≡ Some x) × (self.new.held ≡ None)
-            × (self.new.load ≡ self.old.load ++ appended (x ∷ [])) × (self.new.asked ≡ (self.old.asked || is_sync x)) }
-        ensures full { IsFalse result → (self.new.held ≡ self.old.held) × (self.new.load ≡ self.old.load)
+            × (self.new.chain ≡ self.old.chain ++ appended (x ∷ [])) × (self.new.asked ≡ (self.old.asked || is_sync x)) }
+        ensures full { IsFalse result → (self.new.held ≡ self.old.held) × (self.new.chain ≡ self.old.chain)
             × (self.new.asked ≡ self.old.asked) × IsTooLong (bench_of self.new) }
-        ensures same { ((view self.new.consumer.pass) ≡ (view self.old.consumer.pass)) × (view self.new.hand.pass ≡ view self.old.hand.pass) }
+        ensures same { ((view self.new.consumer.pass) ≡ (view self.old.consumer.pass)) × (view self.new.chain_key.pass ≡ view self.old.chain_key.pass) }
     {
         let Some(item) = self.held.take() else {
             unreachable!()
@@ -69,18 +69,18 @@ impl<N: ServiceNaming> ConsumerHalf<N> {
                 true
             }
             Item::Append(truck) => {
-                if self.load.is_full_for(len_of(&truck)) {
+                if self.chain.is_full_for(len_of(&truck)) {
                     self.held = Some(Item::Append(truck));
                     false
                 } else {
-                    self.load.push(truck);
+                    self.chain.push(truck);
                     true
                 }
             }
         }
     }
 
-    /// Moves up to 64 items: first the held one, then popped ones. An append goes into the load, and a sync request is noted.
+    /// Moves up to 64 items: first the held one, then popped ones. An append goes into the chain, and a sync request is noted.
     pub(crate) fn move_items<R: Wait>(&mut self, rt: &R, ring: &Ring<Item>) -> Moves
         requires { ring.now.id ≡ N.ring }
         ensures moved { (n : ℕ) → result ≡ Moves.Moved n → (1 ≤ n) × (n ≤ 64)

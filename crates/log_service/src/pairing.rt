@@ -2,7 +2,7 @@
 ghost use Rattle.std.specs.Prelude.{◌≡◌, true, false, []};
 ghost use Rattle.log_berth.specs.Words.{NoMore};
 ghost use Rattle.log_berth.specs.Turns.{turn_id};
-ghost use Rattle.log_device.specs.Whole.{books_of};
+ghost use Rattle.log_device.specs.Whole.{numbers_of};
 ghost use Rattle.log_service.specs.Halves.{broken_of};
 ghost use Rattle.log_service.specs.Numbers.{told_numbers, HasSeen};
 ghost use Rattle.log_service.specs.Places.{IsSeatOf, IsLaterSeat};
@@ -32,7 +32,7 @@ impl<D: Disk, N: ServiceNaming> LogService<D, N> {
             × (turn_id result.0 ≡ self.now.consumer) × (turn_id result.1 ≡ self.now.device) }
         ensures consumer { (seat.new.consumer.knows.broken ≡ false) × NoMore seat.new.consumer.knows.seen [] }
         ensures device { (broken_of result.1.ware.device ≡ seat.new.device.knows.broken)
-            × NoMore seat.new.device.knows.seen (told_numbers result.1.ware.regions (books_of result.1.ware.device)) }
+            × NoMore seat.new.device.knows.seen (told_numbers result.1.ware.regions (numbers_of result.1.ware.device)) }
         ensures later { IsLaterSeat seat.old seat.new }
     {
         for _try in rt.forever() {
@@ -64,11 +64,11 @@ impl<D: Disk, N: ServiceNaming> LogService<D, N> {
             × (turn_id mover ≡ self.now.consumer) × (turn_id turn ≡ self.now.device) }
         requires consumer { (seat.old.consumer.knows.broken ≡ false) × NoMore seat.old.consumer.knows.seen [] }
         requires whole { seat.old.device.knows.broken ≡ false }
-        requires device { NoMore seat.old.device.knows.seen (told_numbers turn.ware.regions (books_of turn.ware.device)) }
+        requires device { NoMore seat.old.device.knows.seen (told_numbers turn.ware.regions (numbers_of turn.ware.device)) }
         ensures seat { IsSeatOf self.now seat.new }
         ensures later { IsLaterSeat seat.old seat.new }
         ensures broken { broken_of turn.ware.device ≡ seat.new.device.knows.broken }
-        ensures saw { seat.new.device.knows.broken ≡ false → HasSeen self.now.regions seat.new.device.knows (books_of turn.ware.device) }
+        ensures saw { seat.new.device.knows.broken ≡ false → HasSeen self.now.regions seat.new.device.knows (numbers_of turn.ware.device) }
     {
         let mut mover = mover;
         self.company.serve(mover.ware.take_requests());

@@ -2,7 +2,7 @@
 ghost use Rattle.std.specs.Prelude.{◌≡◌, true};
 ghost use Rattle.log_berth.specs.Words.{NoMore, without_turn};
 ghost use Rattle.log_berth.specs.Turns.{turn_id};
-ghost use Rattle.log_device.specs.Whole.{books_of};
+ghost use Rattle.log_device.specs.Whole.{numbers_of};
 ghost use Rattle.log_service.specs.Halves.{broken_of};
 ghost use Rattle.log_service.specs.Numbers.{told_numbers};
 
@@ -52,7 +52,7 @@ impl<D: Disk, N: ServiceNaming> LogService<D, N> {
     pub(crate) fn end_turn(&self, seat: &mut BerthSeat, turn: Turn<DeviceHalf<D, N>>)
         requires seat { seat.old.berth ≡ self.now.device }
         requires turn { (seat.old.knows.turn ≡ true) × (turn_id turn ≡ self.now.device) }
-        requires durable { NoMore seat.old.knows.seen (told_numbers turn.ware.regions (books_of turn.ware.device)) }
+        requires durable { NoMore seat.old.knows.seen (told_numbers turn.ware.regions (numbers_of turn.ware.device)) }
         requires broken { broken_of turn.ware.device ≡ seat.old.knows.broken }
         ensures { (seat.new.berth ≡ seat.old.berth) × (seat.new.knows ≡ without_turn seat.old.knows) }
     {

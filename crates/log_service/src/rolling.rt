@@ -3,7 +3,7 @@ ghost use Rattle.std.specs.Prelude.{◌≡◌, ◌≤◌, ◌<◌, ◌+◌, ◌�
 ghost use Rattle.crossbeam_queue.specs.Passes.{view};
 ghost use Rattle.disk_images.specs.Calls.{Rose};
 ghost use Rattle.log_file.specs.Open.{OpenLog};
-ghost use Rattle.log_device.specs.Whole.{IsBroken, disk_of, log_of, books_of};
+ghost use Rattle.log_device.specs.Whole.{IsBroken, disk_of, log_of, numbers_of};
 ghost use Rattle.log_service.specs.Numbers.{TellsLater, seen_synced, seen_closed};
 ghost use Rattle.log_service.specs.Moves.{WasEmpty, WasFull};
 ghost use Rattle.log_service.specs.Places.{IsSeatOf, IsLaterSeat};
@@ -11,10 +11,10 @@ ghost use Rattle.log_service.specs.Turns.{HasMovedAll, SawAllLoads};
 ghost use Rattle.log_service.specs.Ends.{HasRolled, HasNoEntry};
 
 use crate::archived::roll_archived;
+use crate::chain::FrameChain;
 use crate::committer::DeviceHalf;
 use crate::consumer::ConsumerHalf;
 use crate::item::Item;
-use crate::load::Load;
 use crate::name::ServiceNaming;
 use crate::seats::LogSeat;
 use crate::service::LogService;
@@ -34,8 +34,8 @@ impl<D: Disk, N: ServiceNaming> DeviceHalf<D, N> {
         ensures none { (file : OpenLog) (n : ℕ) → log_of self.old.device ≡ Some file → result ≡ Err (RollRefusal.NothingToRoll n) → HasNoEntry file n }
         ensures empty { (file : OpenLog) → log_of self.old.device ≡ Some file → file.entries + file.staged ≡ 0
             → (IsBroken self.new.device → ⊥) → result ≡ Err (RollRefusal.NothingToRoll file.name.number) }
-        ensures closed { OnOk result ((books_of self.new.device).closed ≡ (books_of self.new.device).synced) }
-        ensures nothing { (n : ℕ) → result ≡ Err (RollRefusal.NothingToRoll n) → (books_of self.new.device).closed ≡ (books_of self.new.device).synced }
+        ensures closed { OnOk result ((numbers_of self.new.device).closed ≡ (numbers_of self.new.device).synced) }
+        ensures nothing { (n : ℕ) → result ≡ Err (RollRefusal.NothingToRoll n) → (numbers_of self.new.device).closed ≡ (numbers_of self.new.device).synced }
         ensures broken { IsErrOf result RollRefusal.WriteFault ↔ IsBroken self.new.device }
         ensures fault { IsErrOf result RollRefusal.WriteFault → Rose (D.faults (disk_of self.old.device)) (D.faults (disk_of self.new.device)) }
         ensures later { TellsLater self.old.regions self.old.device self.new.regions self.new.device }
@@ -51,29 +51,29 @@ impl<N: ServiceNaming> ConsumerHalf<N> {
         &mut self,
         rt: &R,
         alloc: Global,
-        rings: (&Ring<Item>, &Ring<Load>),
+        rings: (&Ring<Item>, &Ring<FrameChain>),
         committer: &mut DeviceHalf<D, N>,
     ) -> Result<Rolled, RollRefusal>
-        requires rings { (rings.0.now.id ≡ N.ring) × (rings.1.now.id ≡ N.hand) }
+        requires rings { (rings.0.now.id ≡ N.ring) × (rings.1.now.id ≡ N.chain_ring) }
         requires unbroken { IsBroken committer.old.device → ⊥ }
         ensures rolled { IfOk result (λ rolled. (file : OpenLog) × HasRolled file rolled (log_of committer.new.device)) }
         ensures none { (n : ℕ) → result ≡ Err (RollRefusal.NothingToRoll n) → (file : OpenLog) × HasNoEntry file n }
-        ensures closed { OnOk result ((books_of committer.new.device).closed ≡ (books_of committer.new.device).synced) }
+        ensures closed { OnOk result ((numbers_of committer.new.device).closed ≡ (numbers_of committer.new.device).synced) }
         ensures nothing { (n : ℕ) → result ≡ Err (RollRefusal.NothingToRoll n)
-            → (books_of committer.new.device).closed ≡ (books_of committer.new.device).synced }
+            → (numbers_of committer.new.device).closed ≡ (numbers_of committer.new.device).synced }
         ensures broken { IsErrOf result RollRefusal.WriteFault ↔ IsBroken committer.new.device }
         ensures later { TellsLater committer.old.regions committer.old.device committer.new.regions committer.new.device }
-        // The loads in the ring were committed until it was empty at one moment, and the own load with them.
-        ensures drained { (IsBroken committer.new.device → ⊥) → (self.new.load ≡ []) × WasFull 0 (view committer.new.consumer.pass) }
+        // The chains in the ring were committed until it was empty at one moment, and the own chain with them.
+        ensures drained { (IsBroken committer.new.device → ⊥) → (self.new.chain ≡ []) × WasFull 0 (view committer.new.consumer.pass) }
         ensures moved { (IsBroken committer.new.device → ⊥) → WasEmpty (view self.new.consumer.pass)
             ⊎ (length (view self.old.consumer.pass).popped + 1023 ≤ length (view self.new.consumer.pass).popped) }
         ensures same { committer.new.regions ≡ committer.old.regions }
     {
-        let (ring, hand) = rings;
-        if self.move_all(rt, ring, hand, committer) {
+        let (ring, chain_ring) = rings;
+        if self.move_all(rt, ring, chain_ring, committer) {
             return Err(RollRefusal::WriteFault);
         }
-        if self.drain(rt, hand, committer) {
+        if self.drain(rt, chain_ring, committer) {
             return Err(RollRefusal::WriteFault);
         }
         committer.roll(alloc)
@@ -111,7 +111,7 @@ impl<D: Disk, N: ServiceNaming> LogService<D, N> {
             self.tell_turn();
             return Err(RollRefusal::WriteFault);
         }
-        let rings = (&self.ring, &self.hand);
+        let rings = (&self.ring, &self.chain_ring);
         let rolled = mover.ware.roll(rt, alloc, rings, &mut turn.ware);
         self.give_both(seat, mover, turn);
         rolled

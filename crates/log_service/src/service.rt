@@ -6,24 +6,24 @@ ghost use Rattle.append_ring.specs.Parts.{last_pushed};
 ghost use Rattle.log_service.specs.Items.{region_of, number_of, IsWholeItem};
 ghost use Rattle.log_service.specs.Moves.{IsGivenBack};
 
+use crate::chain::FrameChain;
 use crate::committer::DeviceHalf;
 use crate::company::{Commits, Company};
 use crate::consumer::ConsumerHalf;
 use crate::counting::{EventCount, Shows};
 use crate::item::Item;
-use crate::load::Load;
 use crate::name::ServiceNaming;
-use append_ring::{Full, Ring, RingPass};
+use append_ring::{Full, Ring, RingKey};
 use disk_images::Disk;
 use log_berth::Berth;
 use std::marker::Model;
 use std::sync::Wait;
 
-/// The ring of items and that of loads, a berth for each half, and the count on which threads sleep. Contracts see which rings and berths
+/// The ring of items and that of chains, a berth for each half, and the count on which threads sleep. Contracts see which rings and berths
 /// they are.
 pub struct LogService<D: Disk, N: ServiceNaming> {
     pub(crate) ring: Ring<Item>,
-    pub(crate) hand: Ring<Load>,
+    pub(crate) chain_ring: Ring<FrameChain>,
     pub(crate) consumer: Berth<ConsumerHalf<N>>,
     pub(crate) device: Berth<DeviceHalf<D, N>>,
     pub(crate) regions: u32,
@@ -38,20 +38,20 @@ pub struct LogService<D: Disk, N: ServiceNaming> {
 
 impl<D: Disk, N: ServiceNaming> Model for LogService<D, N> {
     ghost use Rattle.std.specs.Prelude.{◌≡◌, ◌*◌, ◌≤◌, length};
-    ghost use Rattle.log_service.specs.Places.{Place};
+    ghost use Rattle.log_service.specs.Places.{ServiceId};
 
-    ghost Value = { Place };
+    ghost Value = { ServiceId };
 
     ghost view = { λ s. record {
       ring = s.ring.id;
-      hand = s.hand.id;
+      chain_ring = s.chain_ring.id;
       consumer = s.consumer.id;
       device = s.device.id;
       regions = s.regions;
       seats = s.device.seats;
     } };
 
-    ghost invariant = { λ s. (s.ring.id ≡ N.ring) × (s.hand.id ≡ N.hand) × (s.ring.capacity ≡ 1024) × (s.hand.capacity ≡ 2)
+    ghost invariant = { λ s. (s.ring.id ≡ N.ring) × (s.chain_ring.id ≡ N.chain_ring) × (s.ring.capacity ≡ 1024) × (s.chain_ring.capacity ≡ 2)
         × (s.consumer.regions ≡ 1) × (s.device.regions ≡ 3 * s.regions) × (s.regions ≡ length N.lasts) × (s.regions ≤ 64)
         × (s.consumer.seats ≡ s.device.seats) };
 }
@@ -62,7 +62,7 @@ impl<D: Disk, N: ServiceNaming> LogService<D, N> {
     pub fn push<R: Wait>(
         &self,
         rt: &R,
-        pass: &mut RingPass<Item>,
+        pass: &mut RingKey<Item>,
         item: Item,
     ) -> Result<(), Full<Item>>
         requires ring { pass.old.pass.table_id ≡ self.now.ring }

@@ -6,23 +6,23 @@ ghost use Rattle.log_device.specs.Whole.{IsBroken};
 ghost use Rattle.log_service.specs.Numbers.{TellsLater};
 ghost use Rattle.log_service.specs.Moves.{bench_of, IsAllMoved};
 
+use crate::chain::FrameChain;
 use crate::committer::DeviceHalf;
 use crate::consumer::ConsumerHalf;
 use crate::item::Item;
-use crate::load::Load;
 use crate::name::ServiceNaming;
-use append_ring::{Ring, RingPasses};
+use append_ring::{Ring, RingKeys};
 use disk_images::Disk;
 use std::sync::Wait;
 
 impl<N: ServiceNaming> ConsumerHalf<N> {
     /// Whether all that was pushed under these passes was popped and handed over.
-    fn is_done(&self, ring: &Ring<Item>, passes: &RingPasses<Item>) -> bool
+    fn is_done(&self, ring: &Ring<Item>, passes: &RingKeys<Item>) -> bool
         requires there { EachThere (λ p. p.pass.table_id ≡ ring.now.id) passes.now }
         requires all { length passes.now ≡ length N.lasts }
         ensures { IsTrue result → IsAllMoved (bench_of self.now) passes.now }
     {
-        if self.held.is_some() || self.load.len() > 0 {
+        if self.held.is_some() || self.chain.len() > 0 {
             return false;
         }
         ring.drained(passes, &self.consumer)
@@ -31,51 +31,51 @@ impl<N: ServiceNaming> ConsumerHalf<N> {
 
 impl<D: Disk, N: ServiceNaming> DeviceHalf<D, N> {
     /// Whether all that was pushed under these passes was popped.
-    fn is_done(&self, hand: &Ring<Load>, passes: &RingPasses<Load>) -> bool
-        requires there { EachThere (λ p. p.pass.table_id ≡ hand.now.id) passes.now }
+    fn is_done(&self, chain_ring: &Ring<FrameChain>, passes: &RingKeys<FrameChain>) -> bool
+        requires there { EachThere (λ p. p.pass.table_id ≡ chain_ring.now.id) passes.now }
         requires all { length passes.now ≡ length N.lasts }
         ensures { IsTrue result → EachThere (IsDrained (λ _. 1) (view self.now.consumer.pass).popped) passes.now }
     {
-        hand.drained(passes, &self.consumer)
+        chain_ring.drained(passes, &self.consumer)
     }
 
-    /// Pops a load and lets it go, where the device is broken.
-    fn drop_one<R: Wait>(&mut self, rt: &R, hand: &Ring<Load>)
-        requires hand { hand.now.id ≡ N.hand }
+    /// Pops a chain and lets it go, where the device is broken.
+    fn drop_one<R: Wait>(&mut self, rt: &R, chain_ring: &Ring<FrameChain>)
+        requires chain_ring { chain_ring.now.id ≡ N.chain_ring }
         requires broken { IsBroken self.old.device }
         ensures { (self.new.device ≡ self.old.device) × (self.new.regions ≡ self.old.regions) }
     {
-        let Some(load) = hand.pop(rt, &mut self.consumer) else {
+        let Some(chain) = chain_ring.pop(rt, &mut self.consumer) else {
             return;
         };
-        drop(load);
+        drop(chain);
     }
 
-    /// Pops a load, and commits it unless the device is broken.
-    fn settle_one<R: Wait>(&mut self, rt: &R, hand: &Ring<Load>)
-        requires hand { hand.now.id ≡ N.hand }
+    /// Pops a chain, and commits it unless the device is broken.
+    fn settle_one<R: Wait>(&mut self, rt: &R, chain_ring: &Ring<FrameChain>)
+        requires chain_ring { chain_ring.now.id ≡ N.chain_ring }
         ensures later { TellsLater self.old.regions self.old.device self.new.regions self.new.device }
         ensures broken { IsBroken self.old.device → IsBroken self.new.device }
         ensures same { self.new.regions ≡ self.old.regions }
     {
         if self.device.broken() {
-            self.drop_one(rt, hand);
+            self.drop_one(rt, chain_ring);
         } else {
-            let _commit = self.commit_one(rt, hand);
+            let _commit = self.commit_one(rt, chain_ring);
         }
     }
 }
 
-/// Moves and hands over all items, and settles loads meanwhile.
+/// Moves and hands over all items, and settles chains meanwhile.
 pub(crate) fn settle_items<D: Disk, N: ServiceNaming, R: Wait>(
     rt: &R,
     ring: &Ring<Item>,
-    passes: &RingPasses<Item>,
-    hand: &Ring<Load>,
+    passes: &RingKeys<Item>,
+    chain_ring: &Ring<FrameChain>,
     mover: &mut ConsumerHalf<N>,
     committer: &mut DeviceHalf<D, N>,
 )
-    requires rings { (ring.now.id ≡ N.ring) × (hand.now.id ≡ N.hand) }
+    requires rings { (ring.now.id ≡ N.ring) × (chain_ring.now.id ≡ N.chain_ring) }
     requires there { EachThere (λ p. p.pass.table_id ≡ ring.now.id) passes.now }
     requires all { length passes.now ≡ length N.lasts }
     ensures moved { IsAllMoved (bench_of mover.new) passes.now }
@@ -88,21 +88,21 @@ pub(crate) fn settle_items<D: Disk, N: ServiceNaming, R: Wait>(
             return;
         }
         let _moves = mover.move_items(rt, ring);
-        mover.push_load(rt, hand);
-        committer.settle_one(rt, hand);
+        mover.push_chain(rt, chain_ring);
+        committer.settle_one(rt, chain_ring);
     }
     unreachable!()
 }
 
-/// Settles all loads.
-pub(crate) fn settle_loads<D: Disk, N: ServiceNaming, R: Wait>(
+/// Settles all chains.
+pub(crate) fn settle_chains<D: Disk, N: ServiceNaming, R: Wait>(
     rt: &R,
-    hand: &Ring<Load>,
-    passes: &RingPasses<Load>,
+    chain_ring: &Ring<FrameChain>,
+    passes: &RingKeys<FrameChain>,
     committer: &mut DeviceHalf<D, N>,
 )
-    requires hand { hand.now.id ≡ N.hand }
-    requires there { EachThere (λ p. p.pass.table_id ≡ hand.now.id) passes.now }
+    requires chain_ring { chain_ring.now.id ≡ N.chain_ring }
+    requires there { EachThere (λ p. p.pass.table_id ≡ chain_ring.now.id) passes.now }
     requires all { length passes.now ≡ length N.lasts }
     ensures drained { EachThere (IsDrained (λ _. 1) (view committer.new.consumer.pass).popped) passes.now }
     ensures later { TellsLater committer.old.regions committer.old.device committer.new.regions committer.new.device }
@@ -110,10 +110,10 @@ pub(crate) fn settle_loads<D: Disk, N: ServiceNaming, R: Wait>(
     ensures same { committer.new.regions ≡ committer.old.regions }
 {
     for _turn in rt.forever() {
-        if committer.is_done(hand, passes) {
+        if committer.is_done(chain_ring, passes) {
             return;
         }
-        committer.settle_one(rt, hand);
+        committer.settle_one(rt, chain_ring);
     }
     unreachable!()
 }

@@ -6,40 +6,40 @@ ghost use Rattle.log_berth.specs.Words.{starts};
 ghost use Rattle.log_berth.specs.Standing.{fresh};
 ghost use Rattle.log_model.specs.Files.{Files};
 ghost use Rattle.log_ledger.specs.History.{History};
-ghost use Rattle.log_device.specs.Whole.{disk_of, books_of};
+ghost use Rattle.log_device.specs.Whole.{disk_of, numbers_of};
 ghost use Rattle.log_service.specs.Begun.{IsFresh, BeginsAs, AreNewParts, AreParts};
 ghost use Rattle.log_service.specs.Numbers.{told_numbers};
 
+use crate::chain::FrameChain;
 use crate::committer::DeviceHalf;
 use crate::company::{Commits, Company};
 use crate::consumer::ConsumerHalf;
 use crate::counting::{EventCount, Shows};
 use crate::item::Item;
-use crate::load::Load;
 use crate::name::ServiceNaming;
 use crate::seats::LogSeats;
 use crate::service::LogService;
-use append_ring::{ConsumerPass, NoMemory, Ring, RingParts, RingPass, RingPasses};
+use append_ring::{ConsumerPass, NoMemory, Ring, RingKey, RingKeys, RingParts};
 use disk_images::Disk;
 use log_berth::{Berth, BerthParts};
 use log_device::Device;
 use std::alloc::Global;
 use std::marker::PhantomData;
 
-/// How many loads the ring of loads holds.
-const LOADS: u32 = 2;
+/// How many chains the ring of chains holds.
+const CHAINS: u32 = 2;
 
 /// The two rings, with their passes: what a name names.
 #[derive(Drop)]
 pub struct Rings {
     pub items: RingParts<Item>,
-    pub loads: RingParts<Load>,
+    pub chains: RingParts<FrameChain>,
 }
 
 /// A service, the passes of its regions and its seats.
 pub struct ServiceParts<D: Disk, N: ServiceNaming> {
     pub service: LogService<D, N>,
-    pub passes: RingPasses<Item>,
+    pub passes: RingKeys<Item>,
     pub seats: LogSeats,
 }
 
@@ -50,37 +50,37 @@ pub struct ServiceRefusal<D> {
 }
 
 impl Rings {
-    /// The first part of a start: a ring of 1,024 items, and one of two loads. `lasts` has for each region, from 1 on, the number before
+    /// The first part of a start: a ring of 1,024 items, and one of two chains. `lasts` has for each region, from 1 on, the number before
     /// its first drawn one.
     pub fn new(alloc: Global, lasts: &[u64]) -> Result<Rings, NoMemory>
         requires { (0 < length lasts.now) × (length lasts.now ≤ 64) }
         ensures items { IfOk result (λ r. (r.items.ring.capacity ≡ 1024)
             × AreNewParts r.items.ring.id lasts.now r.items.consumer.pass.table_id (view r.items.consumer.pass) r.items.passes) }
-        ensures loads { IfOk result (λ r. (r.loads.ring.capacity ≡ 2)
-            × AreNewParts r.loads.ring.id lasts.now r.loads.consumer.pass.table_id (view r.loads.consumer.pass) r.loads.passes) }
+        ensures chains { IfOk result (λ r. (r.chains.ring.capacity ≡ 2)
+            × AreNewParts r.chains.ring.id lasts.now r.chains.consumer.pass.table_id (view r.chains.consumer.pass) r.chains.passes) }
     {
         let items = Ring::new(alloc, lasts)?;
-        let loads = Ring::of_capacity(alloc, lasts, LOADS)?;
-        Ok(Rings { items, loads })
+        let chains = Ring::of_capacity(alloc, lasts, CHAINS)?;
+        Ok(Rings { items, chains })
     }
 }
 
 /// The consumer's half at the start.
 fn first_half<N: ServiceNaming>(
     consumer: ConsumerPass<Item>,
-    hand: RingPass<Load>,
-    idle: RingPasses<Load>,
+    chain_key: RingKey<FrameChain>,
+    idle: RingKeys<FrameChain>,
 ) -> ConsumerHalf<N>
     requires ring { consumer.pass.table_id ≡ N.ring }
     requires consumer { ((view consumer.pass).lasts ≡ N.lasts) × ((view consumer.pass).popped ≡ []) }
-    requires hand { IsNew N.hand N.lasts 1 hand }
-    requires idle { AreNewAfter N.hand N.lasts 0 1 idle × (length idle ≡ length N.lasts) }
+    requires chain_key { IsNew N.chain_ring N.lasts 1 chain_key }
+    requires idle { AreNewAfter N.chain_ring N.lasts 0 1 idle × (length idle ≡ length N.lasts) }
 {
     ConsumerHalf {
         consumer,
-        load: Load::new(),
+        chain: FrameChain::new(),
         held: None,
-        hand,
+        chain_key,
         idle,
         asked: false,
         requests: 0,
@@ -91,11 +91,11 @@ fn first_half<N: ServiceNaming>(
 /// The device's half at the start.
 fn second_half<D: Disk, N: ServiceNaming>(
     device: Device<D>,
-    consumer: ConsumerPass<Load>,
+    consumer: ConsumerPass<FrameChain>,
     regions: u32,
 ) -> DeviceHalf<D, N>
     requires regions { (regions ≡ length N.lasts) × (regions ≤ 64) }
-    requires hand { consumer.pass.table_id ≡ N.hand }
+    requires chain_ring { consumer.pass.table_id ≡ N.chain_ring }
     requires consumer { ((view consumer.pass).lasts ≡ N.lasts) × ((view consumer.pass).popped ≡ []) }
     requires device { IsFresh N.lasts device }
     requires whole { IsTrue D.told → ∥ ((h : History) × BeginsAs N.begun N.lasts device (D.view (disk_of device)) h) ∥₁ }
@@ -127,8 +127,8 @@ impl<D: Disk, N: ServiceNaming> LogService<D, N> {
         requires regions { (regions ≡ length N.lasts) × (0 < regions) × (regions ≤ 64) }
         requires items { (rings.items.ring.capacity ≡ 1024)
             × AreParts N.ring N.lasts rings.items.ring.id rings.items.consumer.pass.table_id (view rings.items.consumer.pass) rings.items.passes }
-        requires loads { (rings.loads.ring.capacity ≡ 2)
-            × AreParts N.hand N.lasts rings.loads.ring.id rings.loads.consumer.pass.table_id (view rings.loads.consumer.pass) rings.loads.passes }
+        requires chains { (rings.chains.ring.capacity ≡ 2)
+            × AreParts N.chain_ring N.lasts rings.chains.ring.id rings.chains.consumer.pass.table_id (view rings.chains.consumer.pass) rings.chains.passes }
         requires device { IsFresh N.lasts device }
         requires whole { IsTrue D.told → ∥ ((h : History) × BeginsAs N.begun N.lasts device (D.view (disk_of device)) h) ∥₁ }
         requires start { IsTrue D.told → N.start ≡ (D.view (disk_of device)).clock }
@@ -141,16 +141,16 @@ impl<D: Disk, N: ServiceNaming> LogService<D, N> {
         ensures consumers { IfOk result (λ p. (p.seats.consumers.seats ≡ replicate seats (fresh p.service.consumer (starts 1 [])))
             × (seats ≤ p.seats.consumers.room)) }
         ensures devices { IfOk result (λ p. (p.seats.devices.seats
-            ≡ replicate seats (fresh p.service.device (starts (3 * regions) (told_numbers regions (books_of device)))))
+            ≡ replicate seats (fresh p.service.device (starts (3 * regions) (told_numbers regions (numbers_of device)))))
             × (seats ≤ p.seats.devices.room)) }
         ensures refused { IfErr result (λ r. r.device ≡ device) }
     {
-        let Rings { items, loads } = rings;
-        let mut idle = loads.passes;
-        let Some(hand) = idle.next() else {
+        let Rings { items, chains } = rings;
+        let mut idle = chains.passes;
+        let Some(chain_key) = idle.next() else {
             unreachable!()
         };
-        let mover = first_half(items.consumer, hand, idle);
+        let mover = first_half(items.consumer, chain_key, idle);
         let Ok(
             BerthParts {
                 berth: consumer,
@@ -160,7 +160,7 @@ impl<D: Disk, N: ServiceNaming> LogService<D, N> {
         else {
             return Err(ServiceRefusal { device });
         };
-        let committer = second_half(device, loads.consumer, regions);
+        let committer = second_half(device, chains.consumer, regions);
         match Berth::new(alloc, committer, 3 * regions, seats) {
             Ok(
                 BerthParts {
@@ -170,7 +170,7 @@ impl<D: Disk, N: ServiceNaming> LogService<D, N> {
             ) => Ok(ServiceParts {
                 service: LogService {
                     ring: items.ring,
-                    hand: loads.ring,
+                    chain_ring: chains.ring,
                     consumer,
                     device: berth,
                     regions,

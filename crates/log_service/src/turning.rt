@@ -4,8 +4,8 @@ ghost use Rattle.crossbeam_queue.specs.Passes.{view};
 ghost use Rattle.log_trucks.specs.Held.{Held};
 ghost use Rattle.log_berth.specs.Words.{NoMore, looked};
 ghost use Rattle.log_berth.specs.Turns.{turn_id};
-ghost use Rattle.log_device.specs.Whole.{IsBroken, disk_of, books_of};
-ghost use Rattle.log_service.specs.Loads.{AreInOrder};
+ghost use Rattle.log_device.specs.Whole.{IsBroken, disk_of, numbers_of};
+ghost use Rattle.log_service.specs.Chains.{AreInOrder};
 ghost use Rattle.log_service.specs.Halves.{broken_of};
 ghost use Rattle.log_service.specs.Moves.{WasFull};
 ghost use Rattle.log_service.specs.Numbers.{told_numbers};
@@ -32,7 +32,7 @@ pub enum ConsumerTurn {
     Busy,
     /// The ring was empty.
     Empty,
-    /// The next item doesn't fit the load.
+    /// The next item doesn't fit the chain.
     StageFull,
     /// The log is broken.
     Broken,
@@ -45,7 +45,7 @@ pub enum SyncTurn {
     Synced(u64),
     /// Another seat has one of the two turns.
     Busy,
-    /// There was no load.
+    /// There was no chain.
     Clean,
     /// A disk call failed in this turn.
     WriteFault,
@@ -54,8 +54,8 @@ pub enum SyncTurn {
 }
 
 impl<D: Disk, N: ServiceNaming> LogService<D, N> {
-    /// Moves up to 64 items: first the held one, then popped ones in the ring's order. Each append goes into the load, and each sync
-    /// request is noted. `Moved` says how many. Where the next item doesn't fit the load it is kept, and the answer is `StageFull` if none was
+    /// Moves up to 64 items: first the held one, then popped ones in the ring's order. Each append goes into the chain, and each sync
+    /// request is noted. `Moved` says how many. Where the next item doesn't fit the chain it is kept, and the answer is `StageFull` if none was
     /// moved. Broken exactly where the fault word was found set. It takes no memory.
     pub fn consumer_turn<R: Wait>(&self, rt: &R, seat: &mut LogSeat) -> ConsumerTurn
         requires seat { IsSeatOf self.now seat.old }
@@ -93,10 +93,10 @@ impl<D: Disk, N: ServiceNaming> LogService<D, N> {
         }
     }
 
-    /// Looks at the fault word and takes the device's turn, hands the load over where a sync request was moved since the last time or an item is
-    /// held, and then commits one load, however many entries it has, in four disk calls. So a load has all that was moved while the last one was
+    /// Looks at the fault word and takes the device's turn, hands the chain over where a sync request was moved since the last time or an item is
+    /// held, and then commits one chain, however many entries it has, in four disk calls. So a chain has all that was moved while the last one was
     /// committed. `Synced` says how many entries, and the synced words are raised. Busy only where one of the two turn words was found taken:
-    /// then nothing is handed over. Clean where no load was there. Broken exactly where the fault word was found set, at the look or at a
+    /// then nothing is handed over. Clean where no chain was there. Broken exactly where the fault word was found set, at the look or at a
     /// second one with the device's turn. It takes no memory.
     #[tactic(auto, using(crate::proofs::SeatLaws::later_trans))]
     pub fn sync_turn<R: Wait>(&self, rt: &R, seat: &mut LogSeat) -> SyncTurn
@@ -121,7 +121,7 @@ impl<D: Disk, N: ServiceNaming> LogService<D, N> {
         self.turn_over(rt, seat, false)
     }
 
-    /// The same without the first look. Before the load is handed over it may wait for company, and move what was pushed, so that a commit has
+    /// The same without the first look. Before the chain is handed over it may wait for company, and move what was pushed, so that a commit has
     /// all of it.
     pub(crate) fn turn_over<R: Wait>(&self, rt: &R, seat: &mut LogSeat, moves: bool) -> SyncTurn
         requires seat { IsSeatOf self.now seat.old }
@@ -140,7 +140,7 @@ impl<D: Disk, N: ServiceNaming> LogService<D, N> {
         ensures whole { (result ≡ SyncTurn.Broken → ⊥) → (result ≡ SyncTurn.WriteFault → ⊥) → seat.old.device.knows.broken ≡ false
             → seat.new.device.knows.broken ≡ false }
     {
-        // The device's turn comes first, and the consumer's inside it: whoever hands a load over is the one that commits it.
+        // The device's turn comes first, and the consumer's inside it: whoever hands a chain over is the one that commits it.
         let Ok(mut turn) = self.device.take(&mut seat.device) else {
             return SyncTurn::Busy;
         };
@@ -152,7 +152,7 @@ impl<D: Disk, N: ServiceNaming> LogService<D, N> {
         if moves {
             self.company.gather(rt);
         }
-        if !self.hand_load(rt, &mut seat.consumer, moves) {
+        if !self.hand_chain(rt, &mut seat.consumer, moves) {
             self.end_turn(&mut seat.device, turn);
             return SyncTurn::Busy;
         }
@@ -166,7 +166,7 @@ impl<D: Disk, N: ServiceNaming> LogService<D, N> {
         }
     }
 
-    /// Commits a load with the device's turn, and raises the synced words or sets the fault word.
+    /// Commits a chain with the device's turn, and raises the synced words or sets the fault word.
     fn commit_and_raise<R: Wait>(
         &self,
         rt: &R,
@@ -177,17 +177,17 @@ impl<D: Disk, N: ServiceNaming> LogService<D, N> {
         requires turn { (seat.old.device.knows.turn ≡ true) × (turn_id turn.old ≡ self.now.device) }
         requires whole { seat.old.device.knows.broken ≡ false }
         requires unbroken { IsBroken turn.old.ware.device → ⊥ }
-        requires below { NoMore seat.old.device.knows.seen (told_numbers turn.old.ware.regions (books_of turn.old.ware.device)) }
+        requires below { NoMore seat.old.device.knows.seen (told_numbers turn.old.ware.regions (numbers_of turn.old.ware.device)) }
         ensures seat { (seat.new.consumer ≡ seat.old.consumer) × (seat.new.device.berth ≡ seat.old.device.berth)
             × (seat.new.device.knows.turn ≡ true) × (seat.new.device.knows.tally ≡ seat.old.device.knows.tally) }
         ensures turn { turn_id turn.new ≡ turn_id turn.old }
         ensures later { NoMore seat.old.device.knows.seen seat.new.device.knows.seen }
-        ensures below { NoMore seat.new.device.knows.seen (told_numbers turn.new.ware.regions (books_of turn.new.ware.device)) }
+        ensures below { NoMore seat.new.device.knows.seen (told_numbers turn.new.ware.regions (numbers_of turn.new.ware.device)) }
         ensures broken { broken_of turn.new.ware.device ≡ seat.new.device.knows.broken }
         ensures sees { (n : ℕ) → result ≡ Commit.Committed n → SawCommitted N.lasts seat.new.device.knows (view turn.new.ware.consumer.pass).popped }
         ensures fault { result ≡ Commit.WriteFault → seat.new.device.knows.broken ≡ true }
-        ensures committed { (n : ℕ) → result ≡ Commit.Committed n → (load : List Held)
-            × ((view turn.new.ware.consumer.pass).popped ≡ (view turn.old.ware.consumer.pass).popped ++ load ∷ []) × (n ≡ length load) }
+        ensures committed { (n : ℕ) → result ≡ Commit.Committed n → (chain : List Held)
+            × ((view turn.new.ware.consumer.pass).popped ≡ (view turn.old.ware.consumer.pass).popped ++ chain ∷ []) × (n ≡ length chain) }
         ensures ordered { (n : ℕ) → result ≡ Commit.Committed n → AreInOrder N.lasts (view turn.new.ware.consumer.pass).popped }
         ensures clean { result ≡ Commit.Clean → (turn.new.ware.device ≡ turn.old.ware.device)
             × (view turn.new.ware.consumer.pass ≡ view turn.old.ware.consumer.pass) × WasFull 0 (view turn.old.ware.consumer.pass) }
@@ -196,7 +196,7 @@ impl<D: Disk, N: ServiceNaming> LogService<D, N> {
         ensures whole { ((n : ℕ) → result ≡ Commit.Committed n → seat.new.device.knows.broken ≡ false)
             × (result ≡ Commit.Clean → seat.new.device.knows.broken ≡ false) }
     {
-        let commit = turn.ware.commit_one(rt, &self.hand);
+        let commit = turn.ware.commit_one(rt, &self.chain_ring);
         match commit {
             Commit::Committed(_) => {
                 raise_all(&self.device, &mut seat.device, turn, self.regions);

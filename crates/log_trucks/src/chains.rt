@@ -10,12 +10,9 @@ ghost use Rattle.log_trucks.specs.Unflushed.{has_unflushed, unflushed_cells};
 use crate::chain::Chain;
 use crate::truck::Truck;
 use kv_cell::{NoMemory, NumberedCells};
-use seq_accounting::Accounting;
+use seq_accounting::{Accounting, PLACES};
 use std::alloc::Global;
 use std::marker::Model;
-
-/// As many chains as there are places: those of regions 1 to 64, and place 0.
-const PLACES: usize = 65;
 
 /// Trucks by region, the newest of each first. Contracts see for each place 0 to 64 the list of numbers and bytes.
 /// They are let go by loops, however long the chains are.

@@ -4,7 +4,7 @@ use Rattle.log_berth.specs.Standing.{Standing, AreBack, Saw, AllSaw}
 use Rattle.log_service.specs.declared.seats.LogSeat.{LogSeat}
 use Rattle.log_service.specs.Numbers.{seen_synced, seen_stored, seen_closed}
 use Rattle.log_service.specs.Closed.{synced_in, stored_in, closed_in}
-use Rattle.log_service.specs.Places.{Place}
+use Rattle.log_service.specs.Places.{ServiceId}
 use Rattle.region_model.specs.Lines.{Line, edits_in}
 use Rattle.region_lock.specs.declared.pass.RegionPass.{RegionPass}
 use Rattle.region_lock.specs.declared.naming.LockNaming.{Ghosts}
@@ -127,18 +127,18 @@ module _ {N : Type 0} {g : Ghosts N} where
     | inr (other, was) ↦ hands k x was
   ]
 
-  pub all_set : (the : Place) (ps : List (Pass N g)) (i : ℕ) (q : Pass N g) → AllOf the ps → IsPassOf the q → AllOf the (set ps i q)
+  pub all_set : (the : ServiceId) (ps : List (Pass N g)) (i : ℕ) (q : Pass N g) → AllOf the ps → IsPassOf the q → AllOf the (set ps i q)
   all_set the [] i q a b = tt
   all_set the (p ∷ ps) zero q a b = (b, a.1)
   all_set the (p ∷ ps) (suc i) q a b = (a.0, all_set the ps i q a.1 b)
 
-  pub all_get : (the : Place) (ps : List (Pass N g)) (i : ℕ) (p : Pass N g) → AllOf the ps → slice_get ps i ≡ Some p → IsPassOf the p
+  pub all_get : (the : ServiceId) (ps : List (Pass N g)) (i : ℕ) (p : Pass N g) → AllOf the ps → slice_get ps i ≡ Some p → IsPassOf the p
   all_get the [] i p a e = absurd (cc e)
   all_get the (x ∷ ps) zero p a e = let same : x ≡ p = cc e in subst (λ (y : Pass N g). IsPassOf the y) same a.0
   all_get the (x ∷ ps) (suc i) p a e = all_get the ps i p a.1 e
 
   -- the words are at or above what the pass had seen of a region
-  pub pass_seen : (the : Place) (p : Pass N g) (words : List ℕ) (broken : Bool) (r : ℕ) → IsPassOf the p → Saw p.seat.device words broken → 1 ≤ r → r ≤ the.regions
+  pub pass_seen : (the : ServiceId) (p : Pass N g) (words : List ℕ) (broken : Bool) (r : ℕ) → IsPassOf the p → Saw p.seat.device words broken → 1 ≤ r → r ≤ the.regions
       → (((knows p).known r).synced ≤ synced_in words r) × (((knows p).known r).stored ≤ stored_in the.regions words r) × (((knows p).known r).closed ≤ closed_in the.regions words r)
   pass_seen the p words broken zero is saw low high = absurd (omega (arith, low))
   pass_seen the p words broken (suc k) is saw low high =
@@ -176,7 +176,7 @@ seats_snoc (x ∷ ss) s = ap (λ (l : List Standing). x.device ∷ l) (seats_sno
 
 -- ---- what all passes had seen
 
-module _ {N : Type 0} {g : Ghosts N} (the : Place) (ps : List (Pass N g)) (words : List ℕ) (broken : Bool) (of : AllOf the ps) (saw : AllSaw (device_seats (seats_of ps)) words broken) where
+module _ {N : Type 0} {g : Ghosts N} (the : ServiceId) (ps : List (Pass N g)) (words : List ℕ) (broken : Bool) (of : AllOf the ps) (saw : AllSaw (device_seats (seats_of ps)) words broken) where
   pub all_seen : (r : ℕ) → 1 ≤ r → r ≤ the.regions → (p : ThePass) → Contains (map knows ps) p
       → ((p.known r).synced ≤ synced_in words r) × ((p.known r).stored ≤ stored_in the.regions words r) × ((p.known r).closed ≤ closed_in the.regions words r)
   all_seen r low high p has =

@@ -14,10 +14,10 @@ use Rattle.wal_split.specs.Moments.{During, WasOrAlike}
 use Rattle.log_ledger.specs.declared.base.RegionBase.{RegionBase}
 use Rattle.log_ledger.specs.Bases.{AreRegions, IsAmong, AreNumbersOf}
 use Rattle.append_ring.specs.Rules.{base_of}
-use Rattle.log_ledger.specs.Books.{IsServed}
+use Rattle.log_ledger.specs.Numbers.{IsServed}
 use Rattle.log_ledger.specs.History.{started_in}
 use Rattle.log_device.specs.declared.device.Device.{Device}
-use Rattle.log_device.specs.Whole.{IsWhole, IsBroken, IsIdle, log_of, books_of}
+use Rattle.log_device.specs.Whole.{IsWhole, IsBroken, IsIdle, log_of, numbers_of}
 use Rattle.log_service.specs.Begun.{IsFresh, BeginsAs}
 use Rattle.log_service.specs.Halves.{AreNumbersUpTo, HasFewStores}
 use Rattle.log_device.specs.Opened.{IsOpened}
@@ -150,12 +150,12 @@ marked n xs ms first is e (suc k) low high =
     }
 
 pub is_fresh : {D : Type 0} (n : ℕ) (xs : List Found) (ms : List RegionBase) (first : List ℕ) (d : Device D) → ms ≡ marks_from 1 (take n xs) → first ≡ flushed_of ms
-    → (IsBroken d → ⊥) → IsIdle (log_of d) → ((r : ℕ) → IsServed (books_of d) r ↔ IsAmong ms r) → AreNumbersOf (λ m. m.flushed) ms (books_of d).drawn → (books_of d).synced ≡ (books_of d).drawn → (books_of d).stored ≡ (books_of d).drawn → IsFresh first d
+    → (IsBroken d → ⊥) → IsIdle (log_of d) → ((r : ℕ) → IsServed (numbers_of d) r ↔ IsAmong ms r) → AreNumbersOf (λ m. m.flushed) ms (numbers_of d).drawn → (numbers_of d).synced ≡ (numbers_of d).drawn → (numbers_of d).stored ≡ (numbers_of d).drawn → IsFresh first d
 is_fresh n xs ms first d is e unbroken idle served drawn synced stored = record {
   unbroken = unbroken;
   idle = idle;
   served = λ r low high. (served r).1 (marked n xs ms first is e r low high).among;
-  drawn = λ r low high. (marked n xs ms first is e r low high).drawn (books_of d).drawn drawn;
+  drawn = λ r low high. (marked n xs ms first is e r low high).drawn (numbers_of d).drawn drawn;
   synced = synced;
   stored = stored;
 }
@@ -171,7 +171,7 @@ few_marks n xs ms old files limit is of regions bound m has =
     omega (arith, few, at, flushed, (regions.each m has).flushed)
 
 pub begins_as : {D : Type 0} (n : ℕ) (xs : List Found) (ms : List RegionBase) (first : List ℕ) (d : Device D) (F : Files) (v : DiskView) → ms ≡ marks_from 1 (take n xs) → first ≡ flushed_of ms
-    → HasFewStores F (books_of d) → IsWhole d v (started_in F (flushed_in xs)) → BeginsAs F first d v (started_in F (flushed_in xs))
+    → HasFewStores F (numbers_of d) → IsWhole d v (started_in F (flushed_in xs)) → BeginsAs F first d v (started_in F (flushed_in xs))
 begins_as n xs ms first d F v is e few whole = record {
   whole = whole;
   began = record { base = refl; first = λ r low high. (marked n xs ms first is e r low high).flushed };

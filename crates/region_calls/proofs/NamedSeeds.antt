@@ -8,7 +8,7 @@ use Rattle.region_versions.specs.Histories.{no_book, no_base}
 use Rattle.log_service.specs.Names.{no_table}
 use Rattle.log_model.specs.Files.{Files}
 use Rattle.region_calls.specs.declared.seeds.RegionSeeds.{RegionSeeds}
-use Rattle.region_calls.specs.declared.store.Opened.{Opened}
+use Rattle.region_calls.specs.declared.store.OpenedStore.{OpenedStore}
 use Rattle.region_calls.specs.Bases.{IsBaseOf, AreBasesOf}
 use Rattle.region_calls.specs.Seeds.{AreSeeds, base_of, desk_of, spent_of, book_of, lasts_of, base_at}
 use Rattle.region_calls.specs.Named.{AreNamedSeeds}
@@ -48,7 +48,7 @@ module _ (desk spent : ℕ → TableId) (book : ℕ → Book) (base : ℕ → Ba
             }),
       )
 
-  pub named_seeds : {D : Type 0} → (store : Opened D) → AreSeeds h 1 store.seeds.items → lasts ≡ lasts_of (bases_of store)
+  pub named_seeds : {D : Type 0} → (store : OpenedStore D) → AreSeeds h 1 store.seeds.items → lasts ≡ lasts_of (bases_of store)
       → ((r : ℕ) → 1 ≤ r → r ≤ length store.seeds.items → AreTablesOf desk spent book base store r) → AreNamedSeeds desk spent book base lasts store.seeds.items
   named_seeds store a e f =
       named_from 1 store.seeds.items a (λ k low.

@@ -6,13 +6,13 @@ use Rattle.region_model.specs.Journal.{Caller}
 use Rattle.region_lock.specs.declared.naming.LockNaming.{Ghosts as LockNames}
 use Rattle.region_versions.specs.declared.naming.VersionsNaming.{Ghosts as VersionsNames}
 use Rattle.region_calls.specs.declared.naming.ServerNaming.{Ghosts as ServerNames}
-use Rattle.region_calls.specs.declared.store.Opened.{Opened}
+use Rattle.region_calls.specs.declared.store.OpenedStore.{OpenedStore}
 use Rattle.region_calls.specs.Names.{name_of, IsNameOf}
 use Rattle.region_calls.specs.Seeds.{base_at, book_at, lasts_of, table_at}
-use Rattle.region_calls.specs.Store.{bases_of, books_of, desks_of, disk_begun, disk_found, disk_now, hand_of, handlers_of, ring_of, spents_of}
+use Rattle.region_calls.specs.Store.{bases_of, books_of, desks_of, disk_begun, disk_found, disk_now, chain_ring_of, handlers_of, ring_of, spents_of}
 
 -- its server, of whose regions these calls are the flushes
-abbrev pub server_named : {D N : Type 0} → Disks D → (ℕ → List Caller) → Opened D → ServerNames N
+abbrev pub server_named : {D N : Type 0} → Disks D → (ℕ → List Caller) → OpenedStore D → ServerNames N
 server_named disk flushes store = record {
   name = name_of (length (lasts_of (bases_of store))) (handlers_of store) (base_at (bases_of store)) flushes;
   found = (disk.view (disk_found store)).files;
@@ -20,7 +20,7 @@ server_named disk flushes store = record {
 }
 
 -- its locks
-abbrev pub locks_named : {D N : Type 0} → (ℕ → List Caller) → Opened D → LockNames N
+abbrev pub locks_named : {D N : Type 0} → (ℕ → List Caller) → OpenedStore D → LockNames N
 locks_named flushes store = record {
   desk = table_at (desks_of store);
   spent = table_at (spents_of store);
@@ -29,10 +29,10 @@ locks_named flushes store = record {
 }
 
 -- its log
-abbrev pub service_named : {D N : Type 0} → Disks D → Opened D → ServiceNames N
+abbrev pub service_named : {D N : Type 0} → Disks D → OpenedStore D → ServiceNames N
 service_named disk store = record {
   ring = ring_of store;
-  hand = hand_of store;
+  hand = chain_ring_of store;
   lasts = lasts_of (bases_of store);
   begun = (disk.view (disk_begun store)).files;
   start = (disk.view (disk_now store)).clock;
@@ -41,11 +41,11 @@ service_named disk store = record {
 }
 
 -- its versions
-abbrev pub versions_named : {D N : Type 0} → Opened D → VersionsNames N
+abbrev pub versions_named : {D N : Type 0} → OpenedStore D → VersionsNames N
 versions_named store = record { book = book_at (books_of store); region_base = base_at (bases_of store) }
 
 -- these four are the store's name
-pub own_name : {D N : Type 0} (disk : Disks D) (flushes : ℕ → List Caller) (store : Opened D)
+pub own_name : {D N : Type 0} (disk : Disks D) (flushes : ℕ → List Caller) (store : OpenedStore D)
     → IsNameOf {N = N} disk (server_named disk flushes store) (locks_named flushes store) (service_named disk store) (versions_named store) store
 own_name disk flushes store = record {
   name_is = refl;

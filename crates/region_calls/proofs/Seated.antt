@@ -6,7 +6,7 @@ use Rattle.atomic_table.specs.Seated.{TableId}
 use Rattle.hand_register.specs.declared.known.Record.{Record}
 use Rattle.log_berth.specs.Standing.{Standing, AreBack, fresh}
 use Rattle.log_service.specs.declared.seats.LogSeat.{LogSeat}
-use Rattle.log_service.specs.Places.{Place, IsSeatOf}
+use Rattle.log_service.specs.Places.{ServiceId, IsSeatOf}
 use Rattle.region_model.specs.Lines.{Line}
 use Rattle.region_lock.specs.declared.pass.RegionPass.{RegionPass}
 use Rattle.region_lock.specs.declared.naming.LockNaming.{Ghosts}
@@ -17,15 +17,15 @@ use Rattle.region_calls.specs.Named.{AreFrom}
 use Rattle.region_calls.specs.Passes.{IsNewHand, AreNewHands, IsHandOf, IsPassOf}
 use Rattle.region_calls.specs.Deals.{AreSeatsOf, AreRooms, AllOf}
 
-pub seat_more : (place : Place) (ss : List LogSeat) (s : LogSeat) → AreSeatsOf place ss → IsSeatOf place s → AreSeatsOf place (ss ++ s ∷ [])
+pub seat_more : (place : ServiceId) (ss : List LogSeat) (s : LogSeat) → AreSeatsOf place ss → IsSeatOf place s → AreSeatsOf place (ss ++ s ∷ [])
 seat_more place [] s a b = (b, tt)
 seat_more place (x ∷ xs) s a b = (a.0, seat_more place xs s a.1 b)
 
-seat_less : (place : Place) (ss : List LogSeat) (s : LogSeat) → AreSeatsOf place (ss ++ s ∷ []) → AreSeatsOf place ss × IsSeatOf place s
+seat_less : (place : ServiceId) (ss : List LogSeat) (s : LogSeat) → AreSeatsOf place (ss ++ s ∷ []) → AreSeatsOf place ss × IsSeatOf place s
 seat_less place [] s a = (tt, a.0)
 seat_less place (x ∷ xs) s a = let r = seat_less place xs s a.1 in ((a.0, r.0), r.1)
 
-pub seat_popped : (place : Place) (old new : List LogSeat) (r : Option LogSeat) → old ≡ new ++ option_to_list r → AreSeatsOf place old → AreSeatsOf place new × IfSome r (λ s. IsSeatOf place s)
+pub seat_popped : (place : ServiceId) (old new : List LogSeat) (r : Option LogSeat) → old ≡ new ++ option_to_list r → AreSeatsOf place old → AreSeatsOf place new × IfSome r (λ s. IsSeatOf place s)
 seat_popped place old new None e a = (subst (λ (l : List LogSeat). AreSeatsOf place l) (e ∙ append-nil new) a, tt)
 seat_popped place old new (Some s) e a = seat_less place new s (subst (λ (l : List LogSeat). AreSeatsOf place l) e a)
 
@@ -85,6 +85,6 @@ module _ {N : Type 0} {g : Ghosts N} where
   rooms_less n [] v a = (tt, a.0)
   rooms_less n (x ∷ xs) v a = let r = rooms_less n xs v a.1 in ((a.0, r.0), r.1)
 
-  pub all_more : (place : Place) (ps : List (Pass N g)) (p : Pass N g) → AllOf place ps → IsPassOf place p → AllOf place (ps ++ p ∷ [])
+  pub all_more : (place : ServiceId) (ps : List (Pass N g)) (p : Pass N g) → AllOf place ps → IsPassOf place p → AllOf place (ps ++ p ∷ [])
   all_more place [] p a b = (b, tt)
   all_more place (x ∷ xs) p a b = (a.0, all_more place xs p a.1 b)

@@ -4,7 +4,7 @@ use Rattle.std.specs.List.{range_with_len}
 use Rattle.std.proofs.Math.Logic.{∥∥₁_map, ∥∥₁_map₂}
 use Rattle.log_model.specs.Entry.{Entry}
 use Rattle.atomic_table.specs.Seated.{TableId}
-use Rattle.append_ring.specs.declared.pass.RingPass.{RingPass}
+use Rattle.append_ring.specs.declared.pass.RingKey.{RingKey}
 use Rattle.append_ring.specs.Parts.{AreOut, EachThere}
 use Rattle.append_ring.specs.Rules.{base_of as last_before}
 use Rattle.cell_model.specs.Order.{Content}
@@ -69,11 +69,11 @@ index_set_other (y ∷ xs) (suc i) (suc j) x other = index_set_other xs i j x (�
 
 module _ (bases : ℕ → Base) (handlers : ℕ) (ring : TableId) (passes : List Pass) where
   -- another place does not matter
-  pub taken_kept : (old new : List (Option (RingPass Item))) (k : ℕ) (base : Base) (xs : List Line) → slice_get new k ≡ slice_get old k → IsTaken bases handlers ring passes old k base xs → IsTaken bases handlers ring passes new k base xs
+  pub taken_kept : (old new : List (Option (RingKey Item))) (k : ℕ) (base : Base) (xs : List Line) → slice_get new k ≡ slice_get old k → IsTaken bases handlers ring passes old k base xs → IsTaken bases handlers ring passes new k base xs
   taken_kept old new k base xs same t = record { met = t.met; pass = t.pass; there = same ∙ t.there; of_ring = t.of_ring; of_region = t.of_region; pushed = t.pushed }
 
   -- what was pushed of a region that was taken apart
-  pub pushed_at : (found begun : Files) (places : List (Option (RingPass Item))) (k : ℕ) (base : Base) (xs : List Line) → IsTaken bases handlers ring passes places k base xs → RecoversAlike found begun (k + 1) → IsBaseOf found (k + 1) (bases (k + 1))
+  pub pushed_at : (found begun : Files) (places : List (Option (RingKey Item))) (k : ℕ) (base : Base) (xs : List Line) → IsTaken bases handlers ring passes places k base xs → RecoversAlike found begun (k + 1) → IsBaseOf found (k + 1) (bases (k + 1))
       → Pushed begun places (k + 1) base.content (entries_in (k + 1) xs)
   pushed_at found begun places k base xs t alike of =
       let content = subst (λ (b : Base). IsContent (IsRecovered found (k + 1)) b.content) (sym t.met.base_is) of.content in
@@ -119,7 +119,7 @@ leaves_broken found disk broken regions l = record { sound = l.sound; others = l
 -- ---- the regions as they are handed on
 
 -- of which taken region it was made
-pub record Made (bases : ℕ → Base) (handlers : ℕ) (ring : TableId) (passes : List Pass) (places : List (Option (RingPass Item))) (n : ℕ) (words : List ℕ) (x : ClosedRegion) : Type 0 where
+pub record Made (bases : ℕ → Base) (handlers : ℕ) (ring : TableId) (passes : List Pass) (places : List (Option (RingKey Item))) (n : ℕ) (words : List ℕ) (x : ClosedRegion) : Type 0 where
   pub k : ℕ
   pub base : Base
   pub xs : List Line
@@ -127,7 +127,7 @@ pub record Made (bases : ℕ → Base) (handlers : ℕ) (ring : TableId) (passes
   pub worded : IsWorded n words k base xs x
   pub taken : IsTaken bases handlers ring passes places k base xs
 
-module _ (bases : ℕ → Base) (handlers : ℕ) (ring : TableId) (passes : List Pass) (places : List (Option (RingPass Item))) (n : ℕ) (words : List ℕ) where
+module _ (bases : ℕ → Base) (handlers : ℕ) (ring : TableId) (passes : List Pass) (places : List (Option (RingKey Item))) (n : ℕ) (words : List ℕ) where
   pub made_at : (ts : List Taken) (cs : List ClosedRegion) (given : List ℕ) → length ts ≡ n → given ≡ words
       → ((k : ℕ) (t : Taken) → slice_get ts k ≡ Some t → IsTaken bases handlers ring passes places k t.base t.lines.items)
       → ((k : ℕ) (c : ClosedRegion) → slice_get cs k ≡ Some c → (t : Taken) × (slice_get ts k ≡ Some t) × IsWorded (length ts) given k t.base t.lines.items c)

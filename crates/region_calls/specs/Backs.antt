@@ -3,7 +3,7 @@ use Rattle.std.specs.Prelude.{◌≡◌, ℕ, ◌+◌, ◌≤◌, List, length, 
 use Rattle.log_berth.specs.Standing.{Standing, AreBack}
 use Rattle.log_service.specs.declared.seats.LogSeat.{LogSeat}
 use Rattle.log_service.specs.declared.seats.LogSeats.{LogSeats}
-use Rattle.log_service.specs.Places.{Place}
+use Rattle.log_service.specs.Places.{ServiceId}
 use Rattle.region_lock.specs.declared.naming.LockNaming.{Ghosts}
 use Rattle.server_model.specs.Pass.{Pass as ThePass}
 use Rattle.region_calls.specs.declared.pass.Pass.{Pass}
@@ -11,7 +11,7 @@ use Rattle.region_calls.specs.declared.passes.Passes.{Passes}
 use Rattle.region_calls.specs.Deals.{AreSeatsOf, ArePassesOf, passes_out, passes_back}
 
 -- seats of the service at this place, all of which may be back, and room for so many more
-pub record AreSeats (place : Place) (room : ℕ) (seats : LogSeats) : Type 0 where
+pub record AreSeats (place : ServiceId) (room : ℕ) (seats : LogSeats) : Type 0 where
   pub consumers : AreBack place.consumer seats.consumers.seats
   pub devices : AreBack place.device seats.devices.seats
   pub rooms : (length seats.consumers.seats + room ≤ seats.consumers.room) × (length seats.devices.seats + room ≤ seats.devices.room)
@@ -28,7 +28,7 @@ module _ {N : Type 0} {g : Ghosts N} where
   seats_of ps = map (λ p. p.seat) ps
 
   -- all passes of the server at this place are back, and both seats of those that help
-  pub record AllBack (place : Place) (handlers : ℕ) (p : Passes N g) (helpers : List LogSeat) : Type 0 where
+  pub record AllBack (place : ServiceId) (handlers : ℕ) (p : Passes N g) (helpers : List LogSeat) : Type 0 where
     pub of : ArePassesOf place handlers p
     pub out : passes_out p ≡ handlers
     pub back : length (passes_back p) ≡ handlers

@@ -1,7 +1,7 @@
 -- What the close of a server hands on.
 use Rattle.std.specs.Prelude.{◌≡◌, ℕ, ◌+◌, ◌<◌, ◌≤◌, ◌^◌, true, List, Contains, Option, Some, slice_get}
 use Rattle.atomic_table.specs.Seated.{TableId}
-use Rattle.append_ring.specs.declared.pass.RingPass.{RingPass}
+use Rattle.append_ring.specs.declared.pass.RingKey.{RingKey}
 use Rattle.log_model.specs.Files.{Files}
 use Rattle.log_model.specs.Recovered.{RecoversAlike}
 use Rattle.disk_images.specs.Crash.{DiskView, Since}
@@ -24,10 +24,10 @@ pub record HasMet (bases : ℕ → Base) (handlers : ℕ) (passes : List Pass) (
   pub owners : AreOwned handlers xs
   pub each : (p : Pass) → Contains passes p → IsMet base (edits_in r xs) p.handler (p.known r)
 
--- the region behind this place was taken apart so: its pass of the ring is back in its place, and the entries pushed under it are the journal's
-pub record IsTaken (bases : ℕ → Base) (handlers : ℕ) (ring : TableId) (passes : List Pass) (places : List (Option (RingPass Item))) (place : ℕ) (base : Base) (xs : List Line) : Type 0 where
+-- the region behind this place was taken apart so: its key of the ring is back in its place, and the entries pushed under it are the journal's
+pub record IsTaken (bases : ℕ → Base) (handlers : ℕ) (ring : TableId) (passes : List Pass) (places : List (Option (RingKey Item))) (place : ℕ) (base : Base) (xs : List Line) : Type 0 where
   pub met : HasMet bases handlers passes (place + 1) base xs
-  pub pass : RingPass Item
+  pub pass : RingKey Item
   pub there : slice_get places place ≡ Some (Some pass)
   pub of_ring : pass.pass.table_id ≡ ring
   pub of_region : pass.region ≡ place + 1

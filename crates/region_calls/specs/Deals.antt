@@ -3,7 +3,7 @@ use Rattle.std.specs.Prelude.{◌≡◌, ℕ, ◌+◌, ◌-◌, ◌≤◌, List,
 use Rattle.std.specs.Global.{Vec}
 use Rattle.log_berth.specs.Standing.{AreBack}
 use Rattle.log_service.specs.declared.seats.LogSeat.{LogSeat}
-use Rattle.log_service.specs.Places.{Place, IsSeatOf}
+use Rattle.log_service.specs.Places.{ServiceId, IsSeatOf}
 use Rattle.region_lock.specs.declared.pass.RegionPass.{RegionPass}
 use Rattle.region_lock.specs.declared.naming.LockNaming.{Ghosts}
 use Rattle.server_model.specs.Pass.{Pass as ThePass}
@@ -13,7 +13,7 @@ use Rattle.region_calls.specs.Passes.{knows, IsPassOf}
 use Rattle.region_calls.specs.Hands.{AreDeals}
 
 -- each seat is of the service at this place
-abbrev pub AreSeatsOf : Place → List LogSeat → Type 0
+abbrev pub AreSeatsOf : ServiceId → List LogSeat → Type 0
 AreSeatsOf place [] = Unit {0}
 AreSeatsOf place (s ∷ ss) = IsSeatOf place s × AreSeatsOf place ss
 
@@ -24,7 +24,7 @@ module _ {N : Type 0} {g : Ghosts N} where
   AreRooms regions (v ∷ vs) = ((v.items ≡ []) × (regions ≤ vec_capacity v)) × AreRooms regions vs
 
   -- each pass is of the server at this place
-  abbrev pub AllOf : Place → List (Pass N g) → Type 0
+  abbrev pub AllOf : ServiceId → List (Pass N g) → Type 0
   AllOf place [] = Unit {0}
   AllOf place (p ∷ ps) = IsPassOf place p × AllOf place ps
 
@@ -37,7 +37,7 @@ module _ {N : Type 0} {g : Ghosts N} where
 
   -- The passes of a server at this place, which has so many handlers: of each handler, from 1 on, its pass was handed out, or its parts are
   -- there; and those that are back.
-  pub record ArePassesOf (place : Place) (handlers : ℕ) (p : Passes N g) : Type 0 where
+  pub record ArePassesOf (place : ServiceId) (handlers : ℕ) (p : Passes N g) : Type 0 where
     pub count : length p.regions.items ≡ place.regions
     pub deals : AreDeals (p.out + 1) (handlers - p.out) p.regions.items
     pub all : p.handlers ≡ handlers

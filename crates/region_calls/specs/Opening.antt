@@ -8,11 +8,11 @@ use Rattle.log_device.specs.declared.error.DeviceWhy.TheVariants as whys
 use Rattle.region_calls.specs.declared.refusal.StartWhy.{StartWhy}
 use Rattle.region_calls.specs.declared.refusal.StartWhy.TheVariants as starts
 use Rattle.region_calls.specs.declared.refusal.StartRefusal.{StartRefusal}
-use Rattle.region_calls.specs.declared.store.Opened.{Opened}
+use Rattle.region_calls.specs.declared.store.OpenedStore.{OpenedStore}
 use Rattle.region_calls.specs.Store.{disk_now}
 
 -- the disk of an opening, whether it was refused or not
-abbrev pub disk_left : {D : Type 0} → Result (Opened D) (StartRefusal D) → D
+abbrev pub disk_left : {D : Type 0} → Result (OpenedStore D) (StartRefusal D) → D
 disk_left (Ok o) = disk_now o
 disk_left (Err e) = e.disk
 

@@ -2,7 +2,7 @@
 use Rattle.std.specs.Prelude.{◌≡◌, ℕ, zero, suc, ◌+◌, List, [], length, Option, Some, None, slice_get}
 use Rattle.hand_register.specs.Rule.{empty}
 use Rattle.log_service.specs.declared.seats.LogSeat.{LogSeat}
-use Rattle.log_service.specs.Places.{Place, IsSeatOf}
+use Rattle.log_service.specs.Places.{ServiceId, IsSeatOf}
 use Rattle.server_model.specs.Pass.{Known, Pass as ThePass}
 use Rattle.region_lock.specs.declared.pass.RegionPass.{RegionPass}
 use Rattle.region_lock.specs.declared.naming.LockNaming.{Ghosts}
@@ -40,7 +40,7 @@ module _ {N : Type 0} {g : Ghosts N} where
   AreHandsOf handler calls ps = (k : ℕ) (p : RegionPass N g) → slice_get ps k ≡ Some p → IsHandOf handler calls (k + 1) p
 
   -- a pass of the server at this place: its seat is one there, and it has hands of each region
-  pub record IsPassOf (place : Place) (p : Pass N g) : Type 0 where
+  pub record IsPassOf (place : ServiceId) (p : Pass N g) : Type 0 where
     pub seat : IsSeatOf place p.seat
     pub count : length p.regions.items ≡ place.regions
     pub hands : AreHandsOf p.handler p.calls p.regions.items

@@ -10,57 +10,57 @@ use Rattle.log_ledger.specs.History.{History}
 use Rattle.log_device.specs.Whole.{disk_of}
 use Rattle.log_service.specs.Begun.{AreNewParts, IsFresh, BeginsAs}
 use Rattle.region_replay.specs.Opened.{AtMostOneHigher}
-use Rattle.region_calls.specs.declared.store.Opened.{Opened}
+use Rattle.region_calls.specs.declared.store.OpenedStore.{OpenedStore}
 use Rattle.region_calls.specs.Seeds.{AreSeeds, base_of, desk_of, spent_of, book_of, lasts_of}
 use Rattle.region_calls.specs.Bases.{AreBasesOf}
 use Rattle.region_calls.specs.Cleared.{AreCleared}
 
 module _ {D : Type 0} where
   -- the disk now, as it was found, and as it was when a log was begun on it
-  abbrev pub disk_now : Opened D → D
+  abbrev pub disk_now : OpenedStore D → D
   disk_now o = disk_of o.device
 
-  abbrev pub disk_found : Opened D → D
+  abbrev pub disk_found : OpenedStore D → D
   disk_found o = o.found.value
 
-  abbrev pub disk_begun : Opened D → D
+  abbrev pub disk_begun : OpenedStore D → D
   disk_begun o = o.split.value
 
   -- for how many regions and handlers it was opened
-  abbrev pub regions_of : Opened D → ℕ
+  abbrev pub regions_of : OpenedStore D → ℕ
   regions_of o = o.regions
 
-  abbrev pub handlers_of : Opened D → ℕ
+  abbrev pub handlers_of : OpenedStore D → ℕ
   handlers_of o = o.handlers
 
   -- of each region, region 1 first: its base, its desks and the book of its history
-  abbrev pub bases_of : Opened D → List Base
+  abbrev pub bases_of : OpenedStore D → List Base
   bases_of o = map base_of o.seeds.items
 
-  abbrev pub desks_of : Opened D → List TableId
+  abbrev pub desks_of : OpenedStore D → List TableId
   desks_of o = map desk_of o.seeds.items
 
-  abbrev pub spents_of : Opened D → List TableId
+  abbrev pub spents_of : OpenedStore D → List TableId
   spents_of o = map spent_of o.seeds.items
 
-  abbrev pub books_of : Opened D → List Book
+  abbrev pub books_of : OpenedStore D → List Book
   books_of o = map book_of o.seeds.items
 
-  -- the log's ring of items, and that of loads
-  abbrev pub ring_of : Opened D → TableId
+  -- the log's ring of items, and that of chains
+  abbrev pub ring_of : OpenedStore D → TableId
   ring_of o = o.rings.items.ring.id
 
-  abbrev pub hand_of : Opened D → TableId
-  hand_of o = o.rings.loads.ring.id
+  abbrev pub chain_ring_of : OpenedStore D → TableId
+  chain_ring_of o = o.rings.chains.ring.id
 
   -- what holds of an opened store
-  pub record IsStore (g : Ghosts D) (o : Opened D) : Type 0 where
+  pub record IsStore (g : Ghosts D) (o : OpenedStore D) : Type 0 where
     pub some : (1 ≤ o.regions) × (o.regions ≤ 64)
     pub hands : (1 ≤ o.handlers) × (o.handlers ≤ 16)
     pub count : length o.seeds.items ≡ o.regions
     pub each : AreSeeds o.handlers 1 o.seeds.items
     pub items : (o.rings.items.ring.capacity ≡ 1024) × AreNewParts (ring_of o) (lasts_of (bases_of o)) o.rings.items.consumer.pass.table_id (view o.rings.items.consumer.pass) o.rings.items.passes
-    pub loads : (o.rings.loads.ring.capacity ≡ 2) × AreNewParts (hand_of o) (lasts_of (bases_of o)) o.rings.loads.consumer.pass.table_id (view o.rings.loads.consumer.pass) o.rings.loads.passes
+    pub chains : (o.rings.chains.ring.capacity ≡ 2) × AreNewParts (chain_ring_of o) (lasts_of (bases_of o)) o.rings.chains.consumer.pass.table_id (view o.rings.chains.consumer.pass) o.rings.chains.passes
     -- its device has done nothing yet
     pub fresh : IsFresh (lasts_of (bases_of o)) o.device
     pub begins : IsTrue g.told → ∥ ((h : History) × BeginsAs (g.view (disk_begun o)).files (lasts_of (bases_of o)) o.device (g.view (disk_now o)) h) ∥₁

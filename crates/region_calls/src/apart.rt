@@ -4,14 +4,14 @@ ghost use Rattle.std.specs.Prelude.{◌≡◌, ◌≢◌, ◌≤◌, ◌<◌, �
 ghost use Rattle.append_ring.specs.Parts.{AreOut};
 ghost use Rattle.region_model.specs.Journal.{Base as TheBase};
 ghost use Rattle.region_model.specs.Lines.{Line as TheLine};
-ghost use Rattle.log_service.specs.Places.{Place};
+ghost use Rattle.log_service.specs.Places.{ServiceId};
 ghost use Rattle.region_calls.specs.Closes.{IsTaken};
 ghost use Rattle.region_calls.specs.Deals.{AllOf};
 ghost use Rattle.region_calls.specs.Passes.{knows};
 
 use crate::meeting::meet_all;
 use crate::pass::Pass;
-use append_ring::RingPasses;
+use append_ring::RingKeys;
 use log_service::Item;
 use mem_segments::Base;
 use region_lock::Locked;
@@ -44,7 +44,7 @@ pub(crate) fn sure<S: Wait>(rt: &S, holds: bool)
     }
 }
 
-/// Takes a region apart, in whose journal all passes meet, and puts its pass of the ring back.
+/// Takes a region apart, in whose journal all passes meet, and puts its key of the ring back.
 fn take_region<
     N: region_lock::LockNaming + log_service::ServiceNaming + region_versions::VersionsNaming,
     R: Wait + Drop,
@@ -53,13 +53,13 @@ fn take_region<
     rt: &S,
     locked: Locked<N, R>,
     passes: &mut Vec<Pass<N>>,
-    places: &mut RingPasses<Item>,
+    places: &mut RingKeys<Item>,
     place: u32,
 ) -> Taken
     requires place { (place < 64) × (slice_get places.old place ≡ Some None) }
-    requires passes { (the : Place) × AllOf the passes.old.items × (place < the.regions) }
+    requires passes { (the : ServiceId) × AllOf the passes.old.items × (place < the.regions) }
     ensures knows { map knows passes.new.items ≡ map knows passes.old.items }
-    ensures of { (the : Place) → AllOf the passes.old.items → AllOf the passes.new.items }
+    ensures of { (the : ServiceId) → AllOf the passes.old.items → AllOf the passes.new.items }
     ensures taken { IsTaken N.region_base N.handlers N.ring (map knows passes.old.items) places.new place result.base result.lines.items }
     ensures others { (j : ℕ) → j ≢ place → slice_get places.new j ≡ slice_get places.old j }
     ensures count { length places.new ≡ length places.old }
@@ -83,14 +83,14 @@ pub(crate) fn take_all<
     rt: &S,
     regions: Vec<Mutex<Locked<N, R>>>,
     passes: &mut Vec<Pass<N>>,
-    places: &mut RingPasses<Item>,
+    places: &mut RingKeys<Item>,
     room: Vec<Taken>,
 ) -> Vec<Taken>
     requires places { AreOut (length places.old) places.old × (length places.old ≡ length regions.items) × (length regions.items ≤ 64) }
-    requires passes { (the : Place) × AllOf the passes.old.items × (length regions.items ≤ the.regions) }
+    requires passes { (the : ServiceId) × AllOf the passes.old.items × (length regions.items ≤ the.regions) }
     requires room { (room.items ≡ []) × (length regions.items ≤ vec_capacity room) }
     ensures knows { map knows passes.new.items ≡ map knows passes.old.items }
-    ensures of { (the : Place) → AllOf the passes.old.items → AllOf the passes.new.items }
+    ensures of { (the : ServiceId) → AllOf the passes.old.items → AllOf the passes.new.items }
     ensures taken { (k : ℕ) (t : Taken) → slice_get result.items k ≡ Some t
         → IsTaken N.region_base N.handlers N.ring (map knows passes.old.items) places.new k t.base t.lines.items }
     ensures count { (length result.items ≡ length regions.items) × (length places.new ≡ length regions.items) }
@@ -122,14 +122,14 @@ pub(crate) fn let_all_go<
     rt: &S,
     regions: Vec<Mutex<Locked<N, R>>>,
     passes: &mut Vec<Pass<N>>,
-    places: &mut RingPasses<Item>,
+    places: &mut RingKeys<Item>,
     lasts: &mut [u64],
 )
     requires places { AreOut (length places.old) places.old × (length places.old ≡ length regions.items) × (length regions.items ≤ 64) }
-    requires passes { (the : Place) × AllOf the passes.old.items × (length regions.items ≤ the.regions) }
+    requires passes { (the : ServiceId) × AllOf the passes.old.items × (length regions.items ≤ the.regions) }
     requires room { 64 ≤ length lasts.old }
     ensures knows { map knows passes.new.items ≡ map knows passes.old.items }
-    ensures of { (the : Place) → AllOf the passes.old.items → AllOf the passes.new.items }
+    ensures of { (the : ServiceId) → AllOf the passes.old.items → AllOf the passes.new.items }
     ensures taken { (k : ℕ) → k < length regions.items
         → (base : TheBase) × (lines : List TheLine)
         × IsTaken N.region_base N.handlers N.ring (map knows passes.old.items) places.new k base lines × (slice_index lasts.new k ≡ base.last) }

@@ -28,7 +28,7 @@ use crate::pass::Pass;
 use crate::passes::Passes;
 use crate::server::Server;
 use crate::wording::{sure_stored, word_all};
-use append_ring::RingPasses;
+use append_ring::RingKeys;
 use disk_images::Disk;
 use kv_cell::NoMemory;
 use log_service::{Item, LogSeats, LogService, ServiceClosed};
@@ -37,19 +37,19 @@ use std::sync::Wait;
 
 /// Memory for the regions of a server that is closed.
 #[derive(Drop)]
-struct Room {
+struct CloseRoom {
     taken: Vec<Taken>,
     regions: Vec<ClosedRegion>,
 }
 
 /// Takes the memory.
-fn make_room(alloc: Global, regions: usize) -> Result<Room, NoMemory>
+fn make_room(alloc: Global, regions: usize) -> Result<CloseRoom, NoMemory>
     ensures { IfOk result (λ r. (r.taken.items ≡ []) × (regions ≤ vec_capacity r.taken)
         × (r.regions.items ≡ []) × (regions ≤ vec_capacity r.regions)) }
 {
     let taken = Vec::with_capacity(alloc, regions)?;
     let regions = Vec::with_capacity(alloc, regions)?;
-    Ok(Room { taken, regions })
+    Ok(CloseRoom { taken, regions })
 }
 
 /// Gives all seats back, and closes the log.
@@ -63,7 +63,7 @@ fn shut<
     seats: LogSeats,
     back: Vec<Pass<N>>,
     helpers: Helpers,
-    places: RingPasses<Item>,
+    places: RingKeys<Item>,
 ) -> ServiceClosed<D>
     requires seats { AreSeats service (length back.items + 2) seats × (length seats.devices.seats + (length back.items + 2) ≡ service.seats) }
     requires back { AllOf service back.items }
@@ -103,7 +103,7 @@ fn finish<
     rt: &S,
     passes: Passes<N>,
     helpers: Helpers,
-    room: Room,
+    room: CloseRoom,
 ) -> ClosedServer<D>
     requires back { AllBack server N.handlers passes helpers × AreAll N.handlers (passes_back passes) }
     requires room { (room.taken.items ≡ []) × (server.regions ≤ vec_capacity room.taken)

@@ -1,7 +1,7 @@
 //! The seats of passes and of those that help are given back.
 
 ghost use Rattle.std.specs.Prelude.{◌≡◌, ◌≤◌, ◌+◌, ◌++◌, ℕ, length};
-ghost use Rattle.log_service.specs.Places.{Place};
+ghost use Rattle.log_service.specs.Places.{ServiceId};
 ghost use Rattle.region_calls.specs.Backs.{AreSeats, device_seats, seats_of};
 ghost use Rattle.region_calls.specs.Deals.{AllOf, AreSeatsOf};
 
@@ -14,8 +14,8 @@ pub(crate) fn give_passes<N: region_lock::LockNaming + region_versions::Versions
     passes: Vec<Pass<N>>,
     more: u32,
 )
-    requires of { (the : Place) × AreSeats the (length passes.items + more) seats.old × AllOf the passes.items }
-    ensures of { (the : Place) → AreSeats the (length passes.items + more) seats.old → AllOf the passes.items → AreSeats the more seats.new }
+    requires of { (the : ServiceId) × AreSeats the (length passes.items + more) seats.old × AllOf the passes.items }
+    ensures of { (the : ServiceId) → AreSeats the (length passes.items + more) seats.old → AllOf the passes.items → AreSeats the more seats.new }
     ensures back { seats.new.devices.seats ≡ seats.old.devices.seats ++ device_seats (seats_of passes.items) }
 {
     // The contract alone uses it.
@@ -33,8 +33,8 @@ pub(crate) fn give_passes<N: region_lock::LockNaming + region_versions::Versions
 
 /// The seats of those that help.
 pub(crate) fn give_seats(seats: &mut LogSeats, helpers: Vec<LogSeat>)
-    requires of { (the : Place) × AreSeats the (length helpers.items) seats.old × AreSeatsOf the helpers.items }
-    ensures of { (the : Place) → AreSeats the (length helpers.items) seats.old → AreSeatsOf the helpers.items → AreSeats the 0 seats.new }
+    requires of { (the : ServiceId) × AreSeats the (length helpers.items) seats.old × AreSeatsOf the helpers.items }
+    ensures of { (the : ServiceId) → AreSeats the (length helpers.items) seats.old → AreSeatsOf the helpers.items → AreSeats the 0 seats.new }
     ensures back { seats.new.devices.seats ≡ seats.old.devices.seats ++ device_seats helpers.items }
 {
     'giving: for seat in helpers {

@@ -42,4 +42,4 @@ pub use region_lock::{FlushRefusal, FreeGate, Gate, PutRefusal, ScanReply};
 pub use scanner::Scanner;
 pub use server::Server;
 pub use starting::Started;
-pub use store::Opened;
+pub use store::OpenedStore;

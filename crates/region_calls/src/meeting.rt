@@ -2,7 +2,7 @@
 
 ghost use Rattle.std.specs.Prelude.{◌≡◌, ◌≤◌, ◌<◌, ◌+◌, ℕ, length, map, IsTrue, Contains, slice_get, Some};
 ghost use Rattle.region_model.specs.Lines.{edits_in};
-ghost use Rattle.log_service.specs.Places.{Place};
+ghost use Rattle.log_service.specs.Places.{ServiceId};
 ghost use Rattle.server_model.specs.Pass.{Pass as ThePass};
 ghost use Rattle.region_lock.specs.Met.{IsMet};
 ghost use Rattle.region_calls.specs.Backs.{AreAll};
@@ -19,10 +19,10 @@ fn meet_one<
     R: Wait + Drop,
 >(locked: &mut Locked<N, R>, pass: &mut Pass<N>, place: usize) -> bool
     requires region { locked.old.state.region ≡ place + 1 }
-    requires pass { (the : Place) × IsPassOf the pass.old × (place < the.regions) }
+    requires pass { (the : ServiceId) × IsPassOf the pass.old × (place < the.regions) }
     ensures same { locked.new ≡ locked.old }
     ensures knows { knows pass.new ≡ knows pass.old }
-    ensures of { (the : Place) → IsPassOf the pass.old → IsPassOf the pass.new }
+    ensures of { (the : ServiceId) → IsPassOf the pass.old → IsPassOf the pass.new }
     ensures met { IsTrue result
         → IsMet locked.old.state.base (edits_in locked.old.state.region locked.old.state.lines) (knows pass.old).handler ((knows pass.old).known (place + 1)) }
 {
@@ -35,10 +35,10 @@ pub(crate) fn meet_all<
     R: Wait + Drop,
 >(locked: &mut Locked<N, R>, passes: &mut Vec<Pass<N>>, place: usize) -> bool
     requires region { locked.old.state.region ≡ place + 1 }
-    requires passes { (the : Place) × AllOf the passes.old.items × (place < the.regions) }
+    requires passes { (the : ServiceId) × AllOf the passes.old.items × (place < the.regions) }
     ensures same { locked.new ≡ locked.old }
     ensures knows { map knows passes.new.items ≡ map knows passes.old.items }
-    ensures of { (the : Place) → AllOf the passes.old.items → AllOf the passes.new.items }
+    ensures of { (the : ServiceId) → AllOf the passes.old.items → AllOf the passes.new.items }
     ensures met { IsTrue result → (p : ThePass) → Contains (map knows passes.old.items) p
         → IsMet locked.old.state.base (edits_in locked.old.state.region locked.old.state.lines) p.handler (p.known (place + 1)) }
 {

@@ -12,7 +12,7 @@ ghost use Rattle.region_calls.specs.Store.{IsStore, disk_found, regions_of, hand
 
 use crate::refusal::{StartRefusal, StartWhy, device_why, split_why};
 use crate::sowing::{Sown, sow};
-use crate::store::Opened;
+use crate::store::OpenedStore;
 use disk_images::Disk;
 use kv_cell::NoMemory;
 use log_device::{Device, DeviceRefusal};
@@ -27,7 +27,7 @@ pub fn open<D: Disk>(
     disk: D,
     regions: u32,
     handlers: u32,
-) -> Result<Opened<D>, StartRefusal<D>>
+) -> Result<OpenedStore<D>, StartRefusal<D>>
     requires regions { (1 ≤ regions) × (regions ≤ 64) }
     requires handlers { (1 ≤ handlers) × (handlers ≤ 16) }
 
@@ -65,7 +65,7 @@ pub fn begin_recovered<D: Disk>(
     recovered: Recovered,
     regions: u32,
     handlers: u32,
-) -> Result<Opened<D>, StartRefusal<D>>
+) -> Result<OpenedStore<D>, StartRefusal<D>>
     requires regions { (1 ≤ regions) × (regions ≤ 64) }
     requires handlers { (1 ≤ handlers) × (handlers ≤ 16) }
     requires recovered { WasRecovered D.Disk found.value disk recovered }
@@ -98,7 +98,7 @@ pub fn begin_recovered<D: Disk>(
                 rings,
                 seeds,
             } = sown;
-            Ok(Opened {
+            Ok(OpenedStore {
                 device,
                 rings,
                 seeds,

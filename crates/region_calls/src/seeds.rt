@@ -8,7 +8,7 @@ use hand_register::{Desk, DeskParts};
 use kv_cell::NoMemory;
 use mem_segments::Base;
 use region_state::{Line, RegionState, Version};
-use region_versions::Opened as OpenedBook;
+use region_versions::NewHistory;
 use std::alloc::Global;
 use std::sync::Arc;
 
@@ -18,7 +18,7 @@ use std::sync::Arc;
 pub struct RegionSeeds {
     pub(crate) state: RegionState,
     pub(crate) version: Arc<Version, Global>,
-    pub(crate) opened: OpenedBook,
+    pub(crate) opened: NewHistory,
     pub(crate) desk: DeskParts<Line>,
     pub(crate) spent: DeskParts<u64>,
 }
@@ -48,7 +48,7 @@ impl RegionSeeds {
         Ok(RegionSeeds {
             state,
             version,
-            opened: OpenedBook::new(),
+            opened: NewHistory::new(),
             desk,
             spent,
         })

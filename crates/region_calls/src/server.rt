@@ -3,7 +3,7 @@
 ghost use Rattle.std.specs.Prelude.{◌≡◌};
 
 use crate::naming::ServerNaming;
-use append_ring::RingPasses;
+use append_ring::RingKeys;
 use disk_images::Disk;
 use log_service::{Item, LogService};
 use region_lock::Locked;
@@ -24,8 +24,8 @@ pub struct Server<
     pub(crate) service: LogService<D, N>,
     // Region 1 first.
     pub(crate) regions: Vec<Mutex<Locked<N, &'a R>>>,
-    // The places of the regions' passes of the ring, which stand in the regions' locks.
-    pub(crate) places: RingPasses<Item>,
+    // The places of the regions' keys of the ring, which stand in the regions' locks.
+    pub(crate) places: RingKeys<Item>,
     // The handle that the regions' versions keep: with a field of its own its lifetime is known to be the handle's.
     pub(crate) rt: &'a R,
 }
@@ -40,10 +40,10 @@ impl<
     R: Wait,
 > Model for Server<'a, D, N, R> {
     ghost use Rattle.std.specs.Prelude.{length};
-    ghost use Rattle.log_service.specs.Places.{Place};
+    ghost use Rattle.log_service.specs.Places.{ServiceId};
     ghost use Rattle.region_calls.specs.Served.{IsBegun, AreLocked};
 
-    ghost Value = { Place };
+    ghost Value = { ServiceId };
 
     ghost view = { λ s. s.service };
 

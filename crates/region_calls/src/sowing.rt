@@ -93,10 +93,10 @@ pub(crate) fn sow(alloc: Global, found: Vec<Replayed>, handlers: u32) -> Result<
         (λ s. (s.rings.items.ring.capacity ≡ 1024)
         × AreNewParts s.rings.items.ring.id (lasts_of (bases_found found.items))
         s.rings.items.consumer.pass.table_id (view s.rings.items.consumer.pass) s.rings.items.passes) }
-    ensures loads { IfOk result
-        (λ s. (s.rings.loads.ring.capacity ≡ 2)
-        × AreNewParts s.rings.loads.ring.id (lasts_of (bases_found found.items))
-        s.rings.loads.consumer.pass.table_id (view s.rings.loads.consumer.pass) s.rings.loads.passes) }
+    ensures chains { IfOk result
+        (λ s. (s.rings.chains.ring.capacity ≡ 2)
+        × AreNewParts s.rings.chains.ring.id (lasts_of (bases_found found.items))
+        s.rings.chains.consumer.pass.table_id (view s.rings.chains.consumer.pass) s.rings.chains.passes) }
 {
     let marks = marks_of(alloc, &found)?;
     let lasts = lasts_found(alloc, &found)?;

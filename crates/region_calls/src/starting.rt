@@ -2,7 +2,7 @@
 
 ghost use Rattle.std.specs.Prelude.{◌≡◌, ◌≤◌, ◌+◌, [], length, IfOk, IfErr, vec_capacity};
 ghost use Rattle.append_ring.specs.Parts.{AreNew, AreOut};
-ghost use Rattle.log_service.specs.Places.{Place};
+ghost use Rattle.log_service.specs.Places.{ServiceId};
 ghost use Rattle.region_calls.specs.Hands.{AreDeals};
 ghost use Rattle.region_calls.specs.Deals.{AreSeatsOf, AreRooms, ArePassesOf, passes_out, passes_back};
 ghost use Rattle.region_calls.specs.Named.{AreFrom, AreNamedSeeds};
@@ -20,9 +20,9 @@ use crate::refusal::{StartRefusal, StartWhy};
 use crate::room::{NamedRegions, make_rooms, name_regions};
 use crate::seeds::RegionSeeds;
 use crate::server::Server;
-use crate::store::Opened;
+use crate::store::OpenedStore;
 use crate::unlocked::Unlocked;
-use append_ring::RingPasses;
+use append_ring::RingKeys;
 use disk_images::Disk;
 use kv_cell::NoMemory;
 use log_service::{Item, LogSeat, LogService, ServiceParts, ServiceRefusal};
@@ -47,7 +47,7 @@ pub struct Started<
 
 /// All memory of a server under its name, but its log's.
 #[derive(Drop)]
-struct Room<
+struct NamedRoom<
     'a,
     N: ServerNaming
         + region_lock::LockNaming
@@ -76,7 +76,7 @@ fn make_room<
     alloc: Global,
     seeds: Vec<RegionSeeds>,
     handlers: u32,
-) -> Result<Room<'a, N, R>, NoMemory>
+) -> Result<NamedRoom<'a, N, R>, NoMemory>
     requires seeds { AreSeeds handlers 1 seeds.items }
     requires handlers { (1 ≤ handlers) × (handlers ≤ 16) × (handlers ≡ N.handlers) }
     requires named { AreNamedSeeds N.desk N.spent N.book N.region_base N.lasts seeds.items }
@@ -94,7 +94,7 @@ fn make_room<
     let back = Vec::with_capacity(alloc, handlers as usize)?;
     let helpers = Vec::with_capacity(alloc, 2)?;
     let NamedRegions { unlocked, hands } = name_regions::<N, R>(rt, alloc, seeds, handlers)?;
-    Ok(Room {
+    Ok(NamedRoom {
         unlocked,
         hands,
         rooms,
@@ -104,12 +104,12 @@ fn make_room<
     })
 }
 
-/// Puts each region behind its lock, with its pass of the ring.
+/// Puts each region behind its lock, with its key of the ring.
 fn lock_all<
     N: region_lock::LockNaming + log_service::ServiceNaming + region_versions::VersionsNaming,
     R: Wait + Drop,
 >(
-    passes: &mut RingPasses<Item>,
+    passes: &mut RingKeys<Item>,
     unlocked: Vec<Unlocked<N, R>>,
     locks: Vec<Mutex<Locked<N, R>>>,
 ) -> Vec<Mutex<Locked<N, R>>>
@@ -138,7 +138,12 @@ fn join<
         + log_service::ServiceNaming
         + region_versions::VersionsNaming,
     R: Wait,
->(rt: &'a R, parts: ServiceParts<D, N>, room: Room<'a, N, R>, handlers: u32) -> Started<'a, D, N, R>
+>(
+    rt: &'a R,
+    parts: ServiceParts<D, N>,
+    room: NamedRoom<'a, N, R>,
+    handlers: u32,
+) -> Started<'a, D, N, R>
     requires handlers { (1 ≤ handlers) × (handlers ≤ 16) × (handlers ≡ N.handlers) }
     requires served { IsBegun D.told N.name N.found N.handlers N.flushes N.ring N.lasts N.begun N.region_base parts.service }
     requires passes { AreNew N.ring N.lasts 0 parts.passes × (length parts.passes ≡ parts.service.regions) }
@@ -158,7 +163,7 @@ fn join<
         passes: mut places,
         mut seats,
     } = parts;
-    let Room {
+    let NamedRoom {
         unlocked,
         hands,
         rooms,
@@ -194,7 +199,7 @@ fn join<
     }
 }
 
-impl<D: Disk> Opened<D> {
+impl<D: Disk> OpenedStore<D> {
     /// The server of this store, by a name that is its: the store's tables, bases and files. It refuses where it is out of memory, and gives the
     /// disk back. The server keeps the handle `rt`, since its drop waits for those that view a region.
     pub fn named<
@@ -213,7 +218,7 @@ impl<D: Disk> Opened<D> {
         ensures helpers { IfOk result (λ s. (length s.helpers ≡ 2) × AreSeatsOf s.server s.helpers) }
         ensures refused { IfErr result (λ e. (e.why ≡ StartWhy.Memory) × (e.disk ≡ disk_now self)) }
     {
-        let Opened {
+        let OpenedStore {
             device,
             rings,
             seeds,

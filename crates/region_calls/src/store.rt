@@ -10,7 +10,7 @@ use std::snapshot::Snapshot;
 
 /// An opened store: its device, the log's rings and the regions' parts, all with their memory; and the disk as it was found, and as it was
 /// when a log was begun on it, for contracts alone.
-pub struct Opened<D> {
+pub struct OpenedStore<D> {
     pub(crate) device: Device<D>,
     pub(crate) rings: Rings,
     // Region 1 first.
@@ -21,7 +21,7 @@ pub struct Opened<D> {
     pub(crate) split: Snapshot<D>,
 }
 
-impl<D> Opened<D> {
+impl<D> OpenedStore<D> {
     /// How many regions it was opened with, from 1 on.
     pub fn regions(&self) -> u32
         ensures { result ≡ regions_of self.now }
@@ -40,7 +40,7 @@ impl<D> Opened<D> {
     pub fn into_disk(self) -> D
         ensures { result ≡ disk_now self }
     {
-        let Opened {
+        let OpenedStore {
             device,
             rings: _rings,
             seeds: _seeds,

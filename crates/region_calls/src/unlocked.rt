@@ -8,7 +8,7 @@ ghost use Rattle.region_calls.specs.Named.{IsNamedSeed};
 
 use crate::hands::RegionHands;
 use crate::seeds::RegionSeeds;
-use append_ring::RingPass;
+use append_ring::RingKey;
 use hand_register::{Desk, DeskParts};
 use kv_cell::NoMemory;
 use log_service::Item;
@@ -19,7 +19,7 @@ use std::alloc::Global;
 use std::marker::Model;
 use std::sync::Wait;
 
-/// All that lies under a region's lock, but its pass of the ring. Contracts see the region.
+/// All that lies under a region's lock, but its key of the ring. Contracts see the region.
 #[derive(Drop)]
 pub(crate) struct Unlocked<
     N: region_lock::LockNaming + log_service::ServiceNaming + region_versions::VersionsNaming,
@@ -116,7 +116,7 @@ impl<
     R: Wait + Drop,
 > Unlocked<N, R> {
     /// The value of the region's lock, with its pass, under which nothing was pushed.
-    pub(crate) fn with_pass(self, pass: RingPass<Item>) -> Locked<N, R>
+    pub(crate) fn with_pass(self, pass: RingKey<Item>) -> Locked<N, R>
         requires { IsNew N.ring N.lasts self pass }
         ensures { (result.state.region ≡ self) × (result.mark ≡ None) }
     {

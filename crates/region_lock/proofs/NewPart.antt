@@ -5,7 +5,7 @@ use Rattle.crossbeam_queue.specs.Passes.{view}
 use Rattle.hand_register.specs.declared.known.Record.{Record}
 use Rattle.hand_register.specs.Rule.{empty}
 use Rattle.append_ring.specs.declared.knows.Knows.{Knows}
-use Rattle.append_ring.specs.declared.pass.RingPass.{RingPass}
+use Rattle.append_ring.specs.declared.pass.RingKey.{RingKey}
 use Rattle.append_ring.specs.Rules.{base_of, end_of}
 use Rattle.append_ring.specs.Parts.{IsNew}
 use Rattle.log_trucks.specs.Held.{AreHeld}
@@ -23,7 +23,7 @@ got zero x k q e = absurd (cc e)
 got (suc n) x zero q e = same_of x q e
 got (suc n) x (suc k) q e = got n x k q e
 
-part_of_none : (flushes : List Caller) (r : ℕ) (base : Base) (n : ℕ) (id : TableId) (lasts : List ℕ) (pass : RingPass Item) → IsNew id lasts r pass → base_of lasts r ≡ base.last
+part_of_none : (flushes : List Caller) (r : ℕ) (base : Base) (n : ℕ) (id : TableId) (lasts : List ℕ) (pass : RingKey Item) → IsNew id lasts r pass → base_of lasts r ≡ base.last
     → IsPart flushes r base [] None (replicate n empty) (replicate n empty) pass
 part_of_none flushes r base n id lasts pass new last =
     let none : (view pass.pass).pushed ≡ [] = ap (λ (v : Knows Item). v.pushed) new.2 in
@@ -41,7 +41,7 @@ part_of_none flushes r base n id lasts pass new last =
     none_in [] m e (k, low, is) = omega (arith, low)
     none_in (x ∷ xs) m e has = cc e
 
-pub part_new : (flushes : List Caller) (r : ℕ) (base : Base) (xs : List Line) (n : ℕ) (ours : List (Record Line)) (theirs : List (Record ℕ)) (id : TableId) (lasts : List ℕ) (pass : RingPass Item)
+pub part_new : (flushes : List Caller) (r : ℕ) (base : Base) (xs : List Line) (n : ℕ) (ours : List (Record Line)) (theirs : List (Record ℕ)) (id : TableId) (lasts : List ℕ) (pass : RingKey Item)
     → xs ≡ [] → ours ≡ replicate n empty → theirs ≡ replicate n empty → IsNew id lasts r pass → base_of lasts r ≡ base.last → IsPart flushes r base xs None ours theirs pass
 part_new flushes r base xs n ours theirs id lasts pass none a b new last =
     subst (λ (l : List Line). IsPart flushes r base l None ours theirs pass) (sym none)

@@ -6,7 +6,7 @@ use Rattle.crossbeam_queue.specs.Passes.{view}
 use Rattle.hand_register.specs.declared.known.Record.{Record}
 use Rattle.hand_register.specs.Desks.{with_value, with_last, with_mark}
 use Rattle.append_ring.specs.declared.knows.Knows.{Knows}
-use Rattle.append_ring.specs.declared.pass.RingPass.{RingPass}
+use Rattle.append_ring.specs.declared.pass.RingKey.{RingKey}
 use Rattle.append_ring.specs.Rules.{HasPushed, base_of, end_of, next_or}
 use Rattle.append_ring.specs.Parts.{last_pushed}
 use Rattle.log_model.specs.Entry.{Entry, IsEntry, entry_frame}
@@ -33,7 +33,7 @@ held_same : (hs hs' : List Held) (es es' : List Entry) → hs' ≡ hs → es' �
 held_same hs hs' es es' a b held = subst (λ (t : List Held). AreHeld t es') (sym a) (subst (AreHeld hs) (sym b) held)
 
 -- a line is begun, and its entry pushed
-pub part_begun : (flushes : List Caller) (r : ℕ) (base : Base) (xs : List Line) (mark : Option Caller) (ours : List (Record Line)) (theirs : List (Record ℕ)) (pass pass' : RingPass Item)
+pub part_begun : (flushes : List Caller) (r : ℕ) (base : Base) (xs : List Line) (mark : Option Caller) (ours : List (Record Line)) (theirs : List (Record ℕ)) (pass pass' : RingKey Item)
     (k : ℕ) (q : Record Line) (x : Line) (item : Item) → IsPart flushes r base xs mark ours theirs pass → HasPushed (view pass.pass) item (view pass'.pass) → pass'.region ≡ pass.region
     → slice_get ours k ≡ Some q → x.caller.handler ≡ k + 1 → x.number ≡ last_in base xs + 1 → AreHeld (appended (item ∷ [])) ((edit_in r x).entry ∷ []) → number_of item ≡ Some x.number
     → IsPart flushes r base (xs ++ x ∷ []) mark (set ours k (with_value q x)) theirs pass'
@@ -54,7 +54,7 @@ part_begun flushes r base xs mark ours theirs pass pass' k q x item p pushed reg
     }
 
 -- a handler's last line ends
-pub part_ended : (flushes : List Caller) (r : ℕ) (base : Base) (xs : List Line) (mark : Option Caller) (ours : List (Record Line)) (theirs : List (Record ℕ)) (pass : RingPass Item)
+pub part_ended : (flushes : List Caller) (r : ℕ) (base : Base) (xs : List Line) (mark : Option Caller) (ours : List (Record Line)) (theirs : List (Record ℕ)) (pass : RingKey Item)
     (k : ℕ) (q : Record Line) (ys : List Line) (x : Line) (o : Outcome) → IsPart flushes r base xs mark ours theirs pass → Follows base.last (edits_in r xs) → slice_get ours k ≡ Some q → q.list ≡ ys ++ x ∷ []
     → IsPart flushes r base (with_outcome x.number o xs) mark (set ours k (with_last q (record x { outcome = o }))) theirs pass
 part_ended flushes r base xs mark ours theirs pass k q ys x o p follows at own =
@@ -70,7 +70,7 @@ part_ended flushes r base xs mark ours theirs pass k q ys x o p follows at own =
     }
 
 -- an item that is no entry is pushed
-pub part_asked : (flushes : List Caller) (r : ℕ) (base : Base) (xs : List Line) (mark : Option Caller) (ours : List (Record Line)) (theirs : List (Record ℕ)) (pass pass' : RingPass Item)
+pub part_asked : (flushes : List Caller) (r : ℕ) (base : Base) (xs : List Line) (mark : Option Caller) (ours : List (Record Line)) (theirs : List (Record ℕ)) (pass pass' : RingKey Item)
     (item : Item) → IsPart flushes r base xs mark ours theirs pass → HasPushed (view pass.pass) item (view pass'.pass) → pass'.region ≡ pass.region → appended (item ∷ []) ≡ [] → number_of item ≡ None
     → IsPart flushes r base xs mark ours theirs pass'
 part_asked flushes r base xs mark ours theirs pass pass' item p pushed region none drawn = record {
@@ -85,7 +85,7 @@ part_asked flushes r base xs mark ours theirs pass pass' item p pushed region no
 }
 
 -- nothing was pushed
-pub part_full : (flushes : List Caller) (r : ℕ) (base : Base) (xs : List Line) (mark : Option Caller) (ours : List (Record Line)) (theirs : List (Record ℕ)) (pass pass' : RingPass Item)
+pub part_full : (flushes : List Caller) (r : ℕ) (base : Base) (xs : List Line) (mark : Option Caller) (ours : List (Record Line)) (theirs : List (Record ℕ)) (pass pass' : RingKey Item)
     → IsPart flushes r base xs mark ours theirs pass → view pass'.pass ≡ view pass.pass → pass'.region ≡ pass.region → IsPart flushes r base xs mark ours theirs pass'
 part_full flushes r base xs mark ours theirs pass pass' p same region = record {
   pushed = held_same _ _ _ _ (ap (λ (v : Knows Item). appended v.pushed) same) refl p.pushed;
@@ -98,7 +98,7 @@ part_full flushes r base xs mark ours theirs pass pass' p same region = record {
 }
 
 -- a hand is told the last number
-pub part_told : (flushes : List Caller) (r : ℕ) (base : Base) (xs : List Line) (mark : Option Caller) (ours : List (Record Line)) (theirs : List (Record ℕ)) (pass : RingPass Item)
+pub part_told : (flushes : List Caller) (r : ℕ) (base : Base) (xs : List Line) (mark : Option Caller) (ours : List (Record Line)) (theirs : List (Record ℕ)) (pass : RingKey Item)
     (k : ℕ) (q : Record ℕ) → IsPart flushes r base xs mark ours theirs pass → slice_get theirs k ≡ Some q → IsPart flushes r base xs mark ours (set theirs k (with_value q (last_in base xs))) pass
 part_told flushes r base xs mark ours theirs pass k q p at = record {
   pushed = p.pushed;
@@ -117,7 +117,7 @@ own_same ours xs k n q own at j u e = elim (get_set ours k j (with_mark q n) u e
 ]
 
 -- it ends
-pub part_unmarked : (flushes : List Caller) (r : ℕ) (base : Base) (xs : List Line) (mark : Option Caller) (ours : List (Record Line)) (theirs : List (Record ℕ)) (pass : RingPass Item)
+pub part_unmarked : (flushes : List Caller) (r : ℕ) (base : Base) (xs : List Line) (mark : Option Caller) (ours : List (Record Line)) (theirs : List (Record ℕ)) (pass : RingKey Item)
     (k : ℕ) (q : Record Line) → IsPart flushes r base xs mark ours theirs pass → slice_get ours k ≡ Some q → 1 ≤ q.mark
     → IsPart flushes r base xs None (set ours k (with_mark q 0)) theirs pass
 part_unmarked flushes r base xs mark ours theirs pass k q p at least = record {
@@ -225,7 +225,7 @@ last_is xs x d =
     ap (λ (i : ℕ). get_or (xs ++ x ∷ []) i d) k ∙ middle xs [] x d
 
 -- a wish is pushed, or the ring was full
-pub asked : (flushes : List Caller) (r : ℕ) (base : Base) (xs : List Line) (mark : Option Caller) (ours : List (Record Line)) (theirs : List (Record ℕ)) (pass pass' : RingPass Item)
+pub asked : (flushes : List Caller) (r : ℕ) (base : Base) (xs : List Line) (mark : Option Caller) (ours : List (Record Line)) (theirs : List (Record ℕ)) (pass pass' : RingKey Item)
     (region number : ℕ) (result : Result (Unit {0}) (Full Item)) → IsPart flushes r base xs mark ours theirs pass
     → MatchResult result (λ _. HasPushed (view pass.pass) (items.Sync region number) (view pass'.pass)) (λ full. (full.item ≡ items.Sync region number) × (view pass'.pass ≡ view pass.pass) × HadItems 1024 (view pass.pass)) → pass'.region ≡ pass.region
     → IsPart flushes r base xs mark ours theirs pass'

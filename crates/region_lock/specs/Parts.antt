@@ -3,7 +3,7 @@ use Rattle.std.specs.Prelude.{◌≡◌, ℕ, ◌+◌, ◌<◌, ◌≤◌, ◌==
 use Rattle.std.specs.Coded.{Coded, code_by, coded×, coded_ℕ, coded_option}
 use Rattle.atomic_table.specs.Seated.{TableId}
 use Rattle.hand_register.specs.declared.known.Record.{Record}
-use Rattle.append_ring.specs.declared.pass.RingPass.{RingPass}
+use Rattle.append_ring.specs.declared.pass.RingKey.{RingKey}
 use Rattle.append_ring.specs.Parts.{last_pushed}
 use Rattle.log_model.specs.Entry.{Entry}
 use Rattle.region_model.specs.Journal.{Base, Caller, Outcome, Pending}
@@ -57,7 +57,7 @@ AreMarked records mark = (k : ℕ) (r : Record Line) → slice_get records k ≡
 
 -- the ties of a region: what was pushed are the journal's entries, and what the hands have are their handlers' lines
 pub record IsPart (flushes : List Caller) (r : ℕ) (base : Base) (xs : List Line) (mark : Option Caller)
-    (ours : List (Record Line)) (theirs : List (Record ℕ)) (pass : RingPass Item) : Type 0 where
+    (ours : List (Record Line)) (theirs : List (Record ℕ)) (pass : RingKey Item) : Type 0 where
   pub pushed : HasPushedEntries pass (entries_in r xs)
   pub drawn : last_pushed number_of pass ≡ last_in base xs
   pub own : AreOwn ours xs

@@ -3,7 +3,7 @@ use Rattle.std.specs.Prelude.{◌≡◌, ℕ, ◌<◌, ◌≤◌}
 use Rattle.atomic_table.specs.Seated.{TableId}
 use Rattle.log_service.specs.declared.seats.LogSeat.{LogSeat}
 use Rattle.log_service.specs.Numbers.{seen_synced, seen_stored, seen_closed}
-use Rattle.log_service.specs.Places.{Place, IsSeatOf}
+use Rattle.log_service.specs.Places.{ServiceId, IsSeatOf}
 use Rattle.region_model.specs.Lines.{edits_in}
 use Rattle.server_model.specs.Pass.{Known}
 use Rattle.region_lock.specs.declared.pass.RegionPass.{RegionPass}
@@ -36,7 +36,7 @@ module _ {N : Type 0} {g : Ghosts N} where
       (new.viewer ≡ old.viewer) × (new.hand.number ≡ old.hand.number) × (new.hand.record.list ≡ old.hand.record.list) × (new.told ≡ old.told)
 
 -- the service is over this ring, the region is one of its own, and so is the seat, which has no turn
-pub record IsAtService (named : TableId) (place : Place) (r : ℕ) (used : LogSeat) : Type 0 where
+pub record IsAtService (named : TableId) (place : ServiceId) (r : ℕ) (used : LogSeat) : Type 0 where
   pub ring : place.ring ≡ named
   pub region : (0 < r) × (r ≤ place.regions)
   pub seat : IsSeatOf place used

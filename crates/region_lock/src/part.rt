@@ -1,4 +1,4 @@
-//! What lies under a region's lock: its state, its pass of the ring, its two desks, and the mark of a flush.
+//! What lies under a region's lock: its state, its key of the ring, its two desks, and the mark of a flush.
 
 ghost use Rattle.std.specs.Prelude.{◌≡◌, ◌<◌, ◌≤◌, ◌^◌, ℕ, Contains, IfOk, OnOk};
 ghost use Rattle.std.specs.Arc.{arc_value};
@@ -12,7 +12,7 @@ ghost use Rattle.region_lock.specs.Hands.{SameHand};
 ghost use Rattle.region_lock.specs.Parts.{AreOwned, entries_in, with_lines};
 
 use crate::naming::LockNaming;
-use append_ring::RingPass;
+use append_ring::RingKey;
 use hand_register::{Desk, Hand};
 use kv_cell::NoMemory;
 use log_service::Item;
@@ -28,7 +28,7 @@ pub struct RegionPart<
     N: LockNaming + log_service::ServiceNaming + region_versions::VersionsNaming,
 > {
     pub(crate) state: RegionState,
-    pub(crate) pass: RingPass<Item>,
+    pub(crate) pass: RingKey<Item>,
     pub(crate) desk: Desk<Line>,
     pub(crate) spent: Desk<u64>,
     pub(crate) mark: Option<Caller>,
@@ -124,8 +124,8 @@ impl<N: LockNaming + log_service::ServiceNaming + region_versions::VersionsNamin
         self.spent.meet(told);
     }
 
-    /// The base, the journal and the pass of the ring, handed on. It takes no memory.
-    pub fn into_parts(self) -> (Base, Vec<Line>, RingPass<Item>)
+    /// The base, the journal and the key of the ring, handed on. It takes no memory.
+    pub fn into_parts(self) -> (Base, Vec<Line>, RingKey<Item>)
         ensures base { (result.0 ≡ self.state.base) × (self.state.base ≡ N.region_base self.state.region) }
         ensures lines { result.1.items ≡ self.state.lines }
         ensures journal { IsJournal self.state.region self.state.base (edits_in self.state.region self.state.lines) }

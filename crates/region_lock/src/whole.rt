@@ -9,7 +9,7 @@ ghost use Rattle.region_versions.specs.Histories.{beginning};
 use crate::locked::Locked;
 use crate::naming::LockNaming;
 use crate::part::RegionPart;
-use append_ring::RingPass;
+use append_ring::RingKey;
 use hand_register::Desk;
 use log_service::Item;
 use region_state::{Line, RegionState};
@@ -21,11 +21,11 @@ impl<
     N: LockNaming + log_service::ServiceNaming + region_versions::VersionsNaming,
     R: Wait + Drop,
 > Locked<N, R> {
-    /// A region with no edit since its base: its pass of the ring, under which nothing was pushed; its two desks, whose hands have done
+    /// A region with no edit since its base: its key of the ring, under which nothing was pushed; its two desks, whose hands have done
     /// nothing; and its history, which is empty, and is shown.
     pub fn of(
         state: RegionState,
-        pass: RingPass<Item>,
+        pass: RingKey<Item>,
         desk: Desk<Line>,
         spent: Desk<u64>,
         history: History<N>,

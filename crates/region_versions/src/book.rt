@@ -58,18 +58,18 @@ impl Plain<Line, Line, u64> for Add {
 
 /// A book with an empty history, which has no name yet.
 #[derive(Drop)]
-pub struct Opened {
+pub struct NewHistory {
     head: Word<Line, u64, Law>,
     pub seen: Seen<Line, u64, Law>,
     pub ghost empty: { seen.log ≡ [] },
     pub ghost head_is: { head ≡ head_of seen.book },
 }
 
-impl Opened {
+impl NewHistory {
     /// A new book.
-    pub fn new() -> Opened {
+    pub fn new() -> NewHistory {
         let (seen, mut first, _second) = Seen::open(Start::alone(), 0, 0);
-        Opened {
+        NewHistory {
             head: Word::tracked(0, &mut first),
             seen,
         }
@@ -80,7 +80,7 @@ impl Opened {
         requires { self.seen.book ≡ N.book region }
         ensures { result ≡ beginning region [] }
     {
-        let Opened { head, seen } = self;
+        let NewHistory { head, seen } = self;
         History::new(head, Front::empty(region, seen))
     }
 }

@@ -14,7 +14,7 @@ mod sight;
 mod slot;
 mod viewer;
 
-pub use book::{Law, Opened};
+pub use book::{Law, NewHistory};
 pub use front::Front;
 pub use history::History;
 pub use made::versions;

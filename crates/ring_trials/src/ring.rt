@@ -6,7 +6,7 @@ ghost use Rattle.ring_trials.specs.declared.stamps.Stamp.{Stamp};
 ghost use Rattle.append_ring.specs.Parts.{last_pushed, IsNew, AreNew};
 
 use crate::stamps::{Stamp, push_next, push_three};
-use append_ring::{ConsumerPass, Ring, RingParts, RingPass, RingPasses};
+use append_ring::{ConsumerPass, Ring, RingKey, RingKeys, RingParts};
 use std::alloc::{AllocError, Global};
 use std::sync::Wait;
 use std::test::*;
@@ -16,8 +16,8 @@ use std::thread;
 fn handed_out(
     ring: &Ring<Stamp>,
     lasts: &[u64],
-    mut passes: RingPasses<Stamp>,
-) -> (RingPasses<Stamp>, RingPass<Stamp>, RingPass<Stamp>)
+    mut passes: RingKeys<Stamp>,
+) -> (RingKeys<Stamp>, RingKey<Stamp>, RingKey<Stamp>)
     requires new { (length passes ≡ 2) × AreNew ring.now.id lasts.now 0 passes }
     ensures places { result.0 ≡ None ∷ None ∷ [] }
     ensures first { IsNew ring.now.id lasts.now 1 result.1 }
@@ -37,9 +37,9 @@ fn handed_out(
 // Puts both passes back, and closes the ring if all that was pushed was popped.
 fn close_if_drained(
     ring: Ring<Stamp>,
-    mut places: RingPasses<Stamp>,
-    first: RingPass<Stamp>,
-    second: RingPass<Stamp>,
+    mut places: RingKeys<Stamp>,
+    first: RingKey<Stamp>,
+    second: RingKey<Stamp>,
     consumer: ConsumerPass<Stamp>,
 ) -> bool
     requires places { places ≡ None ∷ None ∷ [] }
@@ -135,11 +135,11 @@ fn pop_three<R: Wait>(
 fn push_and_pop<R: Wait>(
     rt: &R,
     ring: &Ring<Stamp>,
-    pass: RingPass<Stamp>,
+    pass: RingKey<Stamp>,
     consumer: ConsumerPass<Stamp>,
     popped: Popped,
 ) -> (
-    RingPass<Stamp>,
+    RingKey<Stamp>,
     Result<(ConsumerPass<Stamp>, Popped), AllocError>,
 )
     requires ring { (pass.pass.table_id ≡ ring.now.id) × (consumer.pass.table_id ≡ ring.now.id) }

@@ -4,7 +4,7 @@ ghost use Rattle.std.specs.Prelude.{◌≡◌, ◌+◌, ◌^◌, ◌<◌, Some, 
 ghost use Rattle.ring_trials.specs.declared.stamps.Stamp.{Stamp};
 ghost use Rattle.append_ring.specs.Parts.{last_pushed};
 
-use append_ring::{OfRegion, Ring, RingPass};
+use append_ring::{OfRegion, Ring, RingKey};
 use std::sync::Wait;
 
 /// An item with a number that was drawn for it.
@@ -42,7 +42,7 @@ impl OfRegion for Stamp {
 pub(crate) fn push_next<R: Wait>(
     rt: &R,
     ring: &Ring<Stamp>,
-    pass: &mut RingPass<Stamp>,
+    pass: &mut RingKey<Stamp>,
     number: u64,
 ) -> bool
     requires ring { pass.old.pass.table_id ≡ ring.now.id }
@@ -62,9 +62,9 @@ pub(crate) fn push_next<R: Wait>(
 pub(crate) fn push_three<R: Wait>(
     rt: &R,
     ring: &Ring<Stamp>,
-    mut pass: RingPass<Stamp>,
+    mut pass: RingKey<Stamp>,
     last: u64,
-) -> RingPass<Stamp>
+) -> RingKey<Stamp>
     requires ring { pass.pass.table_id ≡ ring.now.id }
     requires last { (last_pushed (λ (s : Stamp). Some s.number) pass ≡ last) × (last < 2 ^ 32) }
     ensures { (result.pass.table_id ≡ pass.pass.table_id) × (result.region ≡ pass.region) }

@@ -15,7 +15,7 @@ use Rattle.run_model.specs.Headline.{KeepsFound, KeepsThroughout, IsHalfOpened}
 use Rattle.run_model.specs.declared.spent.Spent.{Spent}
 use Rattle.region_calls.specs.Seeds.{base_of, lasts_of}
 use Rattle.region_calls.specs.Store.{IsStore, bases_of, regions_of}
-use Rattle.region_calls.specs.declared.store.Opened.{Opened}
+use Rattle.region_calls.specs.declared.store.OpenedStore.{OpenedStore}
 use Rattle.region_calls.specs.declared.closed.ClosedRegion.{ClosedRegion}
 use Rattle.region_calls.specs.declared.refusal.StartWhy.{StartWhy}
 use Rattle.region_calls.specs.declared.refusal.StartWhy.TheVariants as whys
@@ -23,7 +23,7 @@ use Rattle.script_run.specs.Ends.{closed_at, HasClosed}
 use Rattle.run_command.specs.Carried.{IfFoundDamaged}
 
 -- the regions of a server's name are those that its store was opened with
-pub all_named : {D : Type 0} {g : Ghosts D} (o : Opened D) → IsStore g o → length (lasts_of (bases_of o)) ≡ regions_of o
+pub all_named : {D : Type 0} {g : Ghosts D} (o : OpenedStore D) → IsStore g o → length (lasts_of (bases_of o)) ≡ regions_of o
 all_named o store = length-map (bases_of o) (λ (b : Base). b.last) ∙ length-map o.seeds.items base_of ∙ store.count
 
 pub untouched : (disk : DiskView) → KeepsFound disk disk

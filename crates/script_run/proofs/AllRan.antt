@@ -13,7 +13,7 @@ use Rattle.server_model.specs.Closing.{Pairs}
 use Rattle.server_model.proofs.JournalLaws.{contains_cons}
 use Rattle.run_model.specs.Closed.{IsNameFor}
 use Rattle.run_model.proofs.AskedLaws.{flush_listed}
-use Rattle.log_service.specs.Places.{Place}
+use Rattle.log_service.specs.Places.{ServiceId}
 use Rattle.region_lock.specs.declared.naming.LockNaming.{Ghosts}
 use Rattle.region_calls.specs.declared.pass.Pass.{Pass}
 use Rattle.region_calls.specs.Passes.{knows, IsPassOf}
@@ -45,7 +45,7 @@ use Rattle.region_calls.proofs.NamedSeeds.{base_of_region}
 use Rattle.region_calls.specs.declared.closed.ClosedRegion.{ClosedRegion}
 use Rattle.script_run.specs.Ends.{closed_at, HasClosed}
 use Rattle.std.proofs.Math.Logic.{∥∥₁_map}
-use Rattle.script_run.specs.declared.room.Room.{Room}
+use Rattle.script_run.specs.declared.room.CallRoom.{CallRoom}
 use Rattle.script_handlers.specs.declared.handler.Handler.{Handler}
 
 -- ---- before they run
@@ -63,7 +63,7 @@ may_all script name h n (c ∷ cs) named all sub = (
 )
 
 module _ {N : Type 0} {of : Ghosts N} where
-  ready_each : (script : Script) (name : Naming) (place : Place) (n : ℕ) (rooms : List Room) (hs : List (Handler (Pass N of))) → IsNameFor script name → AreRooms rooms → AreTaken n rooms hs → AllOfPlace place hs
+  ready_each : (script : Script) (name : Naming) (place : ServiceId) (n : ℕ) (rooms : List CallRoom) (hs : List (Handler (Pass N of))) → IsNameFor script name → AreRooms rooms → AreTaken n rooms hs → AllOfPlace place hs
       → All (All (IsAmong script.regions)) (map calls_in rooms) → All (λ calls. length calls ≤ 16777216) (map calls_in rooms)
       → ((a : Asked) → Contains (asked_from n (map calls_in rooms)) a → Contains (asked script) a) → AreReady name place hs
   ready_each script name place n [] [] named empty taken all among few sub i d lt = absurd (omega (arith, lt))
@@ -88,7 +88,7 @@ module _ {N : Type 0} {of : Ghosts N} where
       }
 
 -- the handlers of a script's rooms are ready
-pub all_ready : {N : Type 0} {of : Ghosts N} (name : Naming) (place : Place) (time regions : ℕ) (rooms : List Room) (hs : List (Handler (Pass N of))) → IsScript (script_in time regions rooms) → IsNameFor (script_in time regions rooms) name
+pub all_ready : {N : Type 0} {of : Ghosts N} (name : Naming) (place : ServiceId) (time regions : ℕ) (rooms : List CallRoom) (hs : List (Handler (Pass N of))) → IsScript (script_in time regions rooms) → IsNameFor (script_in time regions rooms) name
     → AreRooms rooms → AreTaken 1 rooms hs → AllOfPlace place hs → AreReady name place hs
 all_ready name place time regions rooms hs right named empty taken all = ready_each (script_in time regions rooms) name place 1 rooms hs named empty taken all right.calls_among right.calls_few (λ a is. is)
 
@@ -99,20 +99,20 @@ runs_of : (name : Naming) (time : ℕ) (first : ThePass) (replies : List Reply) 
 runs_of name time first [] last run = run
 runs_of name time first (reply ∷ replies) last run = (run.0, record { handler = run.1.handler; does = run.1.made }, runs_of name time run.0 replies last run.2)
 
-abbrev pub EachRan : {N : Type 0} {of : Ghosts N} → Naming → Place → ℕ → List (Handler (Pass N of)) → List (Handler (Pass N of)) → Type 0
+abbrev pub EachRan : {N : Type 0} {of : Ghosts N} → Naming → ServiceId → ℕ → List (Handler (Pass N of)) → List (Handler (Pass N of)) → Type 0
 EachRan name place time [] [] = Unit {0}
 EachRan name place time [] (x ∷ xs) = ⊥
 EachRan name place time (o ∷ os) [] = ⊥
 EachRan name place time (o ∷ os) (x ∷ xs) = HasRun name place time o x × EachRan name place time os xs
 
-each_ran : {N : Type 0} {of : Ghosts N} (name : Naming) (place : Place) (time : ℕ) (os xs : List (Handler (Pass N of))) → HaveRun name place time os xs → EachRan name place time os xs
+each_ran : {N : Type 0} {of : Ghosts N} (name : Naming) (place : ServiceId) (time : ℕ) (os xs : List (Handler (Pass N of))) → HaveRun name place time os xs → EachRan name place time os xs
 each_ran name place time [] [] h = tt
 each_ran name place time [] (x ∷ xs) h = absurd (omega (arith, h.len))
 each_ran name place time (o ∷ os) [] h = absurd (omega (arith, h.len))
 each_ran name place time (o ∷ os) (x ∷ xs) h = (h.each 0 o (omega arith), each_ran name place time os xs record { len = omega (arith, h.len); each = λ i d lt. h.each (suc i) d (omega (arith, lt)) })
 
 -- all are of the server
-pub all_of : {N : Type 0} {of : Ghosts N} (name : Naming) (place : Place) (time : ℕ) (os xs : List (Handler (Pass N of))) → HaveRun name place time os xs → AllOfPlace place xs
+pub all_of : {N : Type 0} {of : Ghosts N} (name : Naming) (place : ServiceId) (time : ℕ) (os xs : List (Handler (Pass N of))) → HaveRun name place time os xs → AllOfPlace place xs
 all_of {N} {of} name place time os xs ran = go os xs (each_ran name place time os xs ran)
   where
     go : (os xs : List (Handler (Pass N of))) → EachRan name place time os xs → AllOfPlace place xs
@@ -122,7 +122,7 @@ all_of {N} {of} name place time os xs ran = go os xs (each_ran name place time o
     go (o ∷ os) (x ∷ xs) each = (each.0.of, go os xs each.1)
 
 -- what is handed on of them
-pub record IsHandled {N : Type 0} {of : Ghosts N} (name : Naming) (time n : ℕ) (rooms : List Room) (xs : List (Handler (Pass N of))) (hs : List Handled) : Type 0 where
+pub record IsHandled {N : Type 0} {of : Ghosts N} (name : Naming) (time n : ℕ) (rooms : List CallRoom) (xs : List (Handler (Pass N of))) (hs : List Handled) : Type 0 where
   pub each : AllByRecursion (HandlerRan name time) hs
   pub least : (h : Handled) → Contains hs h → n ≤ h.pass.handler
   pub apart : Pairs (λ (a b : Handled). a.pass.handler ≢ b.pass.handler) hs
@@ -134,7 +134,7 @@ pub record IsHandled {N : Type 0} {of : Ghosts N} (name : Naming) (time n : ℕ)
 no_member : {A : Type 0} (x : A) → Contains [] x → ⊥
 no_member x is = omega (arith, is.1)
 
-handled_all : {N : Type 0} {of : Ghosts N} (name : Naming) (place : Place) (time n : ℕ) (rooms : List Room) (os xs : List (Handler (Pass N of))) → AreTaken n rooms os → EachRan name place time os xs → (hs : List Handled) × IsHandled name time n rooms xs hs
+handled_all : {N : Type 0} {of : Ghosts N} (name : Naming) (place : ServiceId) (time n : ℕ) (rooms : List CallRoom) (os xs : List (Handler (Pass N of))) → AreTaken n rooms os → EachRan name place time os xs → (hs : List Handled) × IsHandled name time n rooms xs hs
 handled_all name place time n [] [] [] taken ran = ([], record { each = tt; least = λ h is. absurd (no_member h is); apart = tt; calls = refl; passes = refl; lines = refl; spent = refl })
 handled_all name place time n [] [] (x ∷ xs) taken ran = absurd ran
 handled_all name place time n [] (o ∷ os) xs taken ran = absurd taken
@@ -165,26 +165,26 @@ handled_all {N} {of} name place time n (room ∷ rooms) (o ∷ os) (x ∷ xs) ta
         first_or g (zero, lt, e) = omega (arith, ap (λ (k : Handled). k.pass.handler) e, ran.0.handles.handler, taken.0.fresh.handler)
         first_or g (suc k, lt, e) = omega (arith, rest.1.least g (k, omega (arith, lt), e))
 
-pub served : {N : Type 0} {of : Ghosts N} (name : Naming) (place : Place) (time : ℕ) (rooms : List Room) (os xs : List (Handler (Pass N of))) → AreTaken 1 rooms os → HaveRun name place time os xs → (hs : List Handled) × IsHandled name time 1 rooms xs hs
+pub served : {N : Type 0} {of : Ghosts N} (name : Naming) (place : ServiceId) (time : ℕ) (rooms : List CallRoom) (os xs : List (Handler (Pass N of))) → AreTaken 1 rooms os → HaveRun name place time os xs → (hs : List Handled) × IsHandled name time 1 rooms xs hs
 served name place time rooms os xs taken ran = handled_all name place time 1 rooms os xs taken (each_ran name place time os xs ran)
 
 -- ---- lengths
 
-pub taken_length : {N : Type 0} {of : Ghosts N} (n : ℕ) (rooms : List Room) (hs : List (Handler (Pass N of))) → AreTaken n rooms hs → length hs ≡ length rooms
+pub taken_length : {N : Type 0} {of : Ghosts N} (n : ℕ) (rooms : List CallRoom) (hs : List (Handler (Pass N of))) → AreTaken n rooms hs → length hs ≡ length rooms
 taken_length n [] [] t = refl
 taken_length n [] (h ∷ hs) t = absurd t
 taken_length n (room ∷ rooms) [] t = absurd t
 taken_length n (room ∷ rooms) (h ∷ hs) t = omega (arith, taken_length (n + 1) rooms hs t.1)
 
 -- one more handler
-pub taken_push : {N : Type 0} {of : Ghosts N} (n : ℕ) (rooms : List Room) (room : Room) (hs : List (Handler (Pass N of))) (h : Handler (Pass N of)) → AreTaken n rooms hs → IsTaken (n + length rooms) room h → AreTaken n (rooms ++ room ∷ []) (hs ++ h ∷ [])
+pub taken_push : {N : Type 0} {of : Ghosts N} (n : ℕ) (rooms : List CallRoom) (room : CallRoom) (hs : List (Handler (Pass N of))) (h : Handler (Pass N of)) → AreTaken n rooms hs → IsTaken (n + length rooms) room h → AreTaken n (rooms ++ room ∷ []) (hs ++ h ∷ [])
 taken_push n [] room [] h t is = (subst (λ k. IsTaken k room h) (omega arith) is, tt)
 taken_push n [] room (g ∷ hs) h t is = absurd t
 taken_push n (r ∷ rooms) room [] h t is = absurd t
 taken_push n (r ∷ rooms) room (g ∷ hs) h t is = (t.0, taken_push (n + 1) rooms room hs h t.1 (subst (λ k. IsTaken k room h) (omega arith) is))
 
 -- all are of the server at this place, with one more of it
-pub of_push : {N : Type 0} {of : Ghosts N} (place : Place) (hs : List (Handler (Pass N of))) (h : Handler (Pass N of)) → AllOfPlace place hs → IsPassOf place h.pass → AllOfPlace place (hs ++ h ∷ [])
+pub of_push : {N : Type 0} {of : Ghosts N} (place : ServiceId) (hs : List (Handler (Pass N of))) (h : Handler (Pass N of)) → AllOfPlace place hs → IsPassOf place h.pass → AllOfPlace place (hs ++ h ∷ [])
 of_push place [] h all is = (is, tt)
 of_push place (g ∷ hs) h all is = (all.0, of_push place hs h all.1 is)
 
@@ -201,7 +201,7 @@ bases_found files bases name regions are count picks r low high =
     let is = base_of_region files bases are r low (omega (arith, count, high)) in
     subst (IsFound files r) (sym (picks r low high)) (record { last = is.last; content = is.content })
 
-pub closed_from : {N : Type 0} {of : Ghosts N} (name : Naming) (place : Place) (time regions : ℕ) (rooms : List Room) (os xs : List (Handler (Pass N of))) (files : Files) (left : DiskView) (cs : List ClosedRegion) (broken : Bool)
+pub closed_from : {N : Type 0} {of : Ghosts N} (name : Naming) (place : ServiceId) (time regions : ℕ) (rooms : List CallRoom) (os xs : List (Handler (Pass N of))) (files : Files) (left : DiskView) (cs : List ClosedRegion) (broken : Bool)
     (passes : List ThePass) (lines : List (List ReplyLine)) (spent : Option Spent)
     → IsScript (script_in time regions rooms) → IsNameFor (script_in time regions rooms) name → AreTaken 1 rooms os → HaveRun name place time os xs
     → passes ≡ map pass_of xs → lines ≡ map lines_in xs → spent ≡ first_of_all (map spent_in xs) → IsSound files

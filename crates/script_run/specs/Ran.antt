@@ -4,7 +4,7 @@ use Rattle.script_model.specs.Report.{ReplyLine as TheLine}
 use Rattle.server_model.specs.Pass.{Pass as ThePass, Naming}
 use Rattle.server_model.specs.Steps.{Does}
 use Rattle.run_model.specs.declared.spent.Spent.{Spent}
-use Rattle.log_service.specs.Places.{Place}
+use Rattle.log_service.specs.Places.{ServiceId}
 use Rattle.region_lock.specs.declared.naming.LockNaming.{Ghosts}
 use Rattle.region_calls.specs.declared.pass.Pass.{Pass}
 use Rattle.region_calls.specs.Passes.{knows, IsPassOf}
@@ -15,21 +15,21 @@ use Rattle.script_handlers.specs.declared.handler.Handler.{Handler}
 
 module _ {N : Type 0} {of : Ghosts N} where
   -- a handler that has made no call, with room for its replies
-  abbrev pub IsReady : Naming → Place → Handler (Pass N of) → Type 0
-  IsReady name place h = IsReadyFor {S = Place} {P = Pass N of} {K = ThePass} IsPassOf knows (λ k. k.handler) (λ k. k.calls) (MayCall name) place h
+  abbrev pub IsReady : Naming → ServiceId → Handler (Pass N of) → Type 0
+  IsReady name place h = IsReadyFor {S = ServiceId} {P = Pass N of} {K = ThePass} IsPassOf knows (λ k. k.handler) (λ k. k.calls) (MayCall name) place h
 
   -- what it is once it has made its calls
-  abbrev pub HasRun : Naming → Place → ℕ → Handler (Pass N of) → Handler (Pass N of) → Type 0
-  HasRun name place time old new = HasRunFor {S = Place} {P = Pass N of} {K = ThePass} IsPassOf knows (λ k. k.handler) (λ k. k.calls) (Does name time) place old new
+  abbrev pub HasRun : Naming → ServiceId → ℕ → Handler (Pass N of) → Handler (Pass N of) → Type 0
+  HasRun name place time old new = HasRunFor {S = ServiceId} {P = Pass N of} {K = ThePass} IsPassOf knows (λ k. k.handler) (λ k. k.calls) (Does name time) place old new
 
-  abbrev pub AreReady : Naming → Place → List (Handler (Pass N of)) → Type 0
+  abbrev pub AreReady : Naming → ServiceId → List (Handler (Pass N of)) → Type 0
   AreReady name place hs = AllReady (IsReady name) place hs
 
-  abbrev pub HaveRun : Naming → Place → ℕ → List (Handler (Pass N of)) → List (Handler (Pass N of)) → Type 0
+  abbrev pub HaveRun : Naming → ServiceId → ℕ → List (Handler (Pass N of)) → List (Handler (Pass N of)) → Type 0
   HaveRun name place time olds news = HaveWorked (λ s old new. HasRun name s time old new) place olds news
 
   -- the handlers' passes are of the server at this place
-  abbrev pub AllOfPlace : Place → List (Handler (Pass N of)) → Type 0
+  abbrev pub AllOfPlace : ServiceId → List (Handler (Pass N of)) → Type 0
   AllOfPlace place [] = Unit {0}
   AllOfPlace place (h ∷ hs) = IsPassOf place h.pass × AllOfPlace place hs
 

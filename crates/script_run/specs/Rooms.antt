@@ -9,31 +9,31 @@ use Rattle.region_lock.specs.declared.naming.LockNaming.{Ghosts}
 use Rattle.region_calls.specs.declared.pass.Pass.{Pass}
 use Rattle.region_calls.specs.Passes.{knows}
 use Rattle.script_handlers.specs.declared.handler.Handler.{Handler}
-use Rattle.script_run.specs.declared.room.Room.{Room}
+use Rattle.script_run.specs.declared.room.CallRoom.{CallRoom}
 
-abbrev pub calls_in : Room → List Call
+abbrev pub calls_in : CallRoom → List Call
 calls_in room = map call_of room.calls.items
 
 -- no reply, and room for one to each call
-pub record IsRoom (room : Room) : Type 0 where
+pub record IsRoom (room : CallRoom) : Type 0 where
   pub none : room.replies.items ≡ []
   pub room_there : vec_len room.calls ≤ vec_capacity room.replies
 
-abbrev pub AreRooms : List Room → Type 0
+abbrev pub AreRooms : List CallRoom → Type 0
 AreRooms rooms = AllByRecursion IsRoom rooms
 
 -- the script that the rooms are for
-abbrev pub script_in : (time regions : ℕ) → List Room → Script
+abbrev pub script_in : (time regions : ℕ) → List CallRoom → Script
 script_in time regions rooms = record { time = time; regions = regions; handlers = map calls_in rooms }
 
 -- the handler has the room's calls, and the pass of this number
-pub record IsTaken {N : Type 0} {of : Ghosts N} (n : ℕ) (room : Room) (h : Handler (Pass N of)) : Type 0 where
+pub record IsTaken {N : Type 0} {of : Ghosts N} (n : ℕ) (room : CallRoom) (h : Handler (Pass N of)) : Type 0 where
   pub fresh : IsFresh n (knows h.pass)
   pub calls : h.calls ≡ room.calls
   pub replies : h.replies ≡ room.replies
   pub spent : h.spent ≡ None
 
-abbrev pub AreTaken : {N : Type 0} {of : Ghosts N} → ℕ → List Room → List (Handler (Pass N of)) → Type 0
+abbrev pub AreTaken : {N : Type 0} {of : Ghosts N} → ℕ → List CallRoom → List (Handler (Pass N of)) → Type 0
 AreTaken n [] [] = Unit {0}
 AreTaken n [] (h ∷ hs) = ⊥
 AreTaken n (room ∷ rooms) [] = ⊥

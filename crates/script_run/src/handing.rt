@@ -1,14 +1,14 @@
 //! Passes are handed to handlers, and come back.
 
 ghost use Rattle.std.specs.Prelude.{◌≡◌, ◌≤◌, [], map, length, vec_len, vec_capacity};
-ghost use Rattle.log_service.specs.Places.{Place};
+ghost use Rattle.log_service.specs.Places.{ServiceId};
 ghost use Rattle.region_calls.specs.Passes.{knows, IsPassOf};
 ghost use Rattle.region_calls.specs.Deals.{passes_out, passes_back, ArePassesOf};
 ghost use Rattle.script_run.specs.Rooms.{AreTaken};
 ghost use Rattle.script_run.specs.Ran.{AllOfPlace, pass_of, lines_in, spent_in};
 ghost use Rattle.script_run.specs.Ends.{first_of_all};
 
-use crate::room::Room;
+use crate::room::CallRoom;
 use crate::spending::first_of;
 use region_calls::{Pass, Passes};
 use run_model::Spent;
@@ -17,23 +17,23 @@ use script_handlers::Handler;
 
 /// Makes a handler for each room. There is room for them, and it takes no memory.
 pub fn take_passes<N: region_lock::LockNaming + region_versions::VersionsNaming>(
-    rooms: Vec<Room>,
+    rooms: Vec<CallRoom>,
     passes: &mut Passes<N>,
     handlers: &mut Vec<Handler<Pass<N>>>,
 )
     requires none { (handlers.old.items ≡ []) × (vec_len rooms ≤ vec_capacity handlers.old) }
-    requires of { (place : Place) × ArePassesOf place N.handlers passes.old }
+    requires of { (place : ServiceId) × ArePassesOf place N.handlers passes.old }
     requires passes { (passes_out passes.old ≡ 0) × (vec_len rooms ≡ N.handlers) }
     ensures taken { AreTaken 1 rooms.items handlers.new.items }
     ensures out { passes_out passes.new ≡ N.handlers }
     ensures back { passes_back passes.new ≡ passes_back passes.old }
-    ensures of { (place : Place) → ArePassesOf place N.handlers passes.old → ArePassesOf place N.handlers passes.new × AllOfPlace place handlers.new.items }
+    ensures of { (place : ServiceId) → ArePassesOf place N.handlers passes.old → ArePassesOf place N.handlers passes.new × AllOfPlace place handlers.new.items }
 {
     for room in rooms {
         let Some(pass) = passes.next() else {
             unreachable!()
         };
-        let Room { calls, replies } = room;
+        let CallRoom { calls, replies } = room;
         handlers.push_reserved(Handler {
             pass,
             calls,
@@ -51,11 +51,11 @@ pub fn give_back<N: region_lock::LockNaming + region_versions::VersionsNaming>(
     parts: &mut Vec<ReplyLines>,
 ) -> Option<Spent>
     requires none { (parts.old.items ≡ []) × (vec_len handlers ≤ vec_capacity parts.old) }
-    requires of { (place : Place) × ArePassesOf place N.handlers passes.old × AllOfPlace place handlers.items }
+    requires of { (place : ServiceId) × ArePassesOf place N.handlers passes.old × AllOfPlace place handlers.items }
     requires passes { (passes_out passes.old ≡ N.handlers) × (passes_back passes.old ≡ []) × (vec_len handlers ≡ N.handlers) }
     ensures back { passes_back passes.new ≡ map pass_of handlers.items }
     ensures out { passes_out passes.new ≡ N.handlers }
-    ensures of { (place : Place) → ArePassesOf place N.handlers passes.old → AllOfPlace place handlers.items → ArePassesOf place N.handlers passes.new }
+    ensures of { (place : ServiceId) → ArePassesOf place N.handlers passes.old → AllOfPlace place handlers.items → ArePassesOf place N.handlers passes.new }
     ensures parts { parts.new.items ≡ map lines_in handlers.items }
     ensures spent { result ≡ first_of_all (map spent_in handlers.items) }
 {

@@ -9,6 +9,6 @@ mod served;
 mod serving;
 mod spending;
 
-pub use room::{Room, make_rooms};
+pub use room::{CallRoom, make_rooms};
 pub use served::Served;
 pub use serving::serve;

@@ -9,13 +9,13 @@ use std::alloc::Global;
 
 /// The calls of a handler, and room for their replies.
 #[derive(Drop)]
-pub struct Room {
+pub struct CallRoom {
     pub calls: Vec<Call>,
     pub replies: Vec<ReplyLine>,
 }
 
 /// A room for each handler, the first one's first.
-pub fn make_rooms(alloc: Global, handlers: HandlerList) -> Result<Vec<Room>, NoMemory>
+pub fn make_rooms(alloc: Global, handlers: HandlerList) -> Result<Vec<CallRoom>, NoMemory>
     ensures rooms { IfOk result (λ rooms. AreRooms rooms.items) }
     ensures calls { IfOk result (λ rooms. map calls_in rooms.items ≡ handlers) }
 {
@@ -27,11 +27,11 @@ pub fn make_rooms(alloc: Global, handlers: HandlerList) -> Result<Vec<Room>, NoM
     Ok(rooms)
 }
 
-fn make_room(alloc: Global, list: CallList) -> Result<Room, NoMemory>
+fn make_room(alloc: Global, list: CallList) -> Result<CallRoom, NoMemory>
     ensures room { IfOk result (λ room. IsRoom room) }
     ensures calls { IfOk result (λ room. calls_in room ≡ list) }
 {
     let calls = list.into_vec();
     let replies = Vec::with_capacity(alloc, calls.len())?;
-    Ok(Room { calls, replies })
+    Ok(CallRoom { calls, replies })
 }

@@ -12,12 +12,12 @@ ghost use Rattle.script_run.specs.Rooms.{AreRooms, script_in};
 ghost use Rattle.script_run.specs.Ends.{IsServed, HasCount, disk_left};
 
 use crate::handing::{give_back, take_passes};
-use crate::room::Room;
+use crate::room::CallRoom;
 use crate::running::run_on;
 use crate::served::Served;
 use disk_images::Disk;
 use handler_threads::ServerName;
-use region_calls::{ClosedServer, Gate, Opened, StartRefusal, Started};
+use region_calls::{ClosedServer, Gate, OpenedStore, StartRefusal, Started};
 use std::alloc::Global;
 use std::sync::Wait;
 use std::thread::Threads;
@@ -26,9 +26,9 @@ use std::thread::Threads;
 pub fn serve<N: ServerName + Send + Sync, R: Threads + Wait + Sync, D: Disk + Send, G: Gate + Sync>(
     rt: &R,
     alloc: Global,
-    opened: Opened<D>,
+    opened: OpenedStore<D>,
     time: u64,
-    rooms: Vec<Room>,
+    rooms: Vec<CallRoom>,
     gate: &G,
 ) -> Served<D>
     // The script, and that the store was opened for it.

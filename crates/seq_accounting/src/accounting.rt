@@ -10,10 +10,10 @@ use crate::closed::{FileMark, place_above, place_of};
 use crate::error::NoMemory;
 use crate::families::FamilyMarks;
 use crate::flushed::FlushedNumbers;
-use crate::flushing::{FlushRoom, Flushing, Room, Spent};
+use crate::flushing::{FlushRoom, Flushing, MarkRoom, Spent};
 use crate::marks::Marks;
 use crate::numbers::{NOTHING, flushed_by};
-use crate::region::{REGIONS, RegionMark};
+use crate::region::{PLACES, RegionMark};
 use crate::regions::RegionMarks;
 use std::alloc::Global;
 use std::marker::Model;
@@ -29,8 +29,8 @@ const FIRST_ROOM: usize = 8;
 #[derive(Drop)]
 pub struct Accounting {
     flushed: FlushedNumbers,
-    noted: [u64; REGIONS],
-    flushing: [u64; REGIONS],
+    noted: [u64; PLACES],
+    flushing: [u64; PLACES],
     oldest: RegionMarks,
     since: RegionMarks,
     current: Marks,
@@ -58,10 +58,10 @@ impl Accounting {
         requires apart { AllPairs AreApart regions.now }
         ensures whole { IfOk result (λ a. AreFlushed regions.now a.whole) }
         ensures noted { IfOk result (λ a. a.noted ≡ a.whole) }
-        ensures flushing { IfOk result (λ a. a.flushing ≡ replicate REGIONS 0) }
-        ensures flushed { IfOk result (λ a. a.flushed ≡ replicate REGIONS []) }
-        ensures oldest { IfOk result (λ a. a.oldest ≡ replicate REGIONS []) }
-        ensures since { IfOk result (λ a. a.since ≡ replicate REGIONS []) }
+        ensures flushing { IfOk result (λ a. a.flushing ≡ replicate PLACES 0) }
+        ensures flushed { IfOk result (λ a. a.flushed ≡ replicate PLACES []) }
+        ensures oldest { IfOk result (λ a. a.oldest ≡ replicate PLACES []) }
+        ensures since { IfOk result (λ a. a.since ≡ replicate PLACES []) }
         ensures current { IfOk result (λ a. a.current ≡ []) }
         ensures closed { IfOk result (λ a. a.closed ≡ []) }
         ensures last { IfOk result (λ a. a.last ≡ 0) }
@@ -200,7 +200,7 @@ impl Accounting {
         self.flushing[place] = 0;
         match room {
             Some(room) => {
-                let Room { flushed, oldest } = room;
+                let MarkRoom { flushed, oldest } = room;
                 self.flushed.families.put(region, flushed);
                 self.oldest.put(region, oldest);
                 self.oldest.pour(region, since);

@@ -3,13 +3,13 @@
 ghost use Rattle.std.specs.Prelude.{◌≡◌};
 ghost use Rattle.seq_accounting.specs.Accounts.{flushed_by};
 
-use crate::region::REGIONS;
+use crate::region::PLACES;
 use crate::regions::RegionMarks;
 
 /// What is flushed of each whole region, and of the families that were flushed alone.
 #[derive(Drop)]
 pub(crate) struct FlushedNumbers {
-    pub(crate) whole: [u64; REGIONS],
+    pub(crate) whole: [u64; PLACES],
     pub(crate) families: RegionMarks,
 }
 
@@ -20,11 +20,7 @@ impl FlushedNumbers {
     {
         let place = region as usize;
         let alone = self.families.get(region, family);
-        let whole = if place < REGIONS {
-            self.whole[place]
-        } else {
-            0
-        };
+        let whole = if place < PLACES { self.whole[place] } else { 0 };
         whole.max(alone)
     }
 }

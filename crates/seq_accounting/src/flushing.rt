@@ -13,12 +13,12 @@ use std::marker::Model;
 pub struct Flushing {
     region: u32,
     number: u64,
-    room: Option<Room>,
+    room: Option<MarkRoom>,
 }
 
 /// The room for a family's flushed number, and for that it has no number left that isn't flushed.
 #[derive(Drop)]
-pub(crate) struct Room {
+pub(crate) struct MarkRoom {
     pub(crate) flushed: Box<Mark>,
     pub(crate) oldest: Box<Mark>,
 }
@@ -67,7 +67,7 @@ impl Flushing {
         Ok(Flushing {
             region,
             number,
-            room: Some(Room { flushed, oldest }),
+            room: Some(MarkRoom { flushed, oldest }),
         })
     }
 
@@ -109,7 +109,7 @@ impl Flushing {
 /// The memory that a flush of one family takes, or of all where it is empty. It may be let go.
 #[derive(Drop)]
 pub struct FlushRoom {
-    room: Option<Room>,
+    room: Option<MarkRoom>,
 }
 
 impl Model for FlushRoom {
@@ -135,7 +135,7 @@ impl FlushRoom {
         let flushed = Mark::new(alloc, 0, family, 0)?;
         let oldest = Mark::new(alloc, 0, family, 0)?;
         Ok(FlushRoom {
-            room: Some(Room { flushed, oldest }),
+            room: Some(MarkRoom { flushed, oldest }),
         })
     }
 
@@ -155,7 +155,7 @@ impl FlushRoom {
         let FlushRoom { room } = self;
         match room {
             Some(room) => {
-                let Room {
+                let MarkRoom {
                     mut flushed,
                     mut oldest,
                 } = room;
@@ -164,7 +164,7 @@ impl FlushRoom {
                 Flushing {
                     region,
                     number,
-                    room: Some(Room { flushed, oldest }),
+                    room: Some(MarkRoom { flushed, oldest }),
                 }
             }
             None => Flushing::of_all(region, number),
@@ -177,5 +177,5 @@ impl FlushRoom {
 pub(crate) struct Spent {
     pub(crate) region: u32,
     pub(crate) number: u64,
-    pub(crate) room: Option<Room>,
+    pub(crate) room: Option<MarkRoom>,
 }

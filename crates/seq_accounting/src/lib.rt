@@ -23,4 +23,4 @@ pub use error::NoMemory;
 pub use families::FamilyMarks;
 pub use flushing::{FlushRoom, Flushing};
 pub use laws::{flush_is_counted, flushes_are_few, note_is_counted};
-pub use region::{REGIONS, RegionMark};
+pub use region::{PLACES, RegionMark};

@@ -7,7 +7,7 @@ ghost use Rattle.seq_accounting.specs.Regions.{IsPutAt, IsPouredAt};
 use crate::error::NoMemory;
 use crate::mark::Mark;
 use crate::marks::Marks;
-use crate::region::REGIONS;
+use crate::region::PLACES;
 use std::alloc::Global;
 use std::marker::Model;
 
@@ -31,10 +31,10 @@ impl Model for RegionMarks {
 impl RegionMarks {
     /// No mark of any region.
     pub(crate) fn new(alloc: Global) -> Result<RegionMarks, NoMemory>
-        ensures { IfOk result (λ marks. marks ≡ replicate REGIONS []) }
+        ensures { IfOk result (λ marks. marks ≡ replicate PLACES []) }
     {
-        let mut places = Vec::with_capacity(alloc, REGIONS)?;
-        for _ in 0..REGIONS {
+        let mut places = Vec::with_capacity(alloc, PLACES)?;
+        for _ in 0..PLACES {
             places.push(Marks::new())?;
         }
         Ok(RegionMarks { places })

@@ -8,7 +8,7 @@ use crate::asking::{Asked, ask};
 use crate::name::ServerName;
 use disk_fakes::MemDisk;
 use disk_images::Disk;
-use region_calls::{ClosedServer, Opened, StartRefusal, Started, open};
+use region_calls::{ClosedServer, OpenedStore, StartRefusal, Started, open};
 use std::alloc::Global;
 use std::marker::Brand;
 use std::sync::Wait;
@@ -29,7 +29,7 @@ struct Served<D> {
 fn serve<N: ServerName, R: Wait, D: Disk + Drop>(
     rt: &R,
     alloc: Global,
-    opened: Opened<D>,
+    opened: OpenedStore<D>,
 ) -> Option<Served<D>>
     requires few { handlers_of opened ≡ 2 }
     requires regions_there { 1 ≤ length N.lasts }

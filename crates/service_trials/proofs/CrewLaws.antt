@@ -8,7 +8,7 @@ use Rattle.log_ledger.specs.Bases.{AreRegions}
 use Rattle.log_ledger.specs.declared.base.RegionBase.{RegionBase}
 use Rattle.log_service.specs.declared.seats.LogSeat.{LogSeat}
 use Rattle.log_service.specs.Bundles.{IsBehind, IsHandedOut}
-use Rattle.log_service.specs.Places.{Place, IsSeatOf}
+use Rattle.log_service.specs.Places.{ServiceId, IsSeatOf}
 use Rattle.service_trials.specs.Crew.{AreSeats}
 
 -- ---- seats
@@ -26,7 +26,7 @@ back_more id [] s a b c = ((b, c), tt)
 back_more id (x ∷ xs) s a b c = (a.0, back_more id xs s a.1 b c)
 
 -- sixteen new seats
-pub seats_new : (place : Place) (movers committers : Bundle) (words numbers : List ℕ) → movers.seats ≡ replicate 16 (fresh place.consumer words) → 16 ≤ movers.room
+pub seats_new : (place : ServiceId) (movers committers : Bundle) (words numbers : List ℕ) → movers.seats ≡ replicate 16 (fresh place.consumer words) → 16 ≤ movers.room
     → committers.seats ≡ replicate 16 (fresh place.device numbers) → 16 ≤ committers.room → AreSeats place 0 movers committers
 seats_new place movers committers words numbers a b c d = record {
   consumers = subst (λ (l : List Standing). AreBack place.consumer l) (sym a) (back_fresh place.consumer words 16);
@@ -36,7 +36,7 @@ seats_new place movers committers words numbers a b c d = record {
 }
 
 -- one goes out
-pub seat_out : (place : Place) (n : ℕ) (movers now_movers committers now_committers : Bundle) (seat : LogSeat) → AreSeats place n movers committers
+pub seat_out : (place : ServiceId) (n : ℕ) (movers now_movers committers now_committers : Bundle) (seat : LogSeat) → AreSeats place n movers committers
     → IsHandedOut movers now_movers committers now_committers seat → IsSeatOf place seat × AreSeats place (n + 1) now_movers now_committers
 seat_out place n movers now_movers committers now_committers seat a h =
     let mover = back_less place.consumer now_movers.seats seat.consumer (subst (λ (l : List Standing). AreBack place.consumer l) h.0 a.consumers) in
@@ -54,7 +54,7 @@ seat_out place n movers now_movers committers now_committers seat a h =
     )
 
 -- one comes back
-pub seat_back : (place : Place) (n : ℕ) (movers now_movers committers now_committers : Bundle) (seat : LogSeat) → n < 16 → AreSeats place (16 - n) movers committers → IsSeatOf place seat
+pub seat_back : (place : ServiceId) (n : ℕ) (movers now_movers committers now_committers : Bundle) (seat : LogSeat) → n < 16 → AreSeats place (16 - n) movers committers → IsSeatOf place seat
     → IsBehind movers now_movers committers now_committers seat → (now_movers.room ≡ movers.room) × (now_committers.room ≡ committers.room) → AreSeats place (16 - (n + 1)) now_movers now_committers
 seat_back place n movers now_movers committers now_committers seat low a of h rooms = record {
   consumers = subst (λ (l : List Standing). AreBack place.consumer l) (sym h.0) (back_more place.consumer movers.seats seat.consumer a.consumers of.consumer of.no_move);

@@ -15,7 +15,7 @@ use Rattle.log_berth.proofs.seats.LogSeat.TheSendSync as berth_seat
 use Rattle.log_service.specs.contracts.seats.LogSeat as seats
 use Rattle.log_service.proofs.Crossing.{item_send}
 use Rattle.log_service.specs.contracts.item.Item as items
-use Rattle.append_ring.specs.contracts.pass.RingPass as passes
+use Rattle.append_ring.specs.contracts.pass.RingKey as passes
 use Rattle.atomic_table.proofs.shared.Seat.TheSendSync as table_seat
 use Rattle.service_trials.specs.contracts.member.Member as members
 

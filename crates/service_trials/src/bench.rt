@@ -69,8 +69,8 @@ fn over<N: ServiceNaming, R: Wait>(
     requires lasts { N.lasts ≡ 0 ∷ [] }
     requires items { (rings.items.ring.capacity ≡ 1024)
         × AreParts N.ring N.lasts rings.items.ring.id rings.items.consumer.pass.table_id (view rings.items.consumer.pass) rings.items.passes }
-    requires loads { (rings.loads.ring.capacity ≡ 2)
-        × AreParts N.hand N.lasts rings.loads.ring.id rings.loads.consumer.pass.table_id (view rings.loads.consumer.pass) rings.loads.passes }
+    requires chains { (rings.chains.ring.capacity ≡ 2)
+        × AreParts N.chain_ring N.lasts rings.chains.ring.id rings.chains.consumer.pass.table_id (view rings.chains.consumer.pass) rings.chains.passes }
     requires device { IsFresh N.lasts device }
     requires whole { ∥ ((h : History) × BeginsAs N.begun N.lasts device (view_of (disk_of device)) h) ∥₁ }
     requires start { N.start ≡ (view_of (disk_of device)).clock }

@@ -13,7 +13,7 @@ use crate::queues::roll_full;
 use crate::rolls::roll_beside;
 use crate::waits::wait_beside;
 use crate::watch::{Watch, commit_watched};
-use append_ring::RingPass;
+use append_ring::RingKey;
 use log_service::{ConsumerTurn, Item, LogSeat, LogService, ServiceNaming, SyncTurn};
 use std::alloc::Global;
 use std::process::Abort;
@@ -25,7 +25,7 @@ pub(crate) fn put_and_move<N: ServiceNaming, R: Wait>(
     rt: &R,
     alloc: Global,
     service: &LogService<HeldDisk, N>,
-    pass: &mut RingPass<Item>,
+    pass: &mut RingKey<Item>,
     seat: &mut LogSeat,
     number: u64,
 ) -> Option<()>
@@ -51,7 +51,7 @@ fn run_beside<N: ServiceNaming + Send + Sync, R: Wait + Threads + Sync + Abort>(
     rt: &R,
     alloc: Global,
     service: &LogService<HeldDisk, N>,
-    pass: &mut RingPass<Item>,
+    pass: &mut RingKey<Item>,
     seat: &mut LogSeat,
     watch: &Watch,
     before: u64,
@@ -79,7 +79,7 @@ pub(crate) fn while_held<N: ServiceNaming + Send + Sync, R: Wait + Threads + Syn
     rt: &R,
     alloc: Global,
     service: &LogService<HeldDisk, N>,
-    pass: &mut RingPass<Item>,
+    pass: &mut RingKey<Item>,
     first: &mut LogSeat,
     second: &mut LogSeat,
     watch: &Watch,

@@ -10,7 +10,7 @@ ghost use Rattle.service_trials.specs.Crew.{IsOf};
 use crate::bench::TestDisk;
 use crate::entries::{SMALL, truck};
 use crate::member::Member;
-use append_ring::RingPass;
+use append_ring::RingKey;
 use log_service::{Helped, Item, LogSeat, LogService, ServiceNaming, Waited};
 use std::alloc::Global;
 use std::sync::Wait;
@@ -44,7 +44,7 @@ fn help<N: ServiceNaming, R: Wait>(rt: &R, service: &LogService<TestDisk, N>, se
 fn push<N: ServiceNaming, R: Wait>(
     rt: &R,
     service: &LogService<TestDisk, N>,
-    pass: &mut RingPass<Item>,
+    pass: &mut RingKey<Item>,
     seat: &mut LogSeat,
     full: &mut u64,
     item: Item,

@@ -5,7 +5,7 @@ ghost use Rattle.service_trials.specs.Crew.{AreIn, AreOut, IsOf};
 
 use crate::bench::TestDisk;
 use crate::member::Member;
-use append_ring::RingPasses;
+use append_ring::RingKeys;
 use log_service::{Item, LogSeats, LogService, ServiceNaming};
 use std::sync::Wait;
 
@@ -22,7 +22,7 @@ fn sure_same<R: Wait>(rt: &R, one: u32, other: u32)
 /// Gives each of sixteen members, for whom there is room, its pass and its seat.
 pub(crate) fn hand_out<N: ServiceNaming>(
     service: &LogService<TestDisk, N>,
-    passes: &mut RingPasses<Item>,
+    passes: &mut RingKeys<Item>,
     seats: &mut LogSeats,
     crew: &mut Vec<Member>,
 )
@@ -63,7 +63,7 @@ fn one_back<N: ServiceNaming, R: Wait>(
     rt: &R,
     service: &LogService<TestDisk, N>,
     member: Member,
-    passes: &mut RingPasses<Item>,
+    passes: &mut RingKeys<Item>,
     seats: &mut LogSeats,
     before: u32,
 ) -> Told
@@ -91,7 +91,7 @@ pub(crate) fn take_back<N: ServiceNaming, R: Wait>(
     rt: &R,
     service: &LogService<TestDisk, N>,
     crew: Vec<Member>,
-    passes: &mut RingPasses<Item>,
+    passes: &mut RingKeys<Item>,
     seats: &mut LogSeats,
 ) -> Told
     requires out { AreOut service.now 16 passes.old seats.old.consumers seats.old.devices }

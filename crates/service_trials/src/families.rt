@@ -9,7 +9,7 @@ use crate::bench::{TestDisk, run_on_empty};
 use crate::entries::SMALL;
 use crate::puts::put;
 use crate::trial::Trial;
-use append_ring::RingPass;
+use append_ring::RingKey;
 use log_device::DeviceFlush;
 use log_service::{Item, LogSeat, LogService, ServiceNaming};
 use std::alloc::Global;
@@ -21,7 +21,7 @@ pub(crate) fn flush_families<N: ServiceNaming, R: Wait>(
     rt: &R,
     alloc: Global,
     service: &LogService<TestDisk, N>,
-    pass: &mut RingPass<Item>,
+    pass: &mut RingKey<Item>,
     seat: &mut LogSeat,
 ) -> Option<u64>
     requires ring { (pass.old.pass.table_id ≡ service.now.ring) × (pass.old.region ≡ 1) }

@@ -10,7 +10,7 @@ use crate::entries::SMALL;
 use crate::image::left_by_crashes;
 use crate::puts::{ask, put};
 use crate::trial::Trial;
-use append_ring::RingPass;
+use append_ring::RingKey;
 use disk_fakes::{CallKind, Fail};
 use log_service::{Item, LogSeat, LogService, ServiceNaming, Waited};
 use std::alloc::Global;
@@ -22,7 +22,7 @@ pub(crate) fn small_script<N: ServiceNaming, R: Wait>(
     rt: &R,
     alloc: Global,
     service: &LogService<TestDisk, N>,
-    pass: &mut RingPass<Item>,
+    pass: &mut RingKey<Item>,
     seat: &mut LogSeat,
 ) -> Option<u64>
     requires ring { (pass.old.pass.table_id ≡ service.now.ring) × (pass.old.region ≡ 1) }

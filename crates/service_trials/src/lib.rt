@@ -1,5 +1,5 @@
 //! Trials of the log service on a disk in memory that tells what it holds: what one commit costs, moves beside another thread's commit, a roll
-//! behind loads, a flush whose stage fills, flushes of one family, and a fault of each disk call with what a crash leaves then. A library of
+//! behind chains, a flush whose stage fills, flushes of one family, and a fault of each disk call with what a crash leaves then. A library of
 //! tests alone, at the top, so that no crate waits for it.
 #![tactic(auto)]
 

@@ -10,7 +10,7 @@ use crate::held::{HeldDisk, HeldTrial, run_held};
 use crate::image::has_numbers;
 use crate::puts::put;
 use crate::watch::Watch;
-use append_ring::RingPass;
+use append_ring::RingKey;
 use log_service::{ConsumerTurn, Item, LogSeat, LogService, ServiceNaming};
 use std::alloc::Global;
 use std::sync::Wait;
@@ -21,7 +21,7 @@ pub(crate) fn move_beside<N: ServiceNaming, R: Wait>(
     rt: &R,
     alloc: Global,
     service: &LogService<HeldDisk, N>,
-    pass: &mut RingPass<Item>,
+    pass: &mut RingKey<Item>,
     seat: &mut LogSeat,
     watch: &Watch,
     before: u64,

@@ -5,7 +5,7 @@ ghost use Rattle.append_ring.specs.Parts.{last_pushed};
 ghost use Rattle.log_service.specs.Items.{number_of};
 
 use crate::entries::{SMALL, Size, truck};
-use append_ring::RingPass;
+use append_ring::RingKey;
 use disk_images::Disk;
 use log_service::{Item, LogService, ServiceNaming};
 use std::alloc::Global;
@@ -16,7 +16,7 @@ pub(crate) fn put<D: Disk, N: ServiceNaming, R: Wait>(
     rt: &R,
     alloc: Global,
     service: &LogService<D, N>,
-    pass: &mut RingPass<Item>,
+    pass: &mut RingKey<Item>,
     number: u64,
     size: Size,
 ) -> Option<()>
@@ -40,7 +40,7 @@ pub(crate) fn put<D: Disk, N: ServiceNaming, R: Wait>(
 pub(crate) fn ask<D: Disk, N: ServiceNaming, R: Wait>(
     rt: &R,
     service: &LogService<D, N>,
-    pass: &mut RingPass<Item>,
+    pass: &mut RingKey<Item>,
     number: u64,
 ) -> Option<()>
     requires ring { pass.old.pass.table_id ≡ service.now.ring }
@@ -60,7 +60,7 @@ pub(crate) fn put_all<D: Disk, N: ServiceNaming, R: Wait>(
     rt: &R,
     alloc: Global,
     service: &LogService<D, N>,
-    pass: &mut RingPass<Item>,
+    pass: &mut RingKey<Item>,
     from: u64,
     last: u64,
 ) -> Option<()>
@@ -81,7 +81,7 @@ pub(crate) fn put_all<D: Disk, N: ServiceNaming, R: Wait>(
 pub(crate) fn fill<D: Disk, N: ServiceNaming, R: Wait>(
     rt: &R,
     service: &LogService<D, N>,
-    pass: &mut RingPass<Item>,
+    pass: &mut RingKey<Item>,
 )
     requires ring { pass.old.pass.table_id ≡ service.now.ring }
     ensures same { (pass.new.pass.table_id ≡ pass.old.pass.table_id) × (pass.new.region ≡ pass.old.region) }

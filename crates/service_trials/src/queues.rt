@@ -10,7 +10,7 @@ use crate::held::{HeldDisk, HeldTrial, run_held};
 use crate::image::has_numbers;
 use crate::puts::{put, put_all};
 use crate::watch::Watch;
-use append_ring::RingPass;
+use append_ring::RingKey;
 use log_service::{Item, LogSeat, LogService, ServiceNaming};
 use std::alloc::Global;
 use std::sync::Wait;
@@ -46,7 +46,7 @@ fn put_behind<N: ServiceNaming, R: Wait>(
     rt: &R,
     alloc: Global,
     service: &LogService<HeldDisk, N>,
-    pass: &mut RingPass<Item>,
+    pass: &mut RingKey<Item>,
     watch: &Watch,
     number: u64,
 ) -> Option<()>
@@ -70,7 +70,7 @@ fn put_last<N: ServiceNaming, R: Wait>(
     rt: &R,
     alloc: Global,
     service: &LogService<HeldDisk, N>,
-    pass: &mut RingPass<Item>,
+    pass: &mut RingKey<Item>,
     watch: &Watch,
 ) -> Option<()>
     requires ring { (pass.old.pass.table_id ≡ service.now.ring) × (pass.old.region ≡ 1) }
@@ -88,7 +88,7 @@ pub(crate) fn roll_full<N: ServiceNaming + Send + Sync, R: Wait + Threads + Sync
     rt: &R,
     alloc: Global,
     service: &LogService<HeldDisk, N>,
-    pass: &mut RingPass<Item>,
+    pass: &mut RingKey<Item>,
     seat: &mut LogSeat,
     watch: &Watch,
     before: u64,

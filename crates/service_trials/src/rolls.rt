@@ -11,7 +11,7 @@ use crate::held::{HeldDisk, HeldTrial, run_held};
 use crate::image::has_numbers;
 use crate::puts::put;
 use crate::watch::Watch;
-use append_ring::RingPass;
+use append_ring::RingKey;
 use log_service::{ConsumerTurn, Item, LogSeat, LogService, ServiceNaming, SyncTurn};
 use std::alloc::Global;
 use std::sync::Wait;
@@ -23,7 +23,7 @@ fn leave_four<N: ServiceNaming, R: Wait>(
     rt: &R,
     alloc: Global,
     service: &LogService<HeldDisk, N>,
-    pass: &mut RingPass<Item>,
+    pass: &mut RingKey<Item>,
     seat: &mut LogSeat,
 ) -> Option<()>
     requires ring { (pass.old.pass.table_id ≡ service.now.ring) × (pass.old.region ≡ 1) }
@@ -51,7 +51,7 @@ pub(crate) fn roll_beside<N: ServiceNaming, R: Wait>(
     rt: &R,
     alloc: Global,
     service: &LogService<HeldDisk, N>,
-    pass: &mut RingPass<Item>,
+    pass: &mut RingKey<Item>,
     seat: &mut LogSeat,
     watch: &Watch,
     before: u64,

@@ -56,8 +56,8 @@ fn over_sixteen<N: ServiceNaming + Send + Sync, R: Wait + Threads + Sync>(
     requires lasts { N.lasts ≡ replicate 16 0 }
     requires items { (rings.items.ring.capacity ≡ 1024)
         × AreParts N.ring N.lasts rings.items.ring.id rings.items.consumer.pass.table_id (view rings.items.consumer.pass) rings.items.passes }
-    requires loads { (rings.loads.ring.capacity ≡ 2)
-        × AreParts N.hand N.lasts rings.loads.ring.id rings.loads.consumer.pass.table_id (view rings.loads.consumer.pass) rings.loads.passes }
+    requires chains { (rings.chains.ring.capacity ≡ 2)
+        × AreParts N.chain_ring N.lasts rings.chains.ring.id rings.chains.consumer.pass.table_id (view rings.chains.consumer.pass) rings.chains.passes }
     requires device { IsFresh N.lasts device }
     requires whole { ∥ ((h : History) × BeginsAs N.begun N.lasts device (view_of (disk_of device)) h) ∥₁ }
     requires start { N.start ≡ (view_of (disk_of device)).clock }
@@ -178,8 +178,8 @@ const REGIONS: [RegionBase; 16] = [
 fn sixteen_rings(alloc: Global) -> Result<Rings, TestFail>
     ensures items { IfOk result (λ r. (r.items.ring.capacity ≡ 1024)
         × AreNewParts r.items.ring.id (replicate 16 0) r.items.consumer.pass.table_id (view r.items.consumer.pass) r.items.passes) }
-    ensures loads { IfOk result (λ r. (r.loads.ring.capacity ≡ 2)
-        × AreNewParts r.loads.ring.id (replicate 16 0) r.loads.consumer.pass.table_id (view r.loads.consumer.pass) r.loads.passes) }
+    ensures chains { IfOk result (λ r. (r.chains.ring.capacity ≡ 2)
+        × AreNewParts r.chains.ring.id (replicate 16 0) r.chains.consumer.pass.table_id (view r.chains.consumer.pass) r.chains.passes) }
 {
     match Rings::new(alloc, &[0; 16]) {
         Ok(rings) => Ok(rings),

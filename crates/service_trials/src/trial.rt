@@ -11,7 +11,7 @@ use crate::families::flush_families;
 use crate::faults::small_script;
 use crate::filling::five_edits;
 use crate::turns::two_puts;
-use append_ring::RingPass;
+use append_ring::RingKey;
 use log_service::{Item, LogSeat, LogService, ServiceNaming};
 use std::alloc::Global;
 use std::sync::Wait;
@@ -31,7 +31,7 @@ pub(crate) fn run_trial<N: ServiceNaming, R: Wait>(
     rt: &R,
     alloc: Global,
     service: &LogService<TestDisk, N>,
-    pass: &mut RingPass<Item>,
+    pass: &mut RingKey<Item>,
     seat: &mut LogSeat,
     trial: Trial,
 ) -> Option<u64>

@@ -6,7 +6,7 @@ ghost use Rattle.log_service.specs.Places.{IsSeatOf};
 use crate::held::{HeldDisk, HeldTrial, run_held};
 use crate::puts::{ask, fill};
 use crate::watch::Watch;
-use append_ring::RingPass;
+use append_ring::RingKey;
 use log_service::{Item, LogSeat, LogService, ServiceNaming, Waited};
 use std::process::Abort;
 use std::sync::Wait;
@@ -20,7 +20,7 @@ const LOOKS: u64 = 2_000;
 fn push_behind<N: ServiceNaming, R: Wait>(
     rt: &R,
     service: &LogService<HeldDisk, N>,
-    pass: &mut RingPass<Item>,
+    pass: &mut RingKey<Item>,
     watch: &Watch,
 )
     requires ring { pass.old.pass.table_id ≡ service.now.ring }
@@ -55,7 +55,7 @@ fn wait_first<N: ServiceNaming, R: Wait>(
 fn let_go<N: ServiceNaming, R: Wait + Abort>(
     rt: &R,
     service: &LogService<HeldDisk, N>,
-    pass: &mut RingPass<Item>,
+    pass: &mut RingKey<Item>,
     watch: &Watch,
 )
     requires ring { pass.old.pass.table_id ≡ service.now.ring }
@@ -71,7 +71,7 @@ fn let_go<N: ServiceNaming, R: Wait + Abort>(
 pub(crate) fn wait_beside<N: ServiceNaming + Send + Sync, R: Wait + Threads + Sync + Abort>(
     rt: &R,
     service: &LogService<HeldDisk, N>,
-    pass: &mut RingPass<Item>,
+    pass: &mut RingKey<Item>,
     seat: &mut LogSeat,
     watch: &Watch,
     before: u64,

@@ -9,7 +9,7 @@ use kv_cell::{Batch, Cell, NoMemory};
 use mem_segments::{Base, Draft, Segment};
 use region_state::{Caller, Ended, RegionState};
 use region_versions::{
-    History, Opened, Shower, Told, VersionParts, VersionsNaming, Viewer, versions,
+    History, NewHistory, Shower, Told, VersionParts, VersionsNaming, Viewer, versions,
 };
 use std::alloc::Global;
 use std::marker::Model;
@@ -137,7 +137,7 @@ pub(crate) struct Beginners<N: VersionsNaming, W: Wait + Drop> {
 pub(crate) fn begin<N: VersionsNaming, W: Wait + Drop>(
     rt: W,
     alloc: Global,
-    opened: Opened,
+    opened: NewHistory,
     mut state: RegionState,
 ) -> Result<Beginners<N, W>, Fail>
     requires book { opened.seen.book ≡ N.book 1 }

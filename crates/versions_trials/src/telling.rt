@@ -4,7 +4,7 @@ ghost use Rattle.std.specs.Prelude.{◌≡◌, []};
 
 use crate::region::{Beginners, begin, empty_region, show_next};
 use region_state::RegionState;
-use region_versions::{Opened, VersionsNaming};
+use region_versions::{NewHistory, VersionsNaming};
 use std::alloc::Global;
 use std::marker::Brand;
 use std::process::Abort;
@@ -15,7 +15,7 @@ use std::test::Fail;
 fn run<N: VersionsNaming, R: Wait + Abort>(
     rt: &R,
     alloc: Global,
-    opened: Opened,
+    opened: NewHistory,
     state: RegionState,
 ) -> Result<(), Fail>
     requires book { opened.seen.book ≡ N.book 1 }
@@ -47,5 +47,5 @@ fn run<N: VersionsNaming, R: Wait + Abort>(
 fn what_is_told_is_seen(rt: HostRuntime) -> Result<(), Fail> {
     let alloc = rt.alloc();
     let state = empty_region(alloc)?;
-    run::<Brand, _>(&rt, alloc, Opened::new(), state)
+    run::<Brand, _>(&rt, alloc, NewHistory::new(), state)
 }

@@ -5,7 +5,7 @@ ghost use Rattle.std.specs.Prelude.{◌≡◌, []};
 use crate::region::{Beginners, Region, begin, empty_region, show_next};
 use kv_cell::NoMemory;
 use region_state::RegionState;
-use region_versions::{Opened, VersionsNaming, Viewer};
+use region_versions::{NewHistory, VersionsNaming, Viewer};
 use std::alloc::Global;
 use std::marker::Brand;
 use std::process::Abort;
@@ -68,7 +68,7 @@ fn show_and_view<N: VersionsNaming + Send + Sync, R: Threads + Sync, W: Wait + D
 fn run<N: VersionsNaming + Send + Sync, R: Threads + Wait + Abort + Sync>(
     rt: &R,
     alloc: Global,
-    opened: Opened,
+    opened: NewHistory,
     state: RegionState,
 ) -> Result<(), Fail>
     requires book { opened.seen.book ≡ N.book 1 }
@@ -95,5 +95,5 @@ fn run<N: VersionsNaming + Send + Sync, R: Threads + Wait + Abort + Sync>(
 fn three_versions_while_two_threads_view(rt: HostRuntime) -> Result<(), Fail> {
     let alloc = rt.alloc();
     let state = empty_region(alloc)?;
-    run::<Brand, _>(&rt, alloc, Opened::new(), state)
+    run::<Brand, _>(&rt, alloc, NewHistory::new(), state)
 }

@@ -1,5 +1,5 @@
 use Rattle.std.proofs.Common.{ℕ, List, refl, sym, subst}
-use Rattle.log_ledger.specs.Books.{IsLeft}
+use Rattle.log_ledger.specs.Numbers.{IsLeft}
 use Rattle.device_trials.proofs.ledgers.flush.Goals as goal
 
 pub flush-requires-clause-left : goal.flush-requires-clause-left

@@ -1,6 +1,6 @@
 use Rattle.std.proofs.Common.{◌≡◌, map, length, vec_len, vec_capacity}
 use Rattle.std.specs.Vec.Iter.{into_iter_items}
-use Rattle.log_service.specs.Places.{Place}
+use Rattle.log_service.specs.Places.{ServiceId}
 use Rattle.region_calls.specs.Deals.{passes_out, passes_back, ArePassesOf}
 use Rattle.embedded_run.specs.Seats.{AllAt, pass_in, handler_in}
 use Rattle.embedded_run.proofs.handing.give_back.Given as goal
@@ -12,6 +12,6 @@ invariant-loop-one g l = record {
   handlers : l.handlers.items ≡ map handler_in l.yielded;
   len : vec_len l.handlers ≡ length l.yielded;
   room : vec_capacity l.handlers ≡ vec_capacity l.initial.handlers;
-  of : (place : Place) → ArePassesOf place g.N.LockNaming.handlers l.fn.passes → AllAt place l.fn.seated.items
+  of : (place : ServiceId) → ArePassesOf place g.N.LockNaming.handlers l.fn.passes → AllAt place l.fn.seated.items
       → ArePassesOf place g.N.LockNaming.handlers l.passes × AllAt place (into_iter_items l.one-iterator);
 }

@@ -1,5 +1,5 @@
 use Rattle.std.proofs.Common.{◌≡◌, length, vec_len, vec_capacity}
-use Rattle.log_service.specs.Places.{Place}
+use Rattle.log_service.specs.Places.{ServiceId}
 use Rattle.region_calls.specs.Deals.{passes_out, passes_back, ArePassesOf}
 use Rattle.embedded_run.specs.Seats.{AreTaken, AllAt}
 use Rattle.embedded_run.proofs.handing.seat_all.Given as goal
@@ -11,5 +11,5 @@ invariant-loop-handler g l = record {
   back : passes_back l.passes ≡ passes_back l.initial.passes;
   len : vec_len l.seated ≡ length l.yielded;
   room : vec_capacity l.seated ≡ vec_capacity l.initial.seated;
-  of : (place : Place) → ArePassesOf place g.N.LockNaming.handlers l.fn.passes → ArePassesOf place g.N.LockNaming.handlers l.passes × AllAt place l.seated.items;
+  of : (place : ServiceId) → ArePassesOf place g.N.LockNaming.handlers l.fn.passes → ArePassesOf place g.N.LockNaming.handlers l.passes × AllAt place l.seated.items;
 }

@@ -3,7 +3,7 @@ use Rattle.std.proofs.Math.Logic.{∥∥₁_map}
 use Rattle.log_model.specs.Entry.{Entry}
 use Rattle.log_file.specs.Open.{OpenLog}
 use Rattle.log_trucks.specs.Held.{Held, held_of, AreHeld}
-use Rattle.log_device.specs.Whole.{IsWhole, disk_of, books_of}
+use Rattle.log_device.specs.Whole.{IsWhole, disk_of, numbers_of}
 use Rattle.log_device.proofs.Whole.{some_file}
 use Rattle.log_device.proofs.Numbering.{same_file}
 use Rattle.log_service.specs.Trucks.{AreSpelled, FollowOn, onward, size_of, come_to}
@@ -49,14 +49,14 @@ loop-truck-preserved g c =
     let here : c.loop-truck.rest ≡ lone ∷ next = c.in-Some.ensures.first in
     let ok = c.in-Ok.ensures in
     let f = some_file old was.unbroken in
-    let staged = ok.books.file f.0 f.1 in
-    let drawn : (r : ℕ) → drawn_in (books_of new) r ≡ onward (drawn_in (books_of old)) lone r = ok.books.drawn_at in
-    let rising = subst (FollowOn was.rising.0 (drawn_in (books_of old))) here was.rising.1 in
+    let staged = ok.numbers.file f.0 f.1 in
+    let drawn : (r : ℕ) → drawn_in (numbers_of new) r ≡ onward (drawn_in (numbers_of old)) lone r = ok.numbers.drawn_at in
+    let rising = subst (FollowOn was.rising.0 (drawn_in (numbers_of old))) here was.rising.1 in
     record {
       unbroken = λ broken. absurd (cc (sym broken ∙ staged.is));
-      served = served_still (books_of old) (books_of new) ok.books.next_store next (subst (AreServed (books_of old)) here was.served).1;
+      served = served_still (numbers_of old) (numbers_of new) ok.numbers.next_store next (subst (AreServed (numbers_of old)) here was.served).1;
       spelled = (subst AreSpelled here was.spelled).1;
-      rising = (was.rising.0, follow_same was.rising.0 (onward (drawn_in (books_of old)) lone) (drawn_in (books_of new)) (λ r. sym (drawn r)) next rising.1);
+      rising = (was.rising.0, follow_same was.rising.0 (onward (drawn_in (numbers_of old)) lone) (drawn_in (numbers_of new)) (λ r. sym (drawn r)) next rising.1);
       room = λ file is.
           let now = ap (λ (x : OpenLog). length x.bytes) (same_file staged.now file (sym staged.is ∙ is)) in
           let size = ap size_of here in
@@ -67,12 +67,12 @@ loop-truck-preserved g c =
           let split = w.2 ∙ (ap (λ (l : List Entry). w.0 ++ l) head.2 ∙ sym (append_assoc w.0 (head.0 ∷ []) head.1)) in
           let more = (ok.stages told (all_staged_in h w.0) w.4).staged head.0 head.3.entry head.3.bytes (sym head.3.region) (sym head.3.number) in
           (w.0 ++ head.0 ∷ [], head.1, split, head.4, subst (IsWhole new (g.D.Disk.view (disk_of new))) (staged_more h w.0 head.0) more);
-      disk = ok.books.disk ∙ was.disk;
+      disk = ok.numbers.disk ∙ was.disk;
       file = λ file is.
           let w = was.file file is in
-          let s = ok.books.file w.0 w.1 in
+          let s = ok.numbers.file w.0 w.1 in
           let len = ap length here in
           (s.now, s.is, omega (arith, s.staged, w.2, len), s.name ∙ w.3);
-      drawn = λ r. come_same (drawn_in (books_of new)) (onward (drawn_in (books_of old)) lone) drawn next r ∙ (ap (λ (l : List Held). come_to (drawn_in (books_of old)) l r) (sym here) ∙ was.drawn r);
-      same = record { synced = ok.books.synced ∙ was.same.synced; stored = ok.books.stored ∙ was.same.stored; closed = ok.books.closed ∙ was.same.closed; next_store = ok.books.next_store ∙ was.same.next_store; few = λ limit few. ok.books.few limit (was.same.few limit few) };
+      drawn = λ r. come_same (drawn_in (numbers_of new)) (onward (drawn_in (numbers_of old)) lone) drawn next r ∙ (ap (λ (l : List Held). come_to (drawn_in (numbers_of old)) l r) (sym here) ∙ was.drawn r);
+      same = record { synced = ok.numbers.synced ∙ was.same.synced; stored = ok.numbers.stored ∙ was.same.stored; closed = ok.numbers.closed ∙ was.same.closed; next_store = ok.numbers.next_store ∙ was.same.next_store; few = λ limit few. ok.numbers.few limit (was.same.few limit few) };
     }

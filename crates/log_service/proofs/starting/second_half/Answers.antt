@@ -7,7 +7,7 @@ use Rattle.log_trucks.specs.Held.{Held}
 use Rattle.log_ledger.specs.History.{History}
 use Rattle.log_device.specs.Whole.{disk_of}
 use Rattle.log_service.specs.Trucks.{come_to}
-use Rattle.log_service.specs.Loads.{all_trucks}
+use Rattle.log_service.specs.Chains.{all_trucks}
 use Rattle.log_service.specs.Halves.{Stands, RecoversHeld}
 use Rattle.log_service.proofs.Beginning.{stands_first, since_first}
 use Rattle.log_service.proofs.Elapsed.{goes_on_first}
@@ -22,7 +22,7 @@ invariant_of-result g c =
     let fresh = c.requires.device in
     let none : [] ≡ all_trucks (view c.args.consumer.pass).popped = sym (ap all_trucks c.requires.consumer.1) in
     record {
-      from = (c.requires.hand, c.requires.consumer.0);
+      from = (c.requires.chain_ring, c.requires.consumer.0);
       all = c.requires.regions;
       served = fresh.served;
       idle = fresh.idle;

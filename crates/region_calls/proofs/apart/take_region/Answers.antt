@@ -1,5 +1,5 @@
 use Rattle.std.proofs.Common.{◌≡◌, ℕ, ◌+◌, ◌-◌, ◌<◌, ◌^◌, List, Option, Some, None, slice_get, sym, ap, ◌∙◌, subst, arith, eqb-true}
-use Rattle.append_ring.specs.declared.pass.RingPass.{RingPass}
+use Rattle.append_ring.specs.declared.pass.RingKey.{RingKey}
 use Rattle.region_model.specs.Journal.{Base, IsJournal}
 use Rattle.region_model.specs.Lines.{Line, edits_in, last_in}
 use Rattle.log_service.specs.declared.item.Item.{Item}
@@ -35,7 +35,7 @@ returns-clause-taken g c =
             (subst (λ (r : ℕ). IsMet c.args.locked.state.base (edits_in r c.args.locked.state.lines) p.handler (p.known (place + 1))) region met));
       };
       pass = pass;
-      there = ap (λ (l : List (Option (RingPass Item))). slice_get l place) c.put_back.ensures ∙ get_set_same c.args.places.now (pass.region - 1) place None (Some pass) here c.requires.place.1;
+      there = ap (λ (l : List (Option (RingKey Item))). slice_get l place) c.put_back.ensures ∙ get_set_same c.args.places.now (pass.region - 1) place None (Some pass) here c.requires.place.1;
       of_ring = parts.ring.0;
       of_region = parts.ring.1 ∙ of;
       pushed = subst (λ (r : ℕ). HasPushedEntries pass (entries_in r c.into_parts-base.result.1.items)) of
@@ -48,4 +48,4 @@ returns-clause-others g c j other =
     let whole : c.into_part.result ≡ c.args.locked = c.into_part.ensures ∙ c.meet_all-met.ensures.same in
     let region : c.args.locked.state.region ≡ c.args.place + 1 = sym c.region.ensures ∙ eqb-true c.region.result (c.args.place + 1) c.sure.ensures in
     let here : pass.region - 1 ≡ c.args.place = omega (arith, c.into_parts-base.ensures.ring.1, ap (λ (p : Part). p.state.region) whole, region) in
-    ap (λ (l : List (Option (RingPass Item))). slice_get l j) c.put_back.ensures ∙ get_set_other c.args.places.now (pass.region - 1) j (Some pass) (λ e. other (e ∙ here))
+    ap (λ (l : List (Option (RingKey Item))). slice_get l j) c.put_back.ensures ∙ get_set_other c.args.places.now (pass.region - 1) j (Some pass) (λ e. other (e ∙ here))

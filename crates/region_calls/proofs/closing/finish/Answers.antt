@@ -1,9 +1,9 @@
 use Rattle.std.proofs.Common.{◌≡◌, ℕ, List, length, map, Contains, sym, ap, ◌∙◌, subst, arith}
 use Rattle.std.specs.List.{range_with_len}
 use Rattle.std.proofs.Math.Logic.{∥∥₁_map, ∥∥₁_map₂}
-use Rattle.append_ring.specs.declared.pass.RingPass.{RingPass}
+use Rattle.append_ring.specs.declared.pass.RingKey.{RingKey}
 use Rattle.log_service.specs.declared.item.Item.{Item}
-use Rattle.log_service.specs.Places.{Place}
+use Rattle.log_service.specs.Places.{ServiceId}
 use Rattle.server_model.specs.Pass.{Pass as ThePass, Naming}
 use Rattle.server_model.specs.Closing.{Leaves}
 use Rattle.region_calls.specs.declared.apart.Taken.{Taken}
@@ -19,13 +19,13 @@ use Rattle.region_calls.proofs.closing.finish.Goals as goal
 pub take_all-taken-requires-clause-passes : goal.take_all-taken-requires-clause-passes
 take_all-taken-requires-clause-passes g c =
     let the = c.server.inside.service in
-    let of = subst (λ (p : Place). ArePassesOf p g.N.LockNaming.handlers c.args.passes) (sym c.server.view_is) c.requires.back.0.of in
+    let of = subst (λ (p : ServiceId). ArePassesOf p g.N.LockNaming.handlers c.args.passes) (sym c.server.view_is) c.requires.back.0.of in
     (the, of.back, omega (arith, c.server.invariant.1.locks))
 
 pub shut-disk-requires-clause-back : goal.shut-disk-requires-clause-back
 shut-disk-requires-clause-back g c =
     let the = c.server.inside.service in
-    let of = subst (λ (p : Place). ArePassesOf p g.N.LockNaming.handlers c.args.passes) (sym c.server.view_is) c.requires.back.0.of in
+    let of = subst (λ (p : ServiceId). ArePassesOf p g.N.LockNaming.handlers c.args.passes) (sym c.server.view_is) c.requires.back.0.of in
     c.take_all-taken.ensures.of the of.back
 
 pub shut-disk-requires-clause-passes : goal.shut-disk-requires-clause-passes
@@ -33,7 +33,7 @@ shut-disk-requires-clause-passes g c =
     let the = c.server.inside.service in
     let done = c.take_all-taken.ensures in
     let ts : List Taken = c.take_all-taken.result.items in (
-      all_there (λ (p : RingPass Item). p.pass.table_id ≡ the.ring) c.take_all-taken.new.places (λ j low.
+      all_there (λ (p : RingKey Item). p.pass.table_id ≡ the.ring) c.take_all-taken.new.places (λ j low.
           let t = get_some ts j (omega (arith, low, done.count.0, done.count.1)) in
           let is = done.taken j t.0 t.1 in
           (is.pass, is.there, is.of_ring ∙ sym c.server.invariant.0.ring_is)),
@@ -61,7 +61,7 @@ returns-clause-regions g c x has =
     let now : List (Pass g.row.N.Denot g.N.LockNaming) = c.take_all-taken.new.passes.items in
     let passes : List ThePass = map knows back in
     let words : List ℕ = c.shut-disk.result.synced in
-    let of = subst (λ (p : Place). ArePassesOf p handlers c.args.passes) (sym c.server.view_is) c.requires.back.0.of in
+    let of = subst (λ (p : ServiceId). ArePassesOf p handlers c.args.passes) (sym c.server.view_is) c.requires.back.0.of in
     let count : length c.take_all-taken.result.items ≡ the.regions = omega (arith, done.count.0, c.server.invariant.1.locks) in
     let made = made_at bases handlers ring passes c.take_all-taken.new.places the.regions words c.take_all-taken.result.items c.word_all-regions.result.items c.as_slice.result.now count c.as_slice.ensures done.taken c.word_all-regions.ensures.each x has in
     closed_made bases handlers ring passes c.take_all-taken.new.places the.regions words g.N.ServerNaming.name x (ap (λ (n : Naming). n.bases) begun.named) made c.requires.back.1
@@ -122,6 +122,6 @@ pub returns-clause-seen_broken : goal.returns-clause-seen_broken
 returns-clause-seen_broken g c p has =
     let the = c.server.inside.service in
     let done = c.take_all-taken.ensures in
-    let of = subst (λ (q : Place). ArePassesOf q g.N.LockNaming.handlers c.args.passes) (sym c.server.view_is) c.requires.back.0.of in
+    let of = subst (λ (q : ServiceId). ArePassesOf q g.N.LockNaming.handlers c.args.passes) (sym c.server.view_is) c.requires.back.0.of in
     let now : List (Pass g.row.N.Denot g.N.LockNaming) = c.take_all-taken.new.passes.items in
     all_broken the now c.shut-disk.result.synced c.shut-disk.result.broken (done.of the of.back) c.shut-disk.ensures.saw p (subst (λ (l : List ThePass). Contains l p) (sym done.knows) has)

@@ -1,5 +1,5 @@
 use Rattle.std.proofs.Common.{◌≡◌, ℕ, ◌+◌, ◌<◌, length, map, Some, slice_get}
-use Rattle.log_service.specs.Places.{Place}
+use Rattle.log_service.specs.Places.{ServiceId}
 use Rattle.region_model.specs.Lines.{edits_in}
 use Rattle.server_model.specs.Pass.{Pass as ThePass}
 use Rattle.region_lock.specs.Met.{IsMet}
@@ -11,7 +11,7 @@ abbrev pub invariant-meeting : goal.invariant-meeting
 invariant-meeting g l = record {
   same : l.locked ≡ l.fn.locked;
   known : map knows l.passes.items ≡ map knows l.fn.passes.items;
-  of : (the : Place) → AllOf the l.fn.passes.items → AllOf the l.passes.items;
+  of : (the : ServiceId) → AllOf the l.fn.passes.items → AllOf the l.passes.items;
   count : length l.passes.items ≡ length l.fn.passes.items;
   met : (k : ℕ) (p : ThePass) → k < l.at → slice_get (map knows l.fn.passes.items) k ≡ Some p
       → IsMet l.fn.locked.state.base (edits_in l.fn.locked.state.region l.fn.locked.state.lines) p.handler (p.known (l.fn.place + 1));

@@ -57,7 +57,7 @@ returns-in-Ok-start-clause-store g c =
           omega (arith, a, b, e, f, h);
       each = c.in-Ok.ensures.seeds.0;
       items = (c.in-Ok.ensures.items.0, subst (λ (l : List ℕ). AreNewParts rings.items.ring.id l rings.items.consumer.pass.table_id (view rings.items.consumer.pass) rings.items.passes) lasts c.in-Ok.ensures.items.1);
-      loads = (c.in-Ok.ensures.loads.0, subst (λ (l : List ℕ). AreNewParts rings.loads.ring.id l rings.loads.consumer.pass.table_id (view rings.loads.consumer.pass) rings.loads.passes) lasts c.in-Ok.ensures.loads.1);
+      chains = (c.in-Ok.ensures.chains.0, subst (λ (l : List ℕ). AreNewParts rings.chains.ring.id l rings.chains.consumer.pass.table_id (view rings.chains.consumer.pass) rings.chains.passes) lasts c.in-Ok.ensures.chains.1);
       fresh = is_fresh n xs ms first d is firsts c.in-Ok-start.ensures.unbroken c.in-Ok-start.ensures.idle c.in-Ok-start.ensures.served c.in-Ok-start.ensures.drawn c.in-Ok-start.ensures.numbers.0 c.in-Ok-start.ensures.numbers.1;
       begins = λ told.
           let v = g.D.Disk.view c.args.disk in

@@ -1,7 +1,7 @@
 use Rattle.std.proofs.Common.{◌≡◌, ℕ, suc, ◌+◌, ◌<◌, List, [], ◌∷◌, ◌++◌, length, sym, ap, ◌∙◌, subst, arith, length-append}
 use Rattle.std.proofs.lemmas.List.{append_assoc}
 use Rattle.std.specs.Vec.Iter.{into_iter_items}
-use Rattle.append_ring.specs.declared.pass.RingPass.{RingPass}
+use Rattle.append_ring.specs.declared.pass.RingKey.{RingKey}
 use Rattle.append_ring.specs.Parts.{IsNew, AreNewAfter}
 use Rattle.append_ring.proofs.Handing.{next_new, none_left}
 use Rattle.log_service.specs.declared.item.Item.{Item}
@@ -42,7 +42,7 @@ with_pass-requires g c =
     let regions = subst (λ (l : List ℕ). AreFrom (length ys + 1) l) c.in-Some.ensures.steps.0 inv.regions in
     let place : 0 + length ys + 1 ≡ x = omega (arith, regions.0) in
     let same : r.0 ≡ c.in-Some-next.pass = same_of r.0 c.in-Some-next.pass (sym r.1 ∙ sym c.next-in-locking.ensures.given ∙ c.in-Some-next.is) in
-    subst (λ (p : RingPass Item). IsNew ring lasts x p) same (subst (λ n. IsNew ring lasts n r.0) place r.2)
+    subst (λ (p : RingKey Item). IsNew ring lasts x p) same (subst (λ n. IsNew ring lasts n r.0) place r.2)
 
 pub locking-preserved : goal.locking-preserved
 locking-preserved g c =

@@ -1,6 +1,6 @@
 use Rattle.std.proofs.Common.{◌≡◌, map, length, vec_len, vec_capacity}
 use Rattle.std.specs.Vec.Iter.{into_iter_items}
-use Rattle.log_service.specs.Places.{Place}
+use Rattle.log_service.specs.Places.{ServiceId}
 use Rattle.region_calls.specs.Deals.{passes_out, passes_back, ArePassesOf}
 use Rattle.script_run.specs.Ran.{AllOfPlace, pass_of, lines_in, spent_in}
 use Rattle.script_run.specs.Ends.{first_of_all}
@@ -14,6 +14,6 @@ invariant-loop-handler g l = record {
   len : vec_len l.parts ≡ length l.yielded;
   room : vec_capacity l.parts ≡ vec_capacity l.initial.parts;
   spent : l.first ≡ first_of_all (map spent_in l.yielded);
-  of : (place : Place) → ArePassesOf place g.N.LockNaming.handlers l.fn.passes → AllOfPlace place l.fn.handlers.items
+  of : (place : ServiceId) → ArePassesOf place g.N.LockNaming.handlers l.fn.passes → AllOfPlace place l.fn.handlers.items
       → ArePassesOf place g.N.LockNaming.handlers l.passes × AllOfPlace place (into_iter_items l.handler-iterator);
 }

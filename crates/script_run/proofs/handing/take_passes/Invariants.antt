@@ -1,5 +1,5 @@
 use Rattle.std.proofs.Common.{◌≡◌, length, vec_len, vec_capacity}
-use Rattle.log_service.specs.Places.{Place}
+use Rattle.log_service.specs.Places.{ServiceId}
 use Rattle.region_calls.specs.Deals.{passes_out, passes_back, ArePassesOf}
 use Rattle.script_run.specs.Ran.{AllOfPlace}
 use Rattle.script_run.specs.Rooms.{AreTaken}
@@ -12,5 +12,5 @@ invariant-loop-room g l = record {
   back : passes_back l.passes ≡ passes_back l.initial.passes;
   len : vec_len l.handlers ≡ length l.yielded;
   room : vec_capacity l.handlers ≡ vec_capacity l.initial.handlers;
-  of : (place : Place) → ArePassesOf place g.N.LockNaming.handlers l.fn.passes → ArePassesOf place g.N.LockNaming.handlers l.passes × AllOfPlace place l.handlers.items;
+  of : (place : ServiceId) → ArePassesOf place g.N.LockNaming.handlers l.fn.passes → ArePassesOf place g.N.LockNaming.handlers l.passes × AllOfPlace place l.handlers.items;
 }

@@ -3,7 +3,7 @@ use Rattle.std.proofs.lemmas.List.Elements.{Contains-push, Contains-push_cases}
 use Rattle.append_ring.specs.Rules.{base_of}
 use Rattle.log_ledger.specs.declared.base.RegionBase.{RegionBase}
 use Rattle.log_ledger.specs.History.{started_in}
-use Rattle.log_device.specs.Whole.{disk_of, books_of}
+use Rattle.log_device.specs.Whole.{disk_of, numbers_of}
 use Rattle.disk_fakes.specs.Views.{view_of}
 use Rattle.service_trials.proofs.Empty.{opened_empty, few_first}
 use Rattle.service_trials.proofs.bench.run_on_empty.Goals as goal
@@ -27,7 +27,7 @@ over-ended-requires-clause-device g c =
       served = λ r low high. (c.in-Ok-start.ensures.served r).1 (one, Contains-push [] one, omega (arith, low, high));
       drawn = λ r low high.
           let at : 1 ≡ r = omega (arith, low, high) in
-          subst (λ (q : ℕ). get_or (books_of d).drawn q 0 ≡ base_of (0 ∷ []) q) at (c.in-Ok-start.ensures.drawn.named one (Contains-push [] one));
+          subst (λ (q : ℕ). get_or (numbers_of d).drawn q 0 ≡ base_of (0 ∷ []) q) at (c.in-Ok-start.ensures.drawn.named one (Contains-push [] one));
       synced = c.in-Ok-start.ensures.numbers.0;
       stored = c.in-Ok-start.ensures.numbers.1;
     }

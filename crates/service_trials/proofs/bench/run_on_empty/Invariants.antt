@@ -6,7 +6,7 @@ use Rattle.service_trials.proofs.bench.run_on_empty.Given as goal
 abbrev pub ghosts-over : goal.ghosts-over
 ghosts-over g a = record {
   ring = a.rings.items.ring.id;
-  hand = a.rings.loads.ring.id;
+  chain_ring = a.rings.chains.ring.id;
   lasts = 0 ∷ [];
   begun = (view_of a._found.value).files;
   start = (view_of (disk_of a.device)).clock;

@@ -2,7 +2,7 @@ use Rattle.std.proofs.Common.{◌≡◌, ℕ, suc, ◌+◌, ◌-◌, ◌<◌, Li
 use Rattle.std.proofs.lemmas.List.Elements.{All-push}
 use Rattle.std.proofs.lemmas.Option.{same_Some}
 use Rattle.crossbeam_queue.specs.Passes.{view}
-use Rattle.append_ring.specs.declared.pass.RingPass.{RingPass}
+use Rattle.append_ring.specs.declared.pass.RingKey.{RingKey}
 use Rattle.append_ring.specs.Parts.{IsNew, AreNewAfter}
 use Rattle.append_ring.specs.Rules.{base_of, end_of}
 use Rattle.append_ring.proofs.Handing.{next_new}
@@ -27,10 +27,10 @@ loop-given-preserved g c =
     let low = c.loop-given-test.true in
     let lasts : List ℕ = replicate 16 0 in
     let r = next_new place.ring lasts 0 n c.loop-given.passes inv.out.passes (omega (arith, inv.out.all, low)) in
-    let pass : RingPass Item = c.in-Some.pass in
+    let pass : RingKey Item = c.in-Some.pass in
     let same : r.0 ≡ pass = same_Some r.0 pass (sym r.1 ∙ sym c.next.ensures.given ∙ c.in-Some.is) in
     let number : 0 + n + 1 ≡ n + 1 = omega arith in
-    let new = subst (λ (p : RingPass Item). IsNew place.ring lasts (n + 1) p) same (subst (λ (m : ℕ). IsNew place.ring lasts m r.0) number r.2) in
+    let new = subst (λ (p : RingKey Item). IsNew place.ring lasts (n + 1) p) same (subst (λ (m : ℕ). IsNew place.ring lasts m r.0) number r.2) in
     let at : n + 1 - 1 ≡ n = omega arith in
     let none = (λ i. end_of number_of (base_of (new.2 i).lasts (new.1 i)) (new.2 i).pushed) ∙ zeros 16 (n + 1 - 1) in
     let seat = seat_out place n c.loop-given.seats.consumers c.next-in-loop-given.new.self.consumers c.loop-given.seats.devices c.next-in-loop-given.new.self.devices c.in-Some-next.seat inv.out.seats c.in-Some-next.ensures in

@@ -1,6 +1,6 @@
 use Rattle.std.proofs.Common.{◌≡◌, ℕ, suc, ◌+◌, ◌-◌, length, set, Some, None, sym, ap, ◌∙◌, subst, arith, length-set}
 use Rattle.std.specs.Prelude.{slice_get}
-use Rattle.append_ring.specs.declared.pass.RingPass.{RingPass}
+use Rattle.append_ring.specs.declared.pass.RingKey.{RingKey}
 use Rattle.append_ring.specs.Parts.{ArePlacesBack}
 use Rattle.append_ring.proofs.Handing.{back_next}
 use Rattle.log_service.specs.declared.item.Item.{Item}
@@ -10,7 +10,7 @@ use Rattle.service_trials.proofs.crowd.one_back.Goals as goal
 pub put_back-requires : goal.put_back-requires
 put_back-requires g c =
     let back = c.requires.back in
-    let r = back_next (λ (p : RingPass Item). p.pass.table_id ≡ c.args.service.now.ring) c.args.before c.args.passes.now c.args.member.pass back.passes (omega (arith, back.all, c.requires.before)) c.requires.of.ring in
+    let r = back_next (λ (p : RingKey Item). p.pass.table_id ≡ c.args.service.now.ring) c.args.before c.args.passes.now c.args.member.pass back.passes (omega (arith, back.all, c.requires.before)) c.requires.of.ring in
     let at : c.args.before ≡ c.args.member.pass.region - 1 = omega (arith, c.sure_same.ensures) in
     subst (λ (i : ℕ). slice_get c.args.passes.now i ≡ Some None) at r.0
 
@@ -19,7 +19,7 @@ returns g c =
     let place = c.args.service.now in
     let n : ℕ = c.args.before in
     let back = c.requires.back in
-    let is_so : RingPass Item → Type 0 = (λ p. p.pass.table_id ≡ place.ring) in
+    let is_so : RingKey Item → Type 0 = (λ p. p.pass.table_id ≡ place.ring) in
     let r = back_next is_so n c.args.passes.now c.args.member.pass back.passes (omega (arith, back.all, c.requires.before)) c.requires.of.ring in
     let at : n ≡ c.args.member.pass.region - 1 = omega (arith, c.sure_same.ensures) in
     let set_is = subst (λ (i : ℕ). c.put_back.new.self ≡ set c.args.passes.now i (Some c.args.member.pass)) (sym at) c.put_back.ensures in

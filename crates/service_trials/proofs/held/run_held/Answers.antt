@@ -3,7 +3,7 @@ use Rattle.std.proofs.lemmas.List.Elements.{Contains-push, Contains-push_cases}
 use Rattle.append_ring.specs.Rules.{base_of}
 use Rattle.log_ledger.specs.declared.base.RegionBase.{RegionBase}
 use Rattle.log_ledger.specs.History.{started_in}
-use Rattle.log_device.specs.Whole.{disk_of, books_of}
+use Rattle.log_device.specs.Whole.{disk_of, numbers_of}
 use Rattle.log_device.specs.Opened.{IsOpened}
 use Rattle.disk_fakes.specs.Watch.{watched}
 use Rattle.disk_fakes.specs.Views.{view_of}
@@ -29,7 +29,7 @@ over_held-ended-requires-clause-device g c κs within =
       served = λ r low high. (c.in-Ok-start.ensures.served r).1 (one, Contains-push [] one, omega (arith, low, high));
       drawn = λ r low high.
           let at : 1 ≡ r = omega (arith, low, high) in
-          subst (λ (q : ℕ). get_or (books_of d).drawn q 0 ≡ base_of (0 ∷ []) q) at (c.in-Ok-start.ensures.drawn.named one (Contains-push [] one));
+          subst (λ (q : ℕ). get_or (numbers_of d).drawn q 0 ≡ base_of (0 ∷ []) q) at (c.in-Ok-start.ensures.drawn.named one (Contains-push [] one));
       synced = c.in-Ok-start.ensures.numbers.0;
       stored = c.in-Ok-start.ensures.numbers.1;
     }

@@ -7,7 +7,7 @@ use Rattle.service_trials.proofs.held.run_held.Given as goal
 abbrev pub ghosts-over_held : goal.ghosts-over_held
 ghosts-over_held g a = record {
   ring = a.rings.items.ring.id;
-  hand = a.rings.loads.ring.id;
+  chain_ring = a.rings.chains.ring.id;
   lasts = 0 ∷ [];
   begun = (view_of (watched a._found.value)).files;
   start = (view_of (watched (disk_of a.device))).clock;

@@ -2,7 +2,7 @@ use Rattle.std.proofs.Common.{◌≡◌, ℕ, List, length, replicate, sym, ap, 
 use Rattle.atomic_table.specs.Seated.{TableId}
 use Rattle.append_ring.specs.Parts.{AreNew}
 use Rattle.append_ring.proofs.Handing.{all_back}
-use Rattle.append_ring.specs.declared.pass.RingPass.{RingPass}
+use Rattle.append_ring.specs.declared.pass.RingKey.{RingKey}
 use Rattle.log_service.specs.declared.item.Item.{Item}
 use Rattle.service_trials.proofs.CrewLaws.{seats_new}
 use Rattle.service_trials.proofs.threads.over_sixteen.Goals as goal
@@ -21,4 +21,4 @@ hand_out-requires-clause-none g c =
 pub close-closed-requires-clause-passes : goal.close-closed-requires-clause-passes
 close-closed-requires-clause-passes g c =
     let back = c.take_back-told.ensures in
-    (all_back (λ (p : RingPass Item). p.pass.table_id ≡ c.in-Ok.field-0.service.ring) 16 c.take_back-told.new.passes back.passes (sym back.all), back.all ∙ sym c.in-Ok.ensures.service.1)
+    (all_back (λ (p : RingKey Item). p.pass.table_id ≡ c.in-Ok.field-0.service.ring) 16 c.take_back-told.new.passes back.passes (sym back.all), back.all ∙ sym c.in-Ok.ensures.service.1)

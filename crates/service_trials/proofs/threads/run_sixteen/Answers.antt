@@ -1,6 +1,6 @@
 use Rattle.std.proofs.Common.{◌≡◌, ◌+◌, ◌^◌, ◌≤◌, ◌-◌, ℕ, get_or, refl, sym, ap, ◌∙◌, arith}
 use Rattle.log_ledger.specs.History.{started_in}
-use Rattle.log_device.specs.Whole.{disk_of, books_of}
+use Rattle.log_device.specs.Whole.{disk_of, numbers_of}
 use Rattle.disk_fakes.specs.Views.{view_of}
 use Rattle.service_trials.proofs.CrewLaws.{regions_from, are_regions, nothing_stored, has_region, zeros}
 use Rattle.service_trials.proofs.Empty.{opened_empty, few_first}
@@ -12,8 +12,8 @@ start-requires-clause-regions g c = are_regions 16 (omega arith)
 pub over_sixteen-ended-requires-clause-items : goal.over_sixteen-ended-requires-clause-items
 over_sixteen-ended-requires-clause-items g c κs within = (c.in_ok-rings.ensures.items.0, record { is = refl; parts = c.in_ok-rings.ensures.items.1 })
 
-pub over_sixteen-ended-requires-clause-loads : goal.over_sixteen-ended-requires-clause-loads
-over_sixteen-ended-requires-clause-loads g c κs within = (c.in_ok-rings.ensures.loads.0, record { is = refl; parts = c.in_ok-rings.ensures.loads.1 })
+pub over_sixteen-ended-requires-clause-chains : goal.over_sixteen-ended-requires-clause-chains
+over_sixteen-ended-requires-clause-chains g c κs within = (c.in_ok-rings.ensures.chains.0, record { is = refl; parts = c.in_ok-rings.ensures.chains.1 })
 
 pub start-requires-clause-opened : goal.start-requires-clause-opened
 start-requires-clause-opened g c told =
@@ -28,7 +28,7 @@ over_sixteen-ended-requires-clause-device g c κs within =
       served = λ r low high. (c.in-Ok.ensures.served r).1 (has_region 0 16 r low high);
       drawn = λ r low high.
           let m = has_region 0 16 r low high in
-          ap (λ (q : ℕ). get_or (books_of d).drawn q 0) (sym m.2) ∙ c.in-Ok.ensures.drawn.named m.0 m.1 ∙ sym (nothing_stored 0 16 m.0 m.1).0 ∙ sym (zeros 16 (r - 1));
+          ap (λ (q : ℕ). get_or (numbers_of d).drawn q 0) (sym m.2) ∙ c.in-Ok.ensures.drawn.named m.0 m.1 ∙ sym (nothing_stored 0 16 m.0 m.1).0 ∙ sym (zeros 16 (r - 1));
       synced = c.in-Ok.ensures.numbers.0;
       stored = c.in-Ok.ensures.numbers.1;
     }

@@ -6,7 +6,7 @@ use Rattle.service_trials.proofs.threads.run_sixteen.Given as goal
 abbrev pub ghosts-over_sixteen : goal.ghosts-over_sixteen
 ghosts-over_sixteen g a = record {
   ring = a.rings.items.ring.id;
-  hand = a.rings.loads.ring.id;
+  chain_ring = a.rings.chains.ring.id;
   lasts = replicate 16 0;
   begun = (view_of a._found.value).files;
   start = (view_of (disk_of a.device)).clock;

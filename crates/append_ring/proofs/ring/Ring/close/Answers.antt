@@ -1,7 +1,7 @@
 use Rattle.std.proofs.Common.{◌≡◌, ◌∙◌, ◌++◌, ◌∷◌, [], List, sym, ap, subst, length, append_assoc}
 use Rattle.std.specs.Prelude.{Option}
 use Rattle.crossbeam_queue.specs.Passes.{view}
-use Rattle.append_ring.specs.declared.pass.RingPass.{RingPass}
+use Rattle.append_ring.specs.declared.pass.RingKey.{RingKey}
 use Rattle.append_ring.specs.Rules.{of}
 use Rattle.append_ring.specs.Parts.{EachThere, IsCounted, IsEqual}
 use Rattle.append_ring.proofs.Places.{each_there-front}
@@ -9,21 +9,21 @@ use Rattle.append_ring.proofs.ring.Ring.close.Goals as goal
 
 pub unreachable-requires : goal.unreachable-requires
 unreachable-requires g c =
-    let P = RingPass g.row.T.Denot in
+    let P = RingKey g.row.T.Denot in
     let F = λ (p : P). p.pass.table_id ≡ c.args.self.id in
     let parts = each_there-front F c.pop.new.self.items c.in-Some.place (subst (EachThere F) c.in-Some.ensures.items c.loop-place.invariant.there) in
     subst (λ (o : Option P). EachThere F (o ∷ [])) c.in_default-place.is parts.1
 
 pub settle-requires-clause-ring : goal.settle-requires-clause-ring
 settle-requires-clause-ring g c =
-    let P = RingPass g.row.T.Denot in
+    let P = RingKey g.row.T.Denot in
     let F = λ (p : P). p.pass.table_id ≡ c.args.self.id in
     let parts = each_there-front F c.pop.new.self.items c.in-Some.place (subst (EachThere F) c.in-Some.ensures.items c.loop-place.invariant.there) in
     (c.loop-place.invariant.of, (subst (λ (o : Option P). EachThere F (o ∷ [])) c.in-Some-place.is parts.1).0)
 
 pub settle-requires-clause-count : goal.settle-requires-clause-count
 settle-requires-clause-count g c =
-    let P = RingPass g.row.T.Denot in
+    let P = RingKey g.row.T.Denot in
     let place = g.T.OfRegion.place in
     let F = IsCounted place (view c.args.consumer.pass).popped in
     let parts = each_there-front F c.pop.new.self.items c.in-Some.place (subst (EachThere F) c.in-Some.ensures.items c.loop-place.invariant.counts) in
@@ -31,7 +31,7 @@ settle-requires-clause-count g c =
 
 pub loop-place-preserved : goal.loop-place-preserved
 loop-place-preserved g c =
-    let P = RingPass g.row.T.Denot in
+    let P = RingKey g.row.T.Denot in
     let place = g.T.OfRegion.place in
     let popped = (view c.args.consumer.pass).popped in
     let i = c.loop-place.invariant in

@@ -1,13 +1,13 @@
 use Rattle.std.proofs.Common.{arith, sym, ap, ◌∙◌, ℕ, ◌≡◌}
 use Rattle.log_berth.specs.declared.known.Known.{Known}
-use Rattle.log_berth.specs.Standing.{Standing, Place, first_of}
+use Rattle.log_berth.specs.Standing.{Standing, BerthId, first_of}
 use Rattle.log_berth.proofs.Steps.{breaks}
 use Rattle.log_berth.proofs.berth.Berth.break_log.Goals as goal
 
 pub store-requires : goal.store-requires
 store-requires g c =
     let is = c.self.invariant in
-    let same = c.sit-me.ensures.0 ∙ (ap (λ (s : Standing). s.berth) c.seat.view_is ∙ (c.requires.seat ∙ sym (ap (λ (p : Place). p.id) c.self.view_is))) in
+    let same = c.sit-me.ensures.0 ∙ (ap (λ (s : Standing). s.berth) c.seat.view_is ∙ (c.requires.seat ∙ sym (ap (λ (p : BerthId). p.id) c.self.view_is))) in
     let knows : c.sit-me.result.me.0 ≡ c.args.seat.now.knows = ap first_of (sym c.sit-me.ensures.1) ∙ ap (λ (s : Standing). s.knows) c.seat.view_is in
     let k : ℕ × ℕ = (c.self.inside.regions, c.self.inside.seats) in
     (same, omega (arith, is.0), rw is.2 (breaks g.W.Ware.numbers g.W.Ware.is_broken k _ _ _ (ap (λ (v : Known). v.turn) knows ∙ c.requires.turn.0)))

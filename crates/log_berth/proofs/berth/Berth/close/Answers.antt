@@ -4,7 +4,7 @@ use Rattle.std.proofs.lemmas.Option.{same_Some}
 use Rattle.std.specs.Slots.{slots_items}
 use Rattle.log_berth.specs.declared.known.Known.{Known}
 use Rattle.log_berth.specs.Words.{NoMore, Same, Informs}
-use Rattle.log_berth.specs.Standing.{Standing, Place, Bundle, AreBack, AllSaw}
+use Rattle.log_berth.specs.Standing.{Standing, BerthId, Bundle, AreBack, AllSaw}
 use Rattle.log_berth.proofs.Steps.{ends}
 use Rattle.log_berth.proofs.Joined.{words_saw, all_saw, all_saw-snoc, are_back-front}
 use Rattle.log_berth.proofs.berth.Berth.close.Goals as goal
@@ -12,7 +12,7 @@ use Rattle.log_berth.proofs.berth.Berth.close.Goals as goal
 pub joined-me-requires-clause-me : goal.joined-me-requires-clause-me
 joined-me-requires-clause-me g c =
     let id = c.self.inside.table.shared.table_id in
-    let same = ap (λ (p : Place). p.id) c.self.view_is in
+    let same = ap (λ (p : BerthId). p.id) c.self.view_is in
     let items = ap (λ (b : Bundle). b.seats) c.seats.view_is in
     let all : AreBack id c.seats.inside.seats.items = rw (same, items) c.requires.back in
     let back = (are_back-front id c.pop.new.self.items c.in-Some.first (subst (AreBack id) c.in-Some.ensures.items all)).1.0 in
@@ -22,7 +22,7 @@ joined-me-requires-clause-me g c =
 pub joined-me-requires-clause-back : goal.joined-me-requires-clause-back
 joined-me-requires-clause-back g c =
     let id = c.self.inside.table.shared.table_id in
-    let same = ap (λ (p : Place). p.id) c.self.view_is in
+    let same = ap (λ (p : BerthId). p.id) c.self.view_is in
     let items = ap (λ (b : Bundle). b.seats) c.seats.view_is in
     let all : AreBack id c.seats.inside.seats.items = rw (same, items) c.requires.back in
     (are_back-front id c.pop.new.self.items c.in-Some.first (subst (AreBack id) c.in-Some.ensures.items all)).0
@@ -37,7 +37,7 @@ finish-requires-clause-ware g c =
     let mine : c.into_seat.result.me.0 ≡ first.knows = ap (λ m. m.0) c.into_seat.ensures.seat.1 in
     let v : Known = c.joined-me.result.me.0 in
     let ws : List ℕ = slots_items c.close_with.result.words in
-    let parts : v.parts ≡ key.1 = omega (arith, c.joined-me.ensures.seat.3, ap (λ (u : Known). u.parts) mine, c.into_seat.ensures.part, ap length popped, length-append left (first ∷ []), ap length items, c.requires.all, ap (λ (p : Place). p.seats) c.self.view_is, ap (λ (k : ℕ × ℕ). k.1) c.self.invariant.2) in
+    let parts : v.parts ≡ key.1 = omega (arith, c.joined-me.ensures.seat.3, ap (λ (u : Known). u.parts) mine, c.into_seat.ensures.part, ap length popped, length-append left (first ∷ []), ap length items, c.requires.all, ap (λ (p : BerthId). p.seats) c.self.view_is, ap (λ (k : ℕ × ℕ). k.1) c.self.invariant.2) in
     let e = ends g.W.Ware.numbers g.W.Ware.is_broken key _ v ws (slots_items c.close_with.result.slots) parts c.joined-me.ensures.seat.2 c.close_with.ensures.values.2 in
     (e.0, e.1)
 
@@ -51,7 +51,7 @@ returns-clause-ware g c =
     let mine : c.into_seat.result.me.0 ≡ first.knows = ap (λ m. m.0) c.into_seat.ensures.seat.1 in
     let v : Known = c.joined-me.result.me.0 in
     let ws : List ℕ = slots_items c.close_with.result.words in
-    let parts : v.parts ≡ key.1 = omega (arith, c.joined-me.ensures.seat.3, ap (λ (u : Known). u.parts) mine, c.into_seat.ensures.part, ap length popped, length-append left (first ∷ []), ap length items, c.requires.all, ap (λ (p : Place). p.seats) c.self.view_is, ap (λ (k : ℕ × ℕ). k.1) c.self.invariant.2) in
+    let parts : v.parts ≡ key.1 = omega (arith, c.joined-me.ensures.seat.3, ap (λ (u : Known). u.parts) mine, c.into_seat.ensures.part, ap length popped, length-append left (first ∷ []), ap length items, c.requires.all, ap (λ (p : BerthId). p.seats) c.self.view_is, ap (λ (k : ℕ × ℕ). k.1) c.self.invariant.2) in
     let e = ends g.W.Ware.numbers g.W.Ware.is_broken key _ v ws (slots_items c.close_with.result.slots) parts c.joined-me.ensures.seat.2 c.close_with.ensures.values.2 in
     let n : key.0 ≡ c.self.inside.regions = ap (λ (k : ℕ × ℕ). k.0) c.self.invariant.2 in
     let f = c.finish.ensures in
@@ -72,7 +72,7 @@ returns-clause-saw g c =
     let mine : c.into_seat.result.me.0 ≡ first.knows = ap (λ m. m.0) c.into_seat.ensures.seat.1 in
     let v : Known = c.joined-me.result.me.0 in
     let ws : List ℕ = slots_items c.close_with.result.words in
-    let parts : v.parts ≡ key.1 = omega (arith, c.joined-me.ensures.seat.3, ap (λ (u : Known). u.parts) mine, c.into_seat.ensures.part, ap length popped, length-append left (first ∷ []), ap length items, c.requires.all, ap (λ (p : Place). p.seats) c.self.view_is, ap (λ (k : ℕ × ℕ). k.1) c.self.invariant.2) in
+    let parts : v.parts ≡ key.1 = omega (arith, c.joined-me.ensures.seat.3, ap (λ (u : Known). u.parts) mine, c.into_seat.ensures.part, ap length popped, length-append left (first ∷ []), ap length items, c.requires.all, ap (λ (p : BerthId). p.seats) c.self.view_is, ap (λ (k : ℕ × ℕ). k.1) c.self.invariant.2) in
     let e = ends g.W.Ware.numbers g.W.Ware.is_broken key _ v ws (slots_items c.close_with.result.slots) parts c.joined-me.ensures.seat.2 c.close_with.ensures.values.2 in
     let n : key.0 ≡ c.self.inside.regions = ap (λ (k : ℕ × ℕ). k.0) c.self.invariant.2 in
     let synced : take key.0 ws ≡ c.finish.result.synced = ap (λ (k : ℕ). take k ws) n ∙ sym c.finish.ensures.synced.0 in

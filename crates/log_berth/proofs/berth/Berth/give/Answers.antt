@@ -2,14 +2,14 @@ use Rattle.std.proofs.Common.{arith, sym, ap, ◌∙◌, subst, ℕ, ◌≡◌, 
 use Rattle.atomic_table.specs.Table.{rest}
 use Rattle.log_berth.specs.declared.known.Known.{Known}
 use Rattle.log_berth.specs.Words.{NoMore}
-use Rattle.log_berth.specs.Standing.{Standing, Place, first_of}
+use Rattle.log_berth.specs.Standing.{Standing, BerthId, first_of}
 use Rattle.log_berth.proofs.Steps.{regains, gives_turn}
 use Rattle.log_berth.proofs.berth.Berth.give.Goals as goal
 
 pub join_seat-requires : goal.join_seat-requires
 join_seat-requires g c =
     let is = c.self.invariant in
-    let id = sym (ap (λ (p : Place). p.id) c.self.view_is) in
+    let id = sym (ap (λ (p : BerthId). p.id) c.self.view_is) in
     let same = c.sit-knows.ensures.0 ∙ (ap (λ (s : Standing). s.berth) c.seat.view_is ∙ (c.requires.seat ∙ id)) in
     let mine = c.exchange.ensures.0 ∙ (c.requires.turn.1 ∙ id) in
     (mine, same, c.sit-knows.ensures.2, omega (arith, is.0), regains g.W.Ware.numbers g.W.Ware.is_broken _ _ _ _ _ (ap (λ m. m.0) c.exchange.ensures.3 ∙ ap (λ m. m.0) c.args.turn.out))
@@ -17,7 +17,7 @@ join_seat-requires g c =
 pub store-requires : goal.store-requires
 store-requires g c =
     let is = c.self.invariant in
-    let id = sym (ap (λ (p : Place). p.id) c.self.view_is) in
+    let id = sym (ap (λ (p : BerthId). p.id) c.self.view_is) in
     let mine = c.exchange.ensures.0 ∙ (c.requires.turn.1 ∙ id) in
     let knows : c.sit-knows.result.me.0 ≡ c.args.seat.now.knows = ap first_of (sym c.sit-knows.ensures.1) ∙ ap (λ (s : Standing). s.knows) c.seat.view_is in
     let j = c.join_seat.ensures in

@@ -5,7 +5,7 @@ use Rattle.log_model.specs.declared.name.Name.{Name}
 use Rattle.log_file.specs.Open.{OpenLog}
 use Rattle.log_ledger.specs.Counted.{IsCounted}
 use Rattle.log_ledger.specs.History.{closed_in}
-use Rattle.log_ledger.specs.Books.{Books}
+use Rattle.log_ledger.specs.Numbers.{Numbers}
 use Rattle.log_device.specs.Keeps.{Keeps}
 use Rattle.log_device.specs.Numbered.{IsNumbered}
 use Rattle.log_device.proofs.Numbering.{same_file, numbered_next}
@@ -34,7 +34,7 @@ pub close-requires-clause-above : goal.close-requires-clause-above
 close-requires-clause-above g c =
     let numbered = c.args.self.now.numbered c.in-Some.log (sym c.take.ensures.value ∙ c.in-Some.is) in
     let number : c.name-number.result.number ≡ c.in-Some.log.name.number = ap (λ (n : Name). n.number) c.name-number.ensures in
-    omega (arith, numbered.later, number, ap (λ (b : Books). b.accounts.last) c.deref_mut.ensures.value)
+    omega (arith, numbered.later, number, ap (λ (b : Numbers). b.accounts.last) c.deref_mut.ensures.value)
 
 pub invariant_of-self-in-Ok : goal.invariant_of-self-in-Ok
 invariant_of-self-in-Ok g c = record {

@@ -3,7 +3,7 @@ use Rattle.std.specs.Prelude.{sum}
 use Rattle.std.proofs.Math.Logic.{∥∥₁_map}
 use Rattle.log_file.specs.Open.{OpenLog}
 use Rattle.log_file.specs.LogText.{behind_gate}
-use Rattle.log_ledger.specs.Books.{Books}
+use Rattle.log_ledger.specs.Numbers.{Numbers}
 use Rattle.log_ledger.specs.History.{committed_in}
 use Rattle.log_device.specs.Keeps.{Keeps}
 use Rattle.log_device.specs.Numbered.{IsNumbered}
@@ -25,7 +25,7 @@ invariant_of-self-in-Ok g c = record {
   numbered = λ file is.
       subst (λ (f : OpenLog). IsNumbered f c.commit-in-Ok.new.self) (same_file c.commit.new.self file is)
       (numbered_still c.in-Some.log c.commit.new.self c.args.self.now.ledger.value c.commit-in-Ok.new.self (c.args.self.now.numbered c.in-Some.log c.in-Some.is)
-      c.commit.ensures.same_name (omega (arith, c.in-Ok.ensures.entries, c.in-Ok.ensures.stage_emptied.count)) (ap (λ (b : Books). sum b.drawn) (rw c.deref_mut.ensures.value at c.commit-in-Ok.ensures.synced)) (ap (λ (b : Books). b.accounts.last) (rw c.deref_mut.ensures.value at c.commit-in-Ok.ensures.synced)));
+      c.commit.ensures.same_name (omega (arith, c.in-Ok.ensures.entries, c.in-Ok.ensures.stage_emptied.count)) (ap (λ (b : Numbers). sum b.drawn) (rw c.deref_mut.ensures.value at c.commit-in-Ok.ensures.synced)) (ap (λ (b : Numbers). b.accounts.last) (rw c.deref_mut.ensures.value at c.commit-in-Ok.ensures.synced)));
 }
 
 pub returns-in-Ok-clause-syncs : goal.returns-in-Ok-clause-syncs
@@ -38,11 +38,11 @@ returns-in-Ok-clause-syncs g c told h whole =
     (record {
       file = c.commit.new.self;
       is = refl;
-      keeps = subst (λ (ns : List ℕ). Keeps c.commit.new.self w (committed_in h) ns) (sym (ap (λ (b : Books). b.next_store) (rw c.deref_mut.ensures.value at c.commit-in-Ok.ensures.synced)))
+      keeps = subst (λ (ns : List ℕ). Keeps c.commit.new.self w (committed_in h) ns) (sym (ap (λ (b : Numbers). b.next_store) (rw c.deref_mut.ensures.value at c.commit-in-Ok.ensures.synced)))
           (commit_kept c.in-Some.log v h c.args.self.now.ledger.value.next_store keeps c.commit.new.self w c.commit.ensures.same_name atomic (c.commit.ensures.no_other_file told)
           (c.in-Ok.ensures.commits told h.current h.kept.staged keeps.open_log keeps.staged).durable c.in-Ok.ensures.stage_emptied);
       counted = (rw c.deref_mut.ensures.value at c.commit-in-Ok.ensures.counted) h whole.counted;
-      told = told_behind g.D.Disk h c.args.self.now _ (ap (λ (b : Books). b.stored) (rw c.deref_mut.ensures.value at c.commit-in-Ok.ensures.synced)) whole;
+      told = told_behind g.D.Disk h c.args.self.now _ (ap (λ (b : Numbers). b.stored) (rw c.deref_mut.ensures.value at c.commit-in-Ok.ensures.synced)) whole;
     })
 
 pub returns-in-Err-clause-syncs : goal.returns-in-Err-clause-syncs
@@ -55,8 +55,8 @@ none_behind : behind_gate [] ≡ []
 unfolding behind_gate
 none_behind = refl
 
-pub returns-in-Ok-clause-books : goal.returns-in-Ok-clause-books
-returns-in-Ok-clause-books g c =
+pub returns-in-Ok-clause-numbers : goal.returns-in-Ok-clause-numbers
+returns-in-Ok-clause-numbers g c =
     let synced = rw c.deref_mut.ensures.value at c.commit-in-Ok.ensures.synced in
     let order = rw c.deref_mut.ensures.value at c.commit-in-Ok.ensures.order in record {
       count = λ file is. c.in-Ok.ensures.returns_count ∙ ap (λ (f : OpenLog). f.staged) (same_file c.in-Some.log file (sym c.in-Some.is ∙ is));
@@ -71,7 +71,7 @@ returns-in-Ok-clause-books g c =
       synced = synced;
       faulty = tt;
       never_falls = λ r.
-          let is = ap (λ (b : Books). get_or b.synced r 0) synced in
+          let is = ap (λ (b : Numbers). get_or b.synced r 0) synced in
           omega (arith, is, (order.regions r).synced);
       few = rw c.deref_mut.ensures.value at c.commit-in-Ok.ensures.few;
     }

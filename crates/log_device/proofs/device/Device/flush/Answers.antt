@@ -7,7 +7,7 @@ use Rattle.log_ledger.specs.Counted.{HasUnflushed}
 use Rattle.log_device.specs.Flushed.{HasStore}
 use Rattle.log_device.specs.declared.error.DeviceFlush.TheVariants as refusals
 use Rattle.log_device.specs.Whole.{IsBroken, HasHistory}
-use Rattle.log_device.proofs.FlushSteps.{not_nothing, flushes_behind, books_behind}
+use Rattle.log_device.proofs.FlushSteps.{not_nothing, flushes_behind, numbers_behind}
 use Rattle.log_device.proofs.Results.{none_of, on_any}
 use Rattle.log_device.proofs.Syncing.{at_rest}
 use Rattle.log_device.proofs.device.Device.flush.Goals as goal
@@ -36,13 +36,13 @@ returns-in_err-commit_staged-clause-chronicle g c told h whole =
 pub flush_committed-requires-clause-rest : goal.flush_committed-requires-clause-rest
 flush_committed-requires-clause-rest g c =
     at_rest g.D.Disk _ c.args.self.now c.commit_staged.new.self c.requires.whole (λ told h whole. (c.in_ok-commit_staged.ensures.syncs told h whole).committed) c.in_ok-commit_staged.ensures.order
-    c.in_ok-commit_staged.ensures.books c.in_ok-commit_staged.ensures.breaks
+    c.in_ok-commit_staged.ensures.numbers c.in_ok-commit_staged.ensures.breaks
 
 pub returns-clause-flushes : goal.returns-clause-flushes
 returns-clause-flushes g c told h whole =
     let sync = c.in_ok-commit_staged.ensures.syncs told h whole in
     flushes_behind g.D.Disk h c.args.region (option_copied c.args.family) _ c.flush_committed.result c.args.self.now c.commit_staged.new.self c.flush_committed.new.self (g.met.D.Disk.is_true c.args.self.now.disk told)
-    (g.met.D.Disk.is_true c.commit_staged.new.self.disk told) whole sync.committed c.in_ok-commit_staged.ensures.books.synced c.in_ok-commit_staged.ensures.books.file sync
+    (g.met.D.Disk.is_true c.commit_staged.new.self.disk told) whole sync.committed c.in_ok-commit_staged.ensures.numbers.synced c.in_ok-commit_staged.ensures.numbers.file sync
     (c.flush_committed.ensures.flushes told (committed_in h) sync.committed refl)
 
 pub returns-clause-chronicle : goal.returns-clause-chronicle
@@ -53,15 +53,15 @@ returns-clause-chronicle g c told h whole =
     let n = whole.file.name.number in
     prolonged n u.files w.files (appends_and_stays n u.files v.files w.files (c.commit_staged.ensures.appends told h whole.file whole whole.is) (λ k low. c.flush_committed.ensures.logs told k))
 
-pub returns-clause-books : goal.returns-clause-books
-returns-clause-books g c =
-    books_behind c.args.region (option_copied c.args.family) c.flush_committed.result c.args.self.now c.commit_staged.new.self c.flush_committed.new.self c.in_ok-commit_staged.ensures.books.synced c.commit_staged.ensures.books.never_falls c.commit_staged.ensures.books.few
-    c.in_ok-commit_staged.ensures.books.file c.flush_committed.ensures.books
+pub returns-clause-numbers : goal.returns-clause-numbers
+returns-clause-numbers g c =
+    numbers_behind c.args.region (option_copied c.args.family) c.flush_committed.result c.args.self.now c.commit_staged.new.self c.flush_committed.new.self c.in_ok-commit_staged.ensures.numbers.synced c.commit_staged.ensures.numbers.never_falls c.commit_staged.ensures.numbers.few
+    c.in_ok-commit_staged.ensures.numbers.file c.flush_committed.ensures.numbers
 
 pub returns-clause-memory : goal.returns-clause-memory
 returns-clause-memory g c memory =
     let same = c.flush_committed.ensures.memory memory in record {
       calls = λ told h whole.
           subst (λ d. Elapses 4 (g.D.Disk.view c.args.self.now.disk) (g.D.Disk.view d)) (sym same) (c.commit_staged.ensures.syncs told h whole).any_moment.time;
-      idle = λ file is none. same ∙ (c.commit_staged.ensures.books.idle file is none).0;
+      idle = λ file is none. same ∙ (c.commit_staged.ensures.numbers.idle file is none).0;
     }

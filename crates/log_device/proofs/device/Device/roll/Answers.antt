@@ -5,7 +5,7 @@ use Rattle.chronicle_model.specs.Growth.{AppendsTo}
 use Rattle.chronicle_model.proofs.Grown.{prolonged, appends_twice}
 use Rattle.disk_images.specs.Crash.{Elapses}
 use Rattle.log_ledger.specs.History.{committed_in}
-use Rattle.log_device.proofs.RollSteps.{failed_rolls, rolls_behind, books_behind}
+use Rattle.log_device.proofs.RollSteps.{failed_rolls, rolls_behind, numbers_behind}
 use Rattle.log_device.proofs.Syncing.{at_rest}
 use Rattle.log_device.proofs.device.Device.roll.Goals as goal
 
@@ -21,13 +21,13 @@ returns-in_err-commit_staged-clause-chronicle g c told h whole =
 pub roll_committed-requires : goal.roll_committed-requires
 roll_committed-requires g c =
     at_rest g.D.Disk _ c.args.self.now c.commit_staged.new.self c.requires (λ told h whole. (c.in_ok-commit_staged.ensures.syncs told h whole).committed) c.in_ok-commit_staged.ensures.order
-    c.in_ok-commit_staged.ensures.books c.in_ok-commit_staged.ensures.breaks
+    c.in_ok-commit_staged.ensures.numbers c.in_ok-commit_staged.ensures.breaks
 
 pub returns-clause-rolls : goal.returns-clause-rolls
 returns-clause-rolls g c told h whole =
     let sync = c.in_ok-commit_staged.ensures.syncs told h whole in
     rolls_behind g.D.Disk h _ c.args.self.now c.commit_staged.new.self sync c.roll_committed.result c.roll_committed.new.self (g.met.D.Disk.is_true c.args.self.now.disk told)
-    (g.met.D.Disk.is_true c.commit_staged.new.self.disk told) whole sync.committed c.in_ok-commit_staged.ensures.books.synced c.in_ok-commit_staged.ensures.books.file
+    (g.met.D.Disk.is_true c.commit_staged.new.self.disk told) whole sync.committed c.in_ok-commit_staged.ensures.numbers.synced c.in_ok-commit_staged.ensures.numbers.file
     (c.roll_committed.ensures.rolls told (committed_in h) sync.committed refl)
 
 -- the commit and the rest append to one log
@@ -39,21 +39,21 @@ returns-clause-chronicle g c told h whole =
     let u = g.D.Disk.view c.args.self.now.disk in
     let v = g.D.Disk.view c.commit_staged.new.self.disk in
     let w = g.D.Disk.view c.roll_committed.new.self.disk in
-    let now = c.in_ok-commit_staged.ensures.books.file whole.file whole.is in
+    let now = c.in_ok-commit_staged.ensures.numbers.file whole.file whole.is in
     let kept = (c.in_ok-commit_staged.ensures.syncs told h whole).committed in
     prolonged whole.file.name.number u.files w.files
     (both_append whole.file.name.number now.0.name.number u.files v.files w.files (ap (λ (n : Name). n.number) now.2) (c.commit_staged.ensures.appends told h whole.file whole whole.is)
     (c.roll_committed.ensures.appends told (committed_in h) now.0 kept now.1 refl))
 
-pub returns-clause-books : goal.returns-clause-books
-returns-clause-books g c =
-    books_behind c.roll_committed.result c.args.self.now c.commit_staged.new.self c.roll_committed.new.self c.in_ok-commit_staged.ensures.books.synced c.commit_staged.ensures.books.never_falls c.commit_staged.ensures.books.few
-    c.in_ok-commit_staged.ensures.books.file c.roll_committed.ensures.books
+pub returns-clause-numbers : goal.returns-clause-numbers
+returns-clause-numbers g c =
+    numbers_behind c.roll_committed.result c.args.self.now c.commit_staged.new.self c.roll_committed.new.self c.in_ok-commit_staged.ensures.numbers.synced c.commit_staged.ensures.numbers.never_falls c.commit_staged.ensures.numbers.few
+    c.in_ok-commit_staged.ensures.numbers.file c.roll_committed.ensures.numbers
 
 pub returns-clause-memory : goal.returns-clause-memory
 returns-clause-memory g c memory =
     let same = c.roll_committed.ensures.memory memory in record {
       calls = λ told h whole.
           subst (λ d. Elapses 4 (g.D.Disk.view c.args.self.now.disk) (g.D.Disk.view d)) (sym same) (c.commit_staged.ensures.syncs told h whole).any_moment.time;
-      idle = λ file is none. same ∙ (c.commit_staged.ensures.books.idle file is none).0;
+      idle = λ file is none. same ∙ (c.commit_staged.ensures.numbers.idle file is none).0;
     }

@@ -2,7 +2,7 @@ use Rattle.std.proofs.Common.{◌≡◌, ◌<◌, inl, ℕ, List, Err, length, g
 use Rattle.std.specs.Prelude.{sum}
 use Rattle.std.proofs.Math.Logic.{∥∥₁_map}
 use Rattle.std.proofs.lemmas.List.{nil_from_length}
-use Rattle.log_ledger.specs.Books.{Books}
+use Rattle.log_ledger.specs.Numbers.{Numbers}
 use Rattle.log_ledger.specs.Counted.{IsCounted}
 use Rattle.log_ledger.specs.History.{closed_in}
 use Rattle.log_device.specs.Whole.{IsBroken, HasHistory}
@@ -19,7 +19,7 @@ pub invariant_of-self : goal.invariant_of-self
 invariant_of-self g c = record {
   numbered = λ file is.
       numbered_still file file c.args.self.now.ledger.value c.close_empty.new.self (c.args.self.now.numbered file is) refl refl
-      (ap (λ (b : Books). sum b.drawn) (rw c.deref_mut-ledger.ensures.value at c.close_empty.ensures.closed)) (ap (λ (b : Books). b.accounts.last) (rw c.deref_mut-ledger.ensures.value at c.close_empty.ensures.closed));
+      (ap (λ (b : Numbers). sum b.drawn) (rw c.deref_mut-ledger.ensures.value at c.close_empty.ensures.closed)) (ap (λ (b : Numbers). b.accounts.last) (rw c.deref_mut-ledger.ensures.value at c.close_empty.ensures.closed));
 }
 
 pub returns-then-entries-eq0-clause-rolls : goal.returns-then-entries-eq0-clause-rolls
@@ -27,12 +27,12 @@ returns-then-entries-eq0-clause-rolls g c told h whole none =
     let closed = rw c.deref_mut-ledger.ensures.value at c.close_empty.ensures.closed in
     let count : c.current-file.result.1 ≡ whole.file.entries = ap (λ (p : ℕ × ℕ). p.1) (c.current-file.ensures whole.file whole.is) in
     still_rolls g.D.Disk h _ c.args.self.now _ (g.met.D.Disk.is_true c.args.self.now.disk told) whole refl refl
-    (same_history g.D.Disk h c.args.self.now _ refl refl (ap (λ (b : Books). b.next_store) closed)
+    (same_history g.D.Disk h c.args.self.now _ refl refl (ap (λ (b : Numbers). b.next_store) closed)
     ((rw c.deref_mut-ledger.ensures.value at c.close_empty.ensures.counted) h whole.counted none (nil_from_length h.current (omega (arith, count, c.if-entries-eq0.true, whole.keeps.open_log.count))))
-    (same_told g.D.Disk h c.args.self.now _ (ap (λ (b : Books). b.stored) closed) whole) whole)
+    (same_told g.D.Disk h c.args.self.now _ (ap (λ (b : Numbers). b.stored) closed) whole) whole)
 
-pub returns-then-entries-eq0-clause-books : goal.returns-then-entries-eq0-clause-books
-returns-then-entries-eq0-clause-books g c =
+pub returns-then-entries-eq0-clause-numbers : goal.returns-then-entries-eq0-clause-numbers
+returns-then-entries-eq0-clause-numbers g c =
     let same = rw c.deref_mut-ledger.ensures.value at c.close_empty.ensures.closed in record {
       file = λ file is. tt;
       next = λ file is. tt;
@@ -43,37 +43,37 @@ returns-then-entries-eq0-clause-books g c =
       empty = λ file is none unbroken. ap (λ (p : ℕ × ℕ). Err (refusals.NothingToRoll p.0)) (c.current-file.ensures file is);
       emptied = c.requires.idle;
       closed = tt;
-      closed_empty = λ n is. ap (λ (b : Books). b.closed) same ∙ sym (ap (λ (b : Books). b.synced) same);
+      closed_empty = λ n is. ap (λ (b : Numbers). b.closed) same ∙ sym (ap (λ (b : Numbers). b.synced) same);
       closed_still = λ memory. absurd (cc memory);
       closed_broken = λ broken. absurd (c.requires.unbroken broken);
-      synced = λ unbroken. ap (λ (b : Books). b.synced) same ∙ c.requires.synced;
-      synced_either = inl (ap (λ (b : Books). b.synced) same);
-      later = none_fell c.args.self.now.ledger.value c.close_empty.new.self (ap (λ (b : Books). b.synced) same) (ap (λ (b : Books). b.stored) same) (λ r.
-          let is = ap (λ (b : Books). get_or b.closed r 0) same in
+      synced = λ unbroken. ap (λ (b : Numbers). b.synced) same ∙ c.requires.synced;
+      synced_either = inl (ap (λ (b : Numbers). b.synced) same);
+      later = none_fell c.args.self.now.ledger.value c.close_empty.new.self (ap (λ (b : Numbers). b.synced) same) (ap (λ (b : Numbers). b.stored) same) (λ r.
+          let is = ap (λ (b : Numbers). get_or b.closed r 0) same in
           omega (arith, is, c.requires.closed r));
-      stored = ap (λ (b : Books). b.stored) same;
-      drawn = ap (λ (b : Books). b.drawn) same;
-      next_store = ap (λ (b : Books). b.next_store) same;
+      stored = ap (λ (b : Numbers). b.stored) same;
+      drawn = ap (λ (b : Numbers). b.drawn) same;
+      next_store = ap (λ (b : Numbers). b.next_store) same;
       few = rw c.deref_mut-ledger.ensures.value at c.close_empty.ensures.few;
     }
 
 pub returns-in_err-stage-clause-rolls : goal.returns-in_err-stage-clause-rolls
 returns-in_err-stage-clause-rolls g c told h whole none =
     still_rolls g.D.Disk h _ c.args.self.now _ (g.met.D.Disk.is_true c.args.self.now.disk told) whole refl c.from_residual.ensures.0 (same_history g.D.Disk h c.args.self.now _ refl refl
-    (ap (λ (b : Books). b.next_store) c.deref_mut-ledger.ensures.value) (subst (λ (b : Books). IsCounted b h) (sym c.deref_mut-ledger.ensures.value) whole.counted)
-    (same_told g.D.Disk h c.args.self.now _ (ap (λ (b : Books). b.stored) c.deref_mut-ledger.ensures.value) whole) whole)
+    (ap (λ (b : Numbers). b.next_store) c.deref_mut-ledger.ensures.value) (subst (λ (b : Numbers). IsCounted b h) (sym c.deref_mut-ledger.ensures.value) whole.counted)
+    (same_told g.D.Disk h c.args.self.now _ (ap (λ (b : Numbers). b.stored) c.deref_mut-ledger.ensures.value) whole) whole)
 
 pub returns-in_err-reserve_file-clause-rolls : goal.returns-in_err-reserve_file-clause-rolls
 returns-in_err-reserve_file-clause-rolls g c told h whole none =
     let same = rw c.deref_mut-ledger.ensures.value at c.reserve_file.ensures.same in
     still_rolls g.D.Disk h _ c.args.self.now _ (g.met.D.Disk.is_true c.args.self.now.disk told) whole refl c.from_residual-in_err-reserve_file.ensures.0
-    (same_history g.D.Disk h c.args.self.now _ refl refl (ap (λ (b : Books). b.next_store) same) ((rw c.deref_mut-ledger.ensures.value at c.reserve_file.ensures.counted) h whole.counted) (same_told g.D.Disk h c.args.self.now _ (ap (λ (b : Books). b.stored) same) whole) whole)
+    (same_history g.D.Disk h c.args.self.now _ refl refl (ap (λ (b : Numbers). b.next_store) same) ((rw c.deref_mut-ledger.ensures.value at c.reserve_file.ensures.counted) h whole.counted) (same_told g.D.Disk h c.args.self.now _ (ap (λ (b : Numbers). b.stored) same) whole) whole)
 
 pub invariant_of-self-2 : goal.invariant_of-self-2
 invariant_of-self-2 g c = record {
   numbered = λ file is.
       numbered_still file file c.args.self.now.ledger.value c.reserve_file.new.self (c.args.self.now.numbered file is) refl refl
-      (ap (λ (b : Books). sum b.drawn) (rw c.deref_mut-ledger.ensures.value at c.reserve_file.ensures.same)) (ap (λ (b : Books). b.accounts.last) (rw c.deref_mut-ledger.ensures.value at c.reserve_file.ensures.same));
+      (ap (λ (b : Numbers). sum b.drawn) (rw c.deref_mut-ledger.ensures.value at c.reserve_file.ensures.same)) (ap (λ (b : Numbers). b.accounts.last) (rw c.deref_mut-ledger.ensures.value at c.reserve_file.ensures.same));
 }
 
 pub begin_next-requires-clause-rest : goal.begin_next-requires-clause-rest
@@ -82,16 +82,16 @@ begin_next-requires-clause-rest g c =
     record {
       whole = λ told. ∥∥₁_map (c.requires.whole told) (λ r. (
         r.0,
-        same_history g.D.Disk r.0 c.args.self.now _ refl refl (ap (λ (b : Books). b.next_store) same) ((rw c.deref_mut-ledger.ensures.value at c.reserve_file.ensures.counted) r.0 r.1.counted)
-            (same_told g.D.Disk r.0 c.args.self.now _ (ap (λ (b : Books). b.stored) same) r.1) r.1,
+        same_history g.D.Disk r.0 c.args.self.now _ refl refl (ap (λ (b : Numbers). b.next_store) same) ((rw c.deref_mut-ledger.ensures.value at c.reserve_file.ensures.counted) r.0 r.1.counted)
+            (same_told g.D.Disk r.0 c.args.self.now _ (ap (λ (b : Numbers). b.stored) same) r.1) r.1,
         r.2,
       ));
       unbroken = c.requires.unbroken;
       idle = c.requires.idle;
-      synced = ap (λ (b : Books). b.synced) same ∙ c.requires.synced ∙ sym (ap (λ (b : Books). b.drawn) same);
+      synced = ap (λ (b : Numbers). b.synced) same ∙ c.requires.synced ∙ sym (ap (λ (b : Numbers). b.drawn) same);
       closed = λ r.
-          let closed = ap (λ (b : Books). get_or b.closed r 0) same in
-          let synced = ap (λ (b : Books). get_or b.synced r 0) same in
+          let closed = ap (λ (b : Numbers). get_or b.closed r 0) same in
+          let synced = ap (λ (b : Numbers). get_or b.synced r 0) same in
           omega (arith, closed, synced, c.requires.closed r);
     }
 
@@ -99,8 +99,8 @@ pub returns-in_err-begin_next-clause-rolls : goal.returns-in_err-begin_next-clau
 returns-in_err-begin_next-clause-rolls g c told h whole none =
     let same = rw c.deref_mut-ledger.ensures.value at c.reserve_file.ensures.same in
     let result = c.from_residual-in_err-begin_next.result in
-    let begins = c.begin_next.ensures.begins told h whole.file (same_history g.D.Disk h c.args.self.now _ refl refl (ap (λ (b : Books). b.next_store) same) ((rw c.deref_mut-ledger.ensures.value at c.reserve_file.ensures.counted) h whole.counted) (same_told g.D.Disk h c.args.self.now _ (ap (λ (b : Books). b.stored) same) whole) whole) whole.is none in
-    rolls_by g.D.Disk h _ _ c.args.self.now _ c.begin_next.new.self whole refl (ap (λ (b : Books). b.stored) same) (ap (λ (b : Books). b.closed) same) (ap (λ (b : Books). b.next_store) same) begins
+    let begins = c.begin_next.ensures.begins told h whole.file (same_history g.D.Disk h c.args.self.now _ refl refl (ap (λ (b : Numbers). b.next_store) same) ((rw c.deref_mut-ledger.ensures.value at c.reserve_file.ensures.counted) h whole.counted) (same_told g.D.Disk h c.args.self.now _ (ap (λ (b : Numbers). b.stored) same) whole) whole) whole.is none in
+    rolls_by g.D.Disk h _ _ c.args.self.now _ c.begin_next.new.self whole refl (ap (λ (b : Numbers). b.stored) same) (ap (λ (b : Numbers). b.closed) same) (ap (λ (b : Numbers). b.next_store) same) begins
     (none_of result (λ rolled. HasHistory g.D.Disk c.begin_next.new.self (closed_in h rolled.closed) × (rolled.entries ≡ length h.current)) c.from_residual-in_err-begin_next.ensures.0)
     (on_any {P = (IsBroken c.begin_next.new.self → ⊥) → HasHistory g.D.Disk c.begin_next.new.self h} result (λ unbroken. absurd (unbroken (c.in_err-begin_next.ensures.breaks.broken.0 refl))))
 
@@ -109,16 +109,16 @@ returns-clause-rolls g c told h whole none =
     let same = rw c.deref_mut-ledger.ensures.value at c.reserve_file.ensures.same in
     let now = c.current-file.ensures whole.file whole.is in
     let count : c.current-file.result.1 ≡ whole.file.entries = ap (λ (p : ℕ × ℕ). p.1) now in
-    let begins = c.in_ok-begin_next.ensures.begins told h whole.file (same_history g.D.Disk h c.args.self.now _ refl refl (ap (λ (b : Books). b.next_store) same) ((rw c.deref_mut-ledger.ensures.value at c.reserve_file.ensures.counted) h whole.counted) (same_told g.D.Disk h c.args.self.now _ (ap (λ (b : Books). b.stored) same) whole) whole) whole.is none in
-    rolls_by g.D.Disk h _ _ c.args.self.now _ c.begin_next.new.self whole refl (ap (λ (b : Books). b.stored) same) (ap (λ (b : Books). b.closed) same) (ap (λ (b : Books). b.next_store) same) begins
+    let begins = c.in_ok-begin_next.ensures.begins told h whole.file (same_history g.D.Disk h c.args.self.now _ refl refl (ap (λ (b : Numbers). b.next_store) same) ((rw c.deref_mut-ledger.ensures.value at c.reserve_file.ensures.counted) h whole.counted) (same_told g.D.Disk h c.args.self.now _ (ap (λ (b : Numbers). b.stored) same) whole) whole) whole.is none in
+    rolls_by g.D.Disk h _ _ c.args.self.now _ c.begin_next.new.self whole refl (ap (λ (b : Numbers). b.stored) same) (ap (λ (b : Numbers). b.closed) same) (ap (λ (b : Numbers). b.next_store) same) begins
     (subst (λ (n : ℕ). HasHistory g.D.Disk c.begin_next.new.self (closed_in h n)) (sym (ap (λ (p : ℕ × ℕ). p.0) now)) begins.closed, omega (arith, count, whole.keeps.open_log.count)) tt
 
-pub returns-clause-books : goal.returns-clause-books
-returns-clause-books g c =
+pub returns-clause-numbers : goal.returns-clause-numbers
+returns-clause-numbers g c =
     let same = rw c.deref_mut-ledger.ensures.value at c.reserve_file.ensures.same in
-    let begun = c.in_ok-begin_next.ensures.books in
-    let synced = begun.same.synced ∙ ap (λ (b : Books). b.synced) same in
-    let stored = begun.same.stored ∙ ap (λ (b : Books). b.stored) same in record {
+    let begun = c.in_ok-begin_next.ensures.numbers in
+    let synced = begun.same.synced ∙ ap (λ (b : Numbers). b.synced) same in
+    let stored = begun.same.stored ∙ ap (λ (b : Numbers). b.stored) same in record {
       file = λ file is.
           let now = c.current-file.ensures file is in
           let count : c.current-file.result.1 ≡ file.entries = ap (λ (p : ℕ × ℕ). p.1) now in
@@ -137,11 +137,11 @@ returns-clause-books g c =
       synced = λ unbroken. synced ∙ c.requires.synced;
       synced_either = inl synced;
       later = none_fell c.args.self.now.ledger.value c.begin_next.new.self.ledger.value synced stored (λ r.
-          let is = ap (λ (l : List ℕ). get_or l r 0) (begun.closed ∙ ap (λ (b : Books). b.synced) same) in
+          let is = ap (λ (l : List ℕ). get_or l r 0) (begun.closed ∙ ap (λ (b : Numbers). b.synced) same) in
           omega (arith, is, c.requires.closed r));
       stored = stored;
-      drawn = begun.same.drawn ∙ ap (λ (b : Books). b.drawn) same;
-      next_store = begun.same.next_store ∙ ap (λ (b : Books). b.next_store) same;
+      drawn = begun.same.drawn ∙ ap (λ (b : Numbers). b.drawn) same;
+      next_store = begun.same.next_store ∙ ap (λ (b : Numbers). b.next_store) same;
       few = λ limit was. begun.few limit ((rw c.deref_mut-ledger.ensures.value at c.reserve_file.ensures.few) limit was);
     }
 
@@ -163,9 +163,9 @@ returns-in_err-reserve_file-clause-appends g c told h file whole is none =
 pub returns-in_err-begin_next-clause-appends : goal.returns-in_err-begin_next-clause-appends
 returns-in_err-begin_next-clause-appends g c told h file whole is none =
     let same = rw c.deref_mut-ledger.ensures.value at c.reserve_file.ensures.same in
-    (c.begin_next.ensures.begins told h file (same_history g.D.Disk h c.args.self.now _ refl refl (ap (λ (b : Books). b.next_store) same) ((rw c.deref_mut-ledger.ensures.value at c.reserve_file.ensures.counted) h whole.counted) (same_told g.D.Disk h c.args.self.now _ (ap (λ (b : Books). b.stored) same) whole) whole) is none).appends
+    (c.begin_next.ensures.begins told h file (same_history g.D.Disk h c.args.self.now _ refl refl (ap (λ (b : Numbers). b.next_store) same) ((rw c.deref_mut-ledger.ensures.value at c.reserve_file.ensures.counted) h whole.counted) (same_told g.D.Disk h c.args.self.now _ (ap (λ (b : Numbers). b.stored) same) whole) whole) is none).appends
 
 pub returns-clause-appends : goal.returns-clause-appends
 returns-clause-appends g c told h file whole is none =
     let same = rw c.deref_mut-ledger.ensures.value at c.reserve_file.ensures.same in
-    (c.begin_next.ensures.begins told h file (same_history g.D.Disk h c.args.self.now _ refl refl (ap (λ (b : Books). b.next_store) same) ((rw c.deref_mut-ledger.ensures.value at c.reserve_file.ensures.counted) h whole.counted) (same_told g.D.Disk h c.args.self.now _ (ap (λ (b : Books). b.stored) same) whole) whole) is none).appends
+    (c.begin_next.ensures.begins told h file (same_history g.D.Disk h c.args.self.now _ refl refl (ap (λ (b : Numbers). b.next_store) same) ((rw c.deref_mut-ledger.ensures.value at c.reserve_file.ensures.counted) h whole.counted) (same_told g.D.Disk h c.args.self.now _ (ap (λ (b : Numbers). b.stored) same) whole) whole) is none).appends

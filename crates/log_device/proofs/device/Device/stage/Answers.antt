@@ -3,7 +3,7 @@ use Rattle.std.proofs.Math.Logic.{∥∥₁_map}
 use Rattle.log_trucks.specs.Held.{Haul}
 use Rattle.log_file.specs.Open.{OpenLog}
 use Rattle.log_ledger.specs.History.{staged_in}
-use Rattle.log_ledger.specs.Books.{IsServed}
+use Rattle.log_ledger.specs.Numbers.{IsServed}
 use Rattle.log_device.specs.Keeps.{Keeps}
 use Rattle.log_device.specs.Numbered.{IsNumbered}
 use Rattle.log_device.proofs.Numbering.{same_file, numbered_staged}

@@ -4,7 +4,7 @@ use Rattle.std.proofs.Math.Logic.{∥∥₁_map}
 use Rattle.log_file.specs.Open.{OpenLog}
 use Rattle.log_ledger.specs.declared.base.RegionBase.{RegionBase}
 use Rattle.log_ledger.specs.Bases.{AreNumbersOf}
-use Rattle.log_ledger.specs.Books.{Books}
+use Rattle.log_ledger.specs.Numbers.{Numbers}
 use Rattle.log_ledger.specs.Counted.{IsCounted}
 use Rattle.log_ledger.specs.History.{started_in}
 use Rattle.log_device.specs.Bears.{Bears}
@@ -30,9 +30,9 @@ returns-in-Ok-first_log-clause-started g c told flushed opened =
       file = c.in-Ok-first_log.log;
       is = refl;
       keeps = c.in-Ok-first_log.ensures.kept told c.args.regions.now flushed c.in-Ok-new.ledger.value.next_store c.requires.regions opened
-          (subst (λ (b : Books). AreNumbersOf (λ (m : RegionBase). m.next_store) c.args.regions.now b.next_store) (sym boxed) c.in-Ok.ensures.next_store);
-      counted = subst (λ (b : Books). IsCounted b (started_in u.files flushed)) (sym boxed) (c.in-Ok.ensures.counted u.files flushed opened.marks opened.no_logs opened.flushed_of);
-      told = subst (λ (b : Books). (r : ℕ) → get_or b.stored r 0 ≤ flushed r) (sym boxed) (started_low c.args.regions.now flushed c.before.before.before.before.before.before.in-Ok.ledger opened.marks c.in-Ok.ensures.served c.in-Ok.ensures.drawn c.in-Ok.ensures.stored);
+          (subst (λ (b : Numbers). AreNumbersOf (λ (m : RegionBase). m.next_store) c.args.regions.now b.next_store) (sym boxed) c.in-Ok.ensures.next_store);
+      counted = subst (λ (b : Numbers). IsCounted b (started_in u.files flushed)) (sym boxed) (c.in-Ok.ensures.counted u.files flushed opened.marks opened.no_logs opened.flushed_of);
+      told = subst (λ (b : Numbers). (r : ℕ) → get_or b.stored r 0 ≤ flushed r) (sym boxed) (started_low c.args.regions.now flushed c.before.before.before.before.before.before.in-Ok.ledger opened.marks c.in-Ok.ensures.served c.in-Ok.ensures.drawn c.in-Ok.ensures.stored);
     }
 
 pub returns-in-Ok-first_log-clause-number : goal.returns-in-Ok-first_log-clause-number

@@ -4,7 +4,7 @@ use Rattle.std.proofs.Math.Logic.{∥∥₁_elim}
 use Rattle.log_model.specs.Files.{content, IsAbsent}
 use Rattle.disk_images.specs.OneFile.{IsDurableFile}
 use Rattle.file_base.specs.declared.error.FileRefusal.{FileRefusal}
-use Rattle.log_ledger.specs.Books.{Books, IsLeft}
+use Rattle.log_ledger.specs.Numbers.{Numbers, IsLeft}
 use Rattle.log_ledger.specs.Counted.{IsCounted}
 use Rattle.flush_snapshot.specs.Cut.{AreOf, cut_store, ordered_cells}
 use Rattle.store_file.specs.Whole.{IsWholeOrNot}
@@ -15,7 +15,7 @@ use Rattle.log_device.specs.Keeps.{store_name}
 use Rattle.log_device.specs.Whole.{IsWhole}
 use Rattle.log_device.proofs.Appends.{store_stays}
 use Rattle.log_device.proofs.Disk.{absent_by}
-use Rattle.log_device.proofs.FlushSteps.{still_flushes, flushed_books}
+use Rattle.log_device.proofs.FlushSteps.{still_flushes, flush_numbers}
 use Rattle.log_device.proofs.Told.{IsTold, served_place, family_given, stored_told, told_after, still_served}
 use Rattle.log_device.proofs.Numbering.{numbered_still}
 use Rattle.log_device.proofs.Stored.{free_store}
@@ -58,25 +58,25 @@ returns-in-Ok-clause-flushes g c told h whole none has puts =
     let w = g.D.Disk.view c.write_cut.new.disk in
     let r = c.args.region in
     let family : Option (List ℕ) = option_copied c.args.family in
-    let books = c.args.self.now.ledger.value in
+    let numbers = c.args.self.now.ledger.value in
     let from = ap (λ (n : ℕ). n + 1) (rw c.name_of-own.ensures at (rw c.deref-ledger.ensures at c.flushed-from.ensures.number)) in
     let to = rw c.deref-ledger.ensures at c.drawn-to.ensures.number in
     let number = rw c.deref-ledger.ensures at c.next_store.ensures.number in
-    let place = served_place books r c.requires.order c.requires.served in
-    let told_of : IsTold r (option_copied c.args.family) c.drawn-to.result books c.flush.new.self =
-    stored_told r c.drawn-to.result (option_copied c.args.family) books c.flush.new.self (omega (arith, place, c.requires.order.wide.stored))
-    (λ all. (rw c.deref_mut.ensures.value at c.flush.ensures.stored) (c.requires.room ∙ all) ∙ ap (λ (n : ℕ). set books.stored r n) (sym to))
+    let place = served_place numbers r c.requires.order c.requires.served in
+    let told_of : IsTold r (option_copied c.args.family) c.drawn-to.result numbers c.flush.new.self =
+    stored_told r c.drawn-to.result (option_copied c.args.family) numbers c.flush.new.self (omega (arith, place, c.requires.order.wide.stored))
+    (λ all. (rw c.deref_mut.ensures.value at c.flush.ensures.stored) (c.requires.room ∙ all) ∙ ap (λ (n : ℕ). set numbers.stored r n) (sym to))
     (λ one. (rw c.deref_mut.ensures.value at c.flush.ensures.stored_still) (λ none. one (sym c.requires.room ∙ none))) (family_given c.args.family c.requires.family)
     (λ all. let above = c.requires.above all in omega (arith, above, to)) in
     let sound = g.met.D.Disk.is_true c.args.self.now.disk told in
     let over = rw c.name_of-own.ensures at (c.write_cut.ensures.any_moment told) in
     let is_store = rw c.name_of-own.ensures at (c.write_cut.ensures.store (λ memory. absurd (cc (sym c.in-Ok.is ∙ memory)))) in
     let durable = rw c.name_of-own.ensures at (c.in-Ok.ensures.stored told) in
-    let last = is_last whole.file u w h books whole.keeps whole.counted sound r (family_in family) c.args.cells none puts c.requires.served (c.flushed-from.result + 1) c.drawn-to.result c.next_store.result to number in
+    let last = is_last whole.file u w h numbers whole.keeps whole.counted sound r (family_in family) c.args.cells none puts c.requires.served (c.flushed-from.result + 1) c.drawn-to.result c.next_store.result to number in
     record {
-      any_moment = stored_leaves whole.file u w h books whole.keeps whole.counted sound r (family_in family) c.args.cells none puts c.requires.served (c.flushed-from.result + 1) c.drawn-to.result c.next_store.result to number is_store over;
+      any_moment = stored_leaves whole.file u w h numbers whole.keeps whole.counted sound r (family_in family) c.args.cells none puts c.requires.served (c.flushed-from.result + 1) c.drawn-to.result c.next_store.result to number is_store over;
       names = λ file is.
-          store_names_of file u w h books.next_store (kept_file c.args.self.now u h file is whole) r c.next_store.result c.requires.served number
+          store_names_of file u w h numbers.next_store (kept_file c.args.self.now u h file is whole) r c.next_store.result c.requires.served number
           (IsWholeOrNot (store_text Tagged (cut_store (store_name r c.next_store.result) (family_in family) (c.flushed-from.result + 1) c.drawn-to.result c.args.cells))) (7 + length (ordered_cells c.args.cells)) over;
       flushed = (
         last,
@@ -84,10 +84,10 @@ returns-in-Ok-clause-flushes g c told h whole none has puts =
         record {
           file = whole.file;
           is = whole.is;
-          keeps = stored_kept whole.file u w h books whole.keeps whole.counted sound r (family_in family) c.args.cells none puts c.requires.served (c.flushed-from.result + 1) c.drawn-to.result c.next_store.result to number is_store
+          keeps = stored_kept whole.file u w h numbers whole.keeps whole.counted sound r (family_in family) c.args.cells none puts c.requires.served (c.flushed-from.result + 1) c.drawn-to.result c.next_store.result to number is_store
               c.flush.new.self.next_store (rw c.deref_mut.ensures.value at c.flush.ensures.next_store) over (c.write_cut.ensures.touches told) durable;
           counted = subst (λ (n : ℕ). IsCounted c.flush.new.self (flushed_in h r (family_in family) n)) (sym to) (rw c.requires.room at ((rw c.deref_mut.ensures.value at c.flush.ensures.counted) h whole.counted none));
-          told = told_after r c.drawn-to.result family books c.flush.new.self h told_of last whole.told;
+          told = told_after r c.drawn-to.result family numbers c.flush.new.self h told_of last whole.told;
         },
       );
       store =
@@ -105,21 +105,21 @@ returns-in-Ok-clause-flushes g c told h whole none has puts =
       lower = λ file is k low. store_stays (store_name r c.next_store.result) u.files w.files refl (c.write_cut.ensures.touches told).others k;
     }
 
-pub returns-in-Ok-clause-books : goal.returns-in-Ok-clause-books
-returns-in-Ok-clause-books g c =
-    let books = c.args.self.now.ledger.value in
+pub returns-in-Ok-clause-numbers : goal.returns-in-Ok-clause-numbers
+returns-in-Ok-clause-numbers g c =
+    let numbers = c.args.self.now.ledger.value in
     let r = c.args.region in
     let to = rw c.deref-ledger.ensures at c.drawn-to.ensures.number in
-    let place = served_place books r c.requires.order c.requires.served in
-    let told_of : IsTold r (option_copied c.args.family) c.drawn-to.result books c.flush.new.self =
-    stored_told r c.drawn-to.result (option_copied c.args.family) books c.flush.new.self (omega (arith, place, c.requires.order.wide.stored))
-    (λ all. (rw c.deref_mut.ensures.value at c.flush.ensures.stored) (c.requires.room ∙ all) ∙ ap (λ (n : ℕ). set books.stored r n) (sym to))
+    let place = served_place numbers r c.requires.order c.requires.served in
+    let told_of : IsTold r (option_copied c.args.family) c.drawn-to.result numbers c.flush.new.self =
+    stored_told r c.drawn-to.result (option_copied c.args.family) numbers c.flush.new.self (omega (arith, place, c.requires.order.wide.stored))
+    (λ all. (rw c.deref_mut.ensures.value at c.flush.ensures.stored) (c.requires.room ∙ all) ∙ ap (λ (n : ℕ). set numbers.stored r n) (sym to))
     (λ one. (rw c.deref_mut.ensures.value at c.flush.ensures.stored_still) (λ none. one (sym c.requires.room ∙ none))) (family_given c.args.family c.requires.family)
     (λ all. let above = c.requires.above all in omega (arith, above, to)) in
     let stores = rw c.deref_mut.ensures.value at c.flush.ensures.next_store in
-    flushed_books g.D.Disk r (option_copied c.args.family) c.args.self.now _ c.requires.rest refl (rw c.deref_mut.ensures.value at c.flush.ensures.drawn) (rw c.deref_mut.ensures.value at c.flush.ensures.synced)
+    flush_numbers g.D.Disk r (option_copied c.args.family) c.args.self.now _ c.requires.rest refl (rw c.deref_mut.ensures.value at c.flush.ensures.drawn) (rw c.deref_mut.ensures.value at c.flush.ensures.synced)
     (rw c.deref_mut.ensures.value at c.flush.ensures.closed) (rw c.deref_mut.ensures.value at c.flush.ensures.few) c.drawn-to.result to
-    (λ all. let above = c.requires.above all in omega (arith, above, to)) told_of stores (still_served books c.flush.new.self r (omega (arith, place, c.requires.order.wide.next_store)) stores)
+    (λ all. let above = c.requires.above all in omega (arith, above, to)) told_of stores (still_served numbers c.flush.new.self r (omega (arith, place, c.requires.order.wide.next_store)) stores)
 
 pub returns-in-Err-Memory-clause-flushes : goal.returns-in-Err-Memory-clause-flushes
 returns-in-Err-Memory-clause-flushes g c told h whole none has puts =
@@ -133,7 +133,7 @@ returns-clause-flushes g c told h whole none has puts =
     let w = g.D.Disk.view c.write_cut.new.disk in
     let r = c.args.region in
     let family : Option (List ℕ) = option_copied c.args.family in
-    let books = c.args.self.now.ledger.value in
+    let numbers = c.args.self.now.ledger.value in
     let to = rw c.deref-ledger.ensures at c.drawn-to.ensures.number in
     let number = rw c.deref-ledger.ensures at c.next_store.ensures.number in
     let sound = g.met.D.Disk.is_true c.args.self.now.disk told in
@@ -141,9 +141,9 @@ returns-clause-flushes g c told h whole none has puts =
     let is_store =
     rw c.name_of-own.ensures at (c.write_cut.ensures.store (λ memory. absurd (cc (sym (c.in-Err-DiskFault.is ∙ ap (λ (e : FileRefusal). Err e) c.in-Err-DiskFault.field-0-is) ∙ memory)))) in
     record {
-      any_moment = stored_leaves whole.file u w h books whole.keeps whole.counted sound r (family_in family) c.args.cells none puts c.requires.served (c.flushed-from.result + 1) c.drawn-to.result c.next_store.result to number is_store over;
+      any_moment = stored_leaves whole.file u w h numbers whole.keeps whole.counted sound r (family_in family) c.args.cells none puts c.requires.served (c.flushed-from.result + 1) c.drawn-to.result c.next_store.result to number is_store over;
       names = λ file is.
-          store_names_of file u w h books.next_store (kept_file c.args.self.now u h file is whole) r c.next_store.result c.requires.served number
+          store_names_of file u w h numbers.next_store (kept_file c.args.self.now u h file is whole) r c.next_store.result c.requires.served number
           (IsWholeOrNot (store_text Tagged (cut_store (store_name r c.next_store.result) (family_in family) (c.flushed-from.result + 1) c.drawn-to.result c.args.cells))) (7 + length (ordered_cells c.args.cells)) over;
       flushed = tt;
       store = tt;
@@ -154,7 +154,7 @@ returns-clause-flushes g c told h whole none has puts =
 
 pub flush-requires-clause-left : goal.flush-requires-clause-left
 flush-requires-clause-left g c =
-    subst (λ (b : Books). IsLeft b c.args.region c.args.room) (sym c.deref_mut.ensures.value) (subst (λ (f : List ℕ). IsLeft c.args.self.now.ledger.value c.args.region f) (sym c.requires.room) c.requires.left)
+    subst (λ (b : Numbers). IsLeft b c.args.region c.args.room) (sym c.deref_mut.ensures.value) (subst (λ (f : List ℕ). IsLeft c.args.self.now.ledger.value c.args.region f) (sym c.requires.room) c.requires.left)
 
 pub returns-in-Err-Memory-clause-memory : goal.returns-in-Err-Memory-clause-memory
 returns-in-Err-Memory-clause-memory g c memory = c.write_cut.ensures.memory (c.in-Err-Memory.is ∙ ap (λ (e : FileRefusal). Err e) c.in-Err-Memory.field-0-is)

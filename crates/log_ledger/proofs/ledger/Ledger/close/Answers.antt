@@ -1,7 +1,7 @@
 use Rattle.std.proofs.Common.{[], ◌∷◌, ◌++◌, List, subst, ◌∙◌}
 use Rattle.seq_accounting.specs.Steps.{SameNumbers}
 use Rattle.seq_accounting.specs.Noted.{Note, HasNoted}
-use Rattle.log_ledger.specs.Books.{Books, AreInOrder}
+use Rattle.log_ledger.specs.Numbers.{Numbers, AreInOrder}
 use Rattle.log_ledger.proofs.Steps.{ClosedBy, flushed_same}
 use Rattle.log_ledger.proofs.Few.{few_same}
 use Rattle.log_ledger.proofs.Committed.{counted_closed}
@@ -9,7 +9,7 @@ use Rattle.log_ledger.proofs.Orders.{order_closed}
 use Rattle.log_ledger.proofs.ledger.Ledger.close.Goals as goal
 
 -- the ledger's numbers behind the call
-abbrev after : goal.After-close_file → Books
+abbrev after : goal.After-close_file → Numbers
 after c = record {
   drawn = c.self.inside.drawn;
   synced = c.self.inside.synced;
@@ -29,8 +29,8 @@ closed c =
       closed = λ i. (was i).synced;
       next_store = λ i. (was i).next_store;
       keeps = record {
-        numbers = subst (λ (b : Books). SameNumbers b.accounts c.close_file.new.self) was c.close_file.ensures.numbers;
-        history = subst (λ (b : Books). (notes : List Note) → HasNoted b.accounts notes → HasNoted c.close_file.new.self notes) was c.close_file.ensures.history;
+        numbers = subst (λ (b : Numbers). SameNumbers b.accounts c.close_file.new.self) was c.close_file.ensures.numbers;
+        history = subst (λ (b : Numbers). (notes : List Note) → HasNoted b.accounts notes → HasNoted c.close_file.new.self notes) was c.close_file.ensures.history;
         order = c.close_file.ensures.order;
       };
       current = c.close_file.ensures.current;

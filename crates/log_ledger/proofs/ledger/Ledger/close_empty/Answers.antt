@@ -1,6 +1,6 @@
 use Rattle.std.proofs.Common.{subst, sym}
 use Rattle.seq_accounting.specs.Accounts.{flushed_at}
-use Rattle.log_ledger.specs.Books.{Books, AreStoresFew}
+use Rattle.log_ledger.specs.Numbers.{Numbers, AreStoresFew}
 use Rattle.log_ledger.specs.Counted.{IsCounted}
 use Rattle.log_ledger.proofs.Committed.{counted_empty}
 use Rattle.log_ledger.proofs.Few.{few_same}
@@ -20,9 +20,9 @@ invariant_of-self c = order_empty (record {
 
 pub returns-clause-counted : goal.returns-clause-counted
 returns-clause-counted c h counted none empty =
-    subst (λ (b : Books). IsCounted (record b { closed = b.synced }) h) (sym c.self.view_is) (counted_empty c.args.self.now h counted none empty)
+    subst (λ (b : Numbers). IsCounted (record b { closed = b.synced }) h) (sym c.self.view_is) (counted_empty c.args.self.now h counted none empty)
 
 pub returns-clause-few : goal.returns-clause-few
 returns-clause-few c limit few =
-    subst (λ (b : Books). AreStoresFew limit (record b { closed = b.synced })) (sym c.self.view_is)
+    subst (λ (b : Numbers). AreStoresFew limit (record b { closed = b.synced })) (sym c.self.view_is)
     (few_same limit c.args.self.now (record c.args.self.now { closed = c.args.self.now.synced }) (λ notes is. is) (λ r f i. flushed_at c.args.self.now.accounts r f) (λ i. c.args.self.now.drawn) (λ i. c.args.self.now.next_store) few)

@@ -1,6 +1,6 @@
 use Rattle.std.proofs.Common.{subst, sym}
 use Rattle.seq_accounting.specs.Accounts.{flushed_at}
-use Rattle.log_ledger.specs.Books.{Books, AreInOrder, AreStoresFew}
+use Rattle.log_ledger.specs.Numbers.{Numbers, AreInOrder, AreStoresFew}
 use Rattle.log_ledger.specs.Counted.{IsCounted}
 use Rattle.log_ledger.specs.History.{committed_in}
 use Rattle.log_ledger.proofs.Committed.{counted_committed}
@@ -21,12 +21,12 @@ invariant_of-self c = order_committed (record {
 
 pub returns-clause-counted : goal.returns-clause-counted
 returns-clause-counted c h counted =
-    subst (λ (b : Books). IsCounted (record b { synced = b.drawn }) (committed_in h)) (sym c.self.view_is)
+    subst (λ (b : Numbers). IsCounted (record b { synced = b.drawn }) (committed_in h)) (sym c.self.view_is)
     (counted_committed c.args.self.now h (subst AreInOrder c.self.view_is c.self.invariant) counted)
 
 pub returns-clause-few : goal.returns-clause-few
 returns-clause-few c limit few =
-    subst (λ (b : Books). AreStoresFew limit (record b { synced = b.drawn })) (sym c.self.view_is)
+    subst (λ (b : Numbers). AreStoresFew limit (record b { synced = b.drawn })) (sym c.self.view_is)
     (few_same limit c.args.self.now (record c.args.self.now { synced = c.args.self.now.drawn }) (λ notes is. is) (λ r f i. flushed_at c.args.self.now.accounts r f) (λ i. c.args.self.now.drawn) (λ i. c.args.self.now.next_store) few)
 
 pub returns-clause-order : goal.returns-clause-order

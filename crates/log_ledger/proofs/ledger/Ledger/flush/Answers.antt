@@ -5,7 +5,7 @@ use Rattle.seq_accounting.specs.Steps.{IsFlushed}
 use Rattle.seq_accounting.specs.Noted.{Note, HasNoted}
 use Rattle.log_trucks.specs.Held.{AreHeld, IsSetTo}
 use Rattle.log_trucks.specs.Unflushed.{has_unflushed}
-use Rattle.log_ledger.specs.Books.{Books, IsLeft, AreInOrder}
+use Rattle.log_ledger.specs.Numbers.{Numbers, IsLeft, AreInOrder}
 use Rattle.log_ledger.proofs.Steps.{FlushedBy}
 use Rattle.log_ledger.proofs.Few.{few_flushed, few_are_few, some_drawn}
 use Rattle.log_ledger.proofs.Flushed.{counted_flushed}
@@ -13,7 +13,7 @@ use Rattle.log_ledger.proofs.Orders.{order_flushed}
 use Rattle.log_ledger.proofs.ledger.Ledger.flush.Goals as goal
 
 -- the ledger's numbers behind the call
-abbrev after : goal.After-keep_unflushed → Books
+abbrev after : goal.After-keep_unflushed → Numbers
 after c = record {
   drawn = c.self.inside.drawn;
   synced = c.self.inside.synced;
@@ -34,14 +34,14 @@ flushed c =
       stored_one = λ one. ap (set c.self.inside.stored r) (c.stored_by.ensures.one one) ∙ set-get_or c.self.inside.stored r 0 ∙ (λ i. (was i).stored);
       closed = λ i. (was i).closed;
       next_store = λ i. set (was i).next_store r (get_or (was i).next_store r 0 + 1);
-      flushed = subst (λ (b : Books). IsFlushed b.accounts c.flush.new.self (record { region = r; family = c.args.room; number = get_or b.drawn r 0 })) was c.flush.ensures.flushed;
-      history = subst (λ (b : Books). (notes : List Note) → HasNoted b.accounts notes → HasNoted c.flush.new.self notes) was c.flush.ensures.history;
+      flushed = subst (λ (b : Numbers). IsFlushed b.accounts c.flush.new.self (record { region = r; family = c.args.room; number = get_or b.drawn r 0 })) was c.flush.ensures.flushed;
+      history = subst (λ (b : Numbers). (notes : List Note) → HasNoted b.accounts notes → HasNoted c.flush.new.self notes) was c.flush.ensures.history;
       order = c.flush.ensures.order;
-      chains = subst (λ (b : Books). IsSetTo b.chains c.keep_unflushed.new.self r (λ held. (es : List Entry) → AreHeld (get_or b.chains r []) es → AreHeld held (filter (has_unflushed c.flush.new.self r) es))) was c.keep_unflushed.ensures.kept;
+      chains = subst (λ (b : Numbers). IsSetTo b.chains c.keep_unflushed.new.self r (λ held. (es : List Entry) → AreHeld (get_or b.chains r []) es → AreHeld held (filter (has_unflushed c.flush.new.self r) es))) was c.keep_unflushed.ensures.kept;
     }
 
 pub flush-requires-clause-given : goal.flush-requires-clause-given
-flush-requires-clause-given c = some_drawn _ c.args.region c.args.room c.self.invariant (subst (λ (b : Books). IsLeft b c.args.region c.args.room) (sym c.self.view_is) c.requires.left)
+flush-requires-clause-given c = some_drawn _ c.args.region c.args.room c.self.invariant (subst (λ (b : Numbers). IsLeft b c.args.region c.args.room) (sym c.self.view_is) c.requires.left)
 
 pub overflow_add-self : goal.overflow_add-self
 overflow_add-self c = let is = few_are_few _ _ c.args.region c.self.invariant.few (c.self.invariant.regions c.args.region).drawn in omega (arith, is)

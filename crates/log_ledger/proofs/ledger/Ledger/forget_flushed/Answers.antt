@@ -2,7 +2,7 @@ use Rattle.std.proofs.Common.{◌≡◌, ◌+◌, List, length, Contains, subst,
 use Rattle.seq_accounting.specs.Accounts.{ClosedFile, unflushed}
 use Rattle.seq_accounting.specs.Steps.{SameNumbers}
 use Rattle.seq_accounting.specs.Noted.{Note, HasNoted}
-use Rattle.log_ledger.specs.Books.{Books, AreInOrder}
+use Rattle.log_ledger.specs.Numbers.{Numbers, AreInOrder}
 use Rattle.log_ledger.proofs.Steps.{ForgottenBy, flushed_same}
 use Rattle.log_ledger.proofs.Few.{few_same}
 use Rattle.log_ledger.proofs.Logs.{counted_length, IsTested}
@@ -11,7 +11,7 @@ use Rattle.log_ledger.proofs.Orders.{order_forgotten}
 use Rattle.log_ledger.proofs.ledger.Ledger.forget_flushed.Goals as goal
 
 -- the ledger's numbers behind the call
-abbrev after : goal.After-forget_lower → Books
+abbrev after : goal.After-forget_lower → Numbers
 after c = record {
   drawn = c.self.inside.drawn;
   synced = c.self.inside.synced;
@@ -31,8 +31,8 @@ forgotten c =
       closed = λ i. (was i).closed;
       next_store = λ i. (was i).next_store;
       keeps = record {
-        numbers = subst (λ (b : Books). SameNumbers b.accounts c.forget_lower.new.self) was c.forget_lower.ensures.numbers;
-        history = subst (λ (b : Books). (notes : List Note) → HasNoted b.accounts notes → HasNoted c.forget_lower.new.self notes) was c.forget_lower.ensures.history;
+        numbers = subst (λ (b : Numbers). SameNumbers b.accounts c.forget_lower.new.self) was c.forget_lower.ensures.numbers;
+        history = subst (λ (b : Numbers). (notes : List Note) → HasNoted b.accounts notes → HasNoted c.forget_lower.new.self notes) was c.forget_lower.ensures.history;
         order = c.forget_lower.ensures.order;
       };
       current = c.forget_lower.ensures.current ∙ (λ i. (was i).accounts.current);
@@ -42,14 +42,14 @@ forgotten c =
     }
 
 fewer : (c : goal.After-forget_lower) → length c.forget_lower.new.self.closed + c.forget_lower.result ≡ length c.args.self.now.accounts.closed
-fewer c = c.forget_lower.ensures.count ∙ ap (λ (b : Books). length b.accounts.closed) c.self.view_is
+fewer c = c.forget_lower.ensures.count ∙ ap (λ (b : Numbers). length b.accounts.closed) c.self.view_is
 
 pub invariant_of-self : goal.invariant_of-self
 invariant_of-self c = order_forgotten c.args.self.now (after c) (subst AreInOrder c.self.view_is c.self.invariant) (forgotten c)
 
 pub returns-clause-counted : goal.returns-clause-counted
 returns-clause-counted c h counted =
-    let found = counted_forgotten c.args.self.now (after c) h (forgotten c) (subst (λ (b : Books). (f : ClosedFile) → Contains b.accounts.closed f → IsTested b f) c.self.view_is c.forget_lower.ensures.tests) counted in
+    let found = counted_forgotten c.args.self.now (after c) h (forgotten c) (subst (λ (b : Numbers). (f : ClosedFile) → Contains b.accounts.closed f → IsTested b f) c.self.view_is c.forget_lower.ensures.tests) counted in
     let long = counted_length c.args.self.now c.args.self.now.accounts.closed h.logs counted.logs in
     (found.0, found.1, omega (arith, found.2, fewer c, long), found.3)
 

@@ -2,7 +2,7 @@ use Rattle.std.proofs.Common.{◌≤◌, sym, ◌∙◌, List, subst}
 use Rattle.std.specs.Prelude.{All, AllPairs}
 use Rattle.seq_accounting.specs.declared.region.RegionMark.{RegionMark}
 use Rattle.seq_accounting.specs.Accounts.{AreApart, AreFlushed}
-use Rattle.log_ledger.specs.Books.{Books}
+use Rattle.log_ledger.specs.Numbers.{Numbers}
 use Rattle.log_ledger.proofs.Bases.{marks_within, marks_apart}
 use Rattle.log_ledger.proofs.Begun.{BegunWith, order_begun, served_begun, counted_begun, flushed_begun, few_begun}
 use Rattle.log_ledger.proofs.ledger.Ledger.new.Goals as goal
@@ -13,7 +13,7 @@ new-requires-clause-within c = subst (All (λ (m : RegionMark). m.region ≤ 64)
 pub new-requires-clause-apart : goal.new-requires-clause-apart
 new-requires-clause-apart c = subst (AllPairs AreApart) (sym (c.deref.ensures.value ∙ c.in_ok-marks.ensures)) (marks_apart c.args.regions.now c.requires.apart)
 
-abbrev made : goal.After-next_stores_of → Books
+abbrev made : goal.After-next_stores_of → Numbers
 made c = record {
   drawn = c.flushed_of-flushed.result;
   synced = c.flushed_of-flushed.result;
@@ -44,7 +44,7 @@ begun c = record {
   chains = c.in_ok-chains.ensures;
 }
 
-abbrev made_last : goal.After-drop-marks-2 → Books
+abbrev made_last : goal.After-drop-marks-2 → Numbers
 made_last c = record {
   drawn = c.flushed_of-flushed.result;
   synced = c.flushed_of-flushed.result;

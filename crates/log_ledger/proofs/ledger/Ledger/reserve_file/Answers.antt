@@ -2,7 +2,7 @@ use Rattle.std.proofs.Common.{List, subst, sym}
 use Rattle.seq_accounting.specs.Accounts.{Accounts, flushed_at}
 use Rattle.seq_accounting.specs.Noted.{Note, HasNoted}
 use Rattle.seq_accounting.specs.Order.{IsInOrder}
-use Rattle.log_ledger.specs.Books.{Books, AreInOrder, AreStoresFew}
+use Rattle.log_ledger.specs.Numbers.{Numbers, AreInOrder, AreStoresFew}
 use Rattle.log_ledger.specs.Counted.{IsCounted}
 use Rattle.log_ledger.proofs.DrawnSums.{drawn_small}
 use Rattle.log_ledger.proofs.Few.{few_same}
@@ -12,7 +12,7 @@ use Rattle.log_ledger.proofs.ledger.Ledger.reserve_file.Goals as goal
 
 pub invariant_of-self : goal.invariant_of-self
 invariant_of-self c =
-    let b : Books = record {
+    let b : Numbers = record {
       drawn = c.self.inside.drawn;
       synced = c.self.inside.synced;
       stored = c.self.inside.stored;
@@ -28,7 +28,7 @@ invariant_of-self c =
 
 pub returns-clause-counted : goal.returns-clause-counted
 returns-clause-counted c h counted =
-    let b : Books = record {
+    let b : Numbers = record {
       drawn = c.self.inside.drawn;
       synced = c.self.inside.synced;
       stored = c.self.inside.stored;
@@ -40,11 +40,11 @@ returns-clause-counted c h counted =
     let history : (notes : List Note) → HasNoted b.accounts notes → HasNoted (record b.accounts { room = c.reserve_file.new.self.room }) notes =
     subst (λ (a : Accounts). (notes : List Note) → HasNoted c.self.inside.accounts notes → HasNoted a notes) c.reserve_file.ensures.same c.reserve_file.ensures.history in
     subst (λ (a : Accounts). IsCounted (record b { accounts = a }) h) (sym c.reserve_file.ensures.same)
-    (counted_room b c.reserve_file.new.self.room h history (subst (λ (x : Books). IsCounted x h) (sym c.self.view_is) counted))
+    (counted_room b c.reserve_file.new.self.room h history (subst (λ (x : Numbers). IsCounted x h) (sym c.self.view_is) counted))
 
 pub returns-clause-few : goal.returns-clause-few
 returns-clause-few c limit few =
-    let b : Books = record {
+    let b : Numbers = record {
       drawn = c.self.inside.drawn;
       synced = c.self.inside.synced;
       stored = c.self.inside.stored;

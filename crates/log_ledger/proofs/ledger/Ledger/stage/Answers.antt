@@ -9,7 +9,7 @@ use Rattle.seq_accounting.specs.Marks.{has_family}
 use Rattle.seq_accounting.specs.Steps.{IsNoted}
 use Rattle.seq_accounting.specs.Noted.{HasNoted, AreNotedAs}
 use Rattle.log_trucks.specs.Held.{Haul, held_of, noted_of}
-use Rattle.log_ledger.specs.Books.{Books, AreInOrder}
+use Rattle.log_ledger.specs.Numbers.{Numbers, AreInOrder}
 use Rattle.log_ledger.proofs.DrawnSums.{drawn_grow}
 use Rattle.log_ledger.proofs.Few.{few_staged}
 use Rattle.log_ledger.proofs.Steps.{StagedBy}
@@ -18,7 +18,7 @@ use Rattle.log_ledger.proofs.Orders.{order_staged}
 use Rattle.log_ledger.proofs.ledger.Ledger.stage.Goals as goal
 
 -- the ledger's numbers behind the call
-abbrev after : goal.After-push → Books
+abbrev after : goal.After-push → Numbers
 after c = record {
   drawn = set c.self.inside.drawn c.behind-truck.inside.region c.behind-truck-2.inside.number;
   synced = c.self.inside.synced;
@@ -46,11 +46,11 @@ staged c =
       noted = subst (λ (fs : List (List ℕ)). IsNoted c.args.self.now.accounts c.note.new.self t.region t.number fs) families
           (subst (λ (n : ℕ). IsNoted c.args.self.now.accounts c.note.new.self t.region n c.take_marks-marks.result) number
           (subst (λ (r : ℕ). IsNoted c.args.self.now.accounts c.note.new.self r c.behind-truck-2.inside.number c.take_marks-marks.result) region
-          (subst (λ (b : Books). IsNoted b.accounts c.note.new.self c.behind-truck.inside.region c.behind-truck-2.inside.number c.take_marks-marks.result) was c.note.ensures.noted)));
+          (subst (λ (b : Numbers). IsNoted b.accounts c.note.new.self c.behind-truck.inside.region c.behind-truck-2.inside.number c.take_marks-marks.result) was c.note.ensures.noted)));
       history = λ notes x as_one noted. c.note.ensures.history notes x
           (subst (λ (fs : List (List ℕ)). AreNotedAs fs c.behind-truck.inside.region c.behind-truck-2.inside.number x) (sym families)
           (subst (λ (n : ℕ). AreNotedAs t.families c.behind-truck.inside.region n x) (sym number) (subst (λ (r : ℕ). AreNotedAs t.families r t.number x) (sym region) as_one)))
-          (subst (λ (b : Books). HasNoted b.accounts notes) (sym was) noted);
+          (subst (λ (b : Numbers). HasNoted b.accounts notes) (sym was) noted);
       order = c.note.ensures.order;
       chains = c.push.ensures.pushed ∙ (λ i. set c.self.inside.chains (left i).region (held_of (left i) ∷ get_or c.self.inside.chains (left i).region []))
           ∙ (λ i. set (was i).chains t.region (noted_of t ∷ get_or (was i).chains t.region []));

@@ -7,9 +7,9 @@ use Rattle.append_ring.specs.Rules.{base_of, of}
 use Rattle.disk_images.specs.Crash.{Since}
 use Rattle.log_trucks.specs.Held.{Held}
 use Rattle.log_ledger.specs.History.{History, committed_in}
-use Rattle.log_device.specs.Whole.{IsBroken, disk_of, books_of}
+use Rattle.log_device.specs.Whole.{IsBroken, disk_of, numbers_of}
 use Rattle.log_service.specs.Trucks.{come_to}
-use Rattle.log_service.specs.Loads.{all_trucks, AreInOrder}
+use Rattle.log_service.specs.Chains.{all_trucks, AreInOrder}
 use Rattle.log_service.specs.Commits.{all_staged_in, drawn_in}
 use Rattle.log_service.specs.Halves.{Stands, Fell, RecoversHeld}
 use Rattle.log_service.proofs.Chains.{come_append}
@@ -33,7 +33,7 @@ invariant_of-self g c =
       all = s.all;
       served = s.served;
       idle = s.idle;
-      drawn = subst (λ (ts : List Held). (IsBroken s.device → ⊥) → (r : ℕ) → 0 < r → r ≤ length lasts → get_or (books_of s.device).drawn r 0 ≡ come_to (base_of lasts) ts r) still s.drawn;
+      drawn = subst (λ (ts : List Held). (IsBroken s.device → ⊥) → (r : ℕ) → 0 < r → r ≤ length lasts → get_or (numbers_of s.device).drawn r 0 ≡ come_to (base_of lasts) ts r) still s.drawn;
       synced = s.synced;
       stored = s.stored;
       stands = λ told whole. subst (λ (ts : List Held). ∥ ((h : History) × Stands base lasts s.device v ts h) ∥₁) still (s.stands told whole);
@@ -43,69 +43,69 @@ invariant_of-self g c =
       cause = s.cause;
     }
 
-pub commit_load-requires-clause-served : goal.commit_load-requires-clause-served
-commit_load-requires-clause-served g c =
+pub commit_chain-requires-clause-served : goal.commit_chain-requires-clause-served
+commit_chain-requires-clause-served g c =
     let s = c.args.self.now in
     let lasts : List ℕ = g.N.ServiceNaming.lasts in
     let popped = (view s.consumer.pass).popped in
-    let order = subst (λ (l : List ℕ). AreInOrder l (of (λ (_ : List Held). 1) 1 (popped ++ c.in-Some.load ∷ []))) s.from.1 c.in-Some.ensures.popped.ordered in
-    follow_served (books_of s.device) (length lasts) (come_to (base_of lasts) (all_trucks popped)) c.in-Some.load s.served (popped_follows lasts popped c.in-Some.load order)
+    let order = subst (λ (l : List ℕ). AreInOrder l (of (λ (_ : List Held). 1) 1 (popped ++ c.in-Some.chain ∷ []))) s.from.1 c.in-Some.ensures.popped.ordered in
+    follow_served (numbers_of s.device) (length lasts) (come_to (base_of lasts) (all_trucks popped)) c.in-Some.chain s.served (popped_follows lasts popped c.in-Some.chain order)
 
-pub commit_load-requires-clause-rising : goal.commit_load-requires-clause-rising
-commit_load-requires-clause-rising g c =
+pub commit_chain-requires-clause-rising : goal.commit_chain-requires-clause-rising
+commit_chain-requires-clause-rising g c =
     let s = c.args.self.now in
     let lasts : List ℕ = g.N.ServiceNaming.lasts in
     let popped = (view s.consumer.pass).popped in
-    let order = subst (λ (l : List ℕ). AreInOrder l (of (λ (_ : List Held). 1) 1 (popped ++ c.in-Some.load ∷ []))) s.from.1 c.in-Some.ensures.popped.ordered in
-    (length lasts, follow_within (length lasts) (come_to (base_of lasts) (all_trucks popped)) (drawn_in (books_of s.device)) c.in-Some.load (λ r low high. sym (s.drawn c.requires.unbroken r low high)) (popped_follows lasts popped c.in-Some.load order))
+    let order = subst (λ (l : List ℕ). AreInOrder l (of (λ (_ : List Held). 1) 1 (popped ++ c.in-Some.chain ∷ []))) s.from.1 c.in-Some.ensures.popped.ordered in
+    (length lasts, follow_within (length lasts) (come_to (base_of lasts) (all_trucks popped)) (drawn_in (numbers_of s.device)) c.in-Some.chain (λ r low high. sym (s.drawn c.requires.unbroken r low high)) (popped_follows lasts popped c.in-Some.chain order))
 
-pub commit_load-requires-clause-whole : goal.commit_load-requires-clause-whole
-commit_load-requires-clause-whole g c told = ∥∥₁_map (c.args.self.now.stands told c.requires.unbroken) (λ x. (x.0, x.1.whole, x.1.idle))
+pub commit_chain-requires-clause-whole : goal.commit_chain-requires-clause-whole
+commit_chain-requires-clause-whole g c told = ∥∥₁_map (c.args.self.now.stands told c.requires.unbroken) (λ x. (x.0, x.1.whole, x.1.idle))
 
--- a load was popped, and is committed or not
+-- a chain was popped, and is committed or not
 pub invariant_of-self-2 : goal.invariant_of-self-2
 invariant_of-self-2 g c =
     let s = c.args.self.now in
-    let d = c.commit_load.new.device in
-    let load : List Held = c.in-Some.load in
+    let d = c.commit_chain.new.device in
+    let chain : List Held = c.in-Some.chain in
     let v = g.D.Disk.view (disk_of s.device) in
     let w = g.D.Disk.view (disk_of d) in
     let lasts : List ℕ = g.N.ServiceNaming.lasts in
     let base = g.N.ServiceNaming.begun in
     let start = g.N.ServiceNaming.start in
     let got = c.in-Some.ensures.popped in
-    let said = c.commit_load.ensures in
+    let said = c.commit_chain.ensures in
     let popped = (view s.consumer.pass).popped in
     let ts : List Held = all_trucks popped in
-    let now : ts ++ load ≡ all_trucks (view c.pop.new.pass.pass).popped = sym (ap (λ k. all_trucks k.popped) got.now ∙ all_with popped load) in
-    let entries = spelled_entries load got.good.0.2 in
+    let now : ts ++ chain ≡ all_trucks (view c.pop.new.pass.pass).popped = sym (ap (λ k. all_trucks k.popped) got.now ∙ all_with popped chain) in
+    let entries = spelled_entries chain got.good.0.2 in
     record {
       from = (c.in-Some.ensures.same ∙ s.from.0, ap (λ k. k.lasts) got.now ∙ s.from.1);
       all = s.all;
       served = λ r low high. subst (λ (l : List ℕ). 0 < get_or l r 0) (sym said.told.2) (s.served r low high);
       idle = said.emptied;
       drawn = λ whole r low high.
-          said.drawn r ∙ (come_at (drawn_in (books_of s.device)) (come_to (base_of lasts) ts) load r (s.drawn c.requires.unbroken r low high)
-          ∙ (ap (λ (f : ℕ → ℕ). f r) (sym (come_append (base_of lasts) ts load)) ∙ ap (λ (l : List Held). come_to (base_of lasts) l r) now));
-      synced = λ whole. on_ok c.commit_load.result said.synced (λ err. whole (said.broken.0 err));
-      stored = stored_on (books_of s.device) (books_of d) said.told.0 said.rises s.stored;
+          said.drawn r ∙ (come_at (drawn_in (numbers_of s.device)) (come_to (base_of lasts) ts) chain r (s.drawn c.requires.unbroken r low high)
+          ∙ (ap (λ (f : ℕ → ℕ). f r) (sym (come_append (base_of lasts) ts chain)) ∙ ap (λ (l : List Held). come_to (base_of lasts) l r) now));
+      synced = λ whole. on_ok c.commit_chain.result said.synced (λ err. whole (said.broken.0 err));
+      stored = stored_on (numbers_of s.device) (numbers_of d) said.told.0 said.rises s.stored;
       stands = λ told whole.
           subst (λ (l : List Held). ∥ ((h : History) × Stands base lasts d w l h) ∥₁) now
           (∥∥₁_map₂ (s.stands told c.requires.unbroken) entries (λ x e.
-          let committed = on_ok c.commit_load.result (said.committed told x.0 e.0 x.1.whole x.1.idle e.1) (λ err. whole (said.broken.0 err)) in
-          (committed_in (all_staged_in x.0 e.0), stands_more base lasts ts load x.0 e.0 e.1 s.device d v w x.1 committed said.few)));
+          let committed = on_ok c.commit_chain.result (said.committed told x.0 e.0 x.1.whole x.1.idle e.1) (λ err. whole (said.broken.0 err)) in
+          (committed_in (all_staged_in x.0 e.0), stands_more base lasts ts chain x.0 e.0 e.1 s.device d v w x.1 committed said.few)));
       fell = λ told broken.
           subst (λ (l : List Held). ∥ ((h : History) × Fell base lasts d w l h) ∥₁) now
           (∥∥₁_map₂ (s.stands told c.requires.unbroken) entries (λ x e. (
             all_staged_in x.0 e.0,
-            falls base lasts ts load x.0 e.0 e.1 s.device d v w (g.met.D.Disk.is_true (disk_of s.device) told) x.1 (said.orderly told x.0 e.0 x.1.whole e.1) s.served (on_err c.commit_load.result said.faulty (said.broken.1 broken)) said.told.0 said.told.1
+            falls base lasts ts chain x.0 e.0 e.1 s.device d v w (g.met.D.Disk.is_true (disk_of s.device) told) x.1 (said.orderly told x.0 e.0 x.1.whole e.1) s.served (on_err c.commit_chain.result said.faulty (said.broken.1 broken)) said.told.0 said.told.1
                 (said.any_moment told x.0 e.0 x.1.whole x.1.idle e.1) (said.names told x.0 e.0 x.1.whole.file x.1.whole e.1 x.1.whole.is),
           )));
       since = λ told.
           subst (λ (l : List Held). ∥ Since start (RecoversHeld base l) w ∥₁) now
           (∥∥₁_elim entries ∥∥₁_prop (λ e.
           ∥∥₁_map₂ (s.stands told c.requires.unbroken) (s.since told) (λ x past.
-          since_more base lasts ts load x.0 e.0 e.1 s.device v w start (g.met.D.Disk.is_true (disk_of s.device) told) x.1 (said.any_moment told x.0 e.0 x.1.whole x.1.idle e.1) past)));
+          since_more base lasts ts chain x.0 e.0 e.1 s.device v w start (g.met.D.Disk.is_true (disk_of s.device) told) x.1 (said.any_moment told x.0 e.0 x.1.whole x.1.idle e.1) past)));
       goes_on = λ told.
           ∥∥₁_elim entries ∥∥₁_prop (λ e.
           ∥∥₁_map₂ (s.stands told c.requires.unbroken) (s.goes_on told) (λ x so_far. goes_on_by start g.N.ServiceNaming.past 4 v w (said.any_moment told x.0 e.0 x.1.whole x.1.idle e.1).time so_far));
@@ -118,34 +118,34 @@ invariant_of-self-2 g c =
 pub returns-in-Ok-clause-later : goal.returns-in-Ok-clause-later
 returns-in-Ok-clause-later g c =
     let s = c.args.self.now in
-    let said = c.commit_load.ensures in
+    let said = c.commit_chain.ensures in
     let ok = c.in-Ok.ensures in
     let lasts : List ℕ = g.N.ServiceNaming.lasts in
     let popped = (view s.consumer.pass).popped in
-    let order = subst (λ (l : List ℕ). AreInOrder l (of (λ (_ : List Held). 1) 1 (popped ++ c.in-Some.load ∷ []))) s.from.1 c.in-Some.ensures.popped.ordered in
-    let rising = follow_within (length lasts) (come_to (base_of lasts) (all_trucks popped)) (drawn_in (books_of s.device)) c.in-Some.load (λ r low high. sym (s.drawn c.requires.unbroken r low high)) (popped_follows lasts popped c.in-Some.load order) in
-    told_later s.regions (books_of s.device) (books_of c.commit_load.new.device)
+    let order = subst (λ (l : List ℕ). AreInOrder l (of (λ (_ : List Held). 1) 1 (popped ++ c.in-Some.chain ∷ []))) s.from.1 c.in-Some.ensures.popped.ordered in
+    let rising = follow_within (length lasts) (come_to (base_of lasts) (all_trucks popped)) (drawn_in (numbers_of s.device)) c.in-Some.chain (λ r low high. sym (s.drawn c.requires.unbroken r low high)) (popped_follows lasts popped c.in-Some.chain order) in
+    told_later s.regions (numbers_of s.device) (numbers_of c.commit_chain.new.device)
     (λ r low high.
     let was = ap (λ (l : List ℕ). get_or l r 0) (s.synced c.requires.unbroken) in
     let is = ap (λ (l : List ℕ). get_or l r 0) ok.synced in
-    let more = come_later (length lasts) (drawn_in (books_of s.device)) c.in-Some.load r rising in
+    let more = come_later (length lasts) (drawn_in (numbers_of s.device)) c.in-Some.chain r rising in
     omega (arith, was, is, more, said.drawn r))
     said.told.0 said.told.1
 
 pub returns-in-Ok-clause-clock : goal.returns-in-Ok-clause-clock
 returns-in-Ok-clause-clock g c told =
     let s = c.args.self.now in
-    let said = c.commit_load.ensures in
+    let said = c.commit_chain.ensures in
     ∥∥₁_elim (s.stands told c.requires.unbroken) le_prop (λ x.
-    ∥∥₁_elim (spelled_entries c.in-Some.load c.in-Some.ensures.popped.good.0.2) le_prop (λ e.
+    ∥∥₁_elim (spelled_entries c.in-Some.chain c.in-Some.ensures.popped.good.0.2) le_prop (λ e.
     (said.any_moment told x.0 e.0 x.1.whole x.1.idle e.1).time.by_most))
 
 pub returns-in-Err-clause-clock : goal.returns-in-Err-clause-clock
 returns-in-Err-clause-clock g c told =
     let s = c.args.self.now in
-    let said = c.commit_load.ensures in
+    let said = c.commit_chain.ensures in
     ∥∥₁_elim (s.stands told c.requires.unbroken) le_prop (λ x.
-    ∥∥₁_elim (spelled_entries c.in-Some.load c.in-Some.ensures.popped.good.0.2) le_prop (λ e.
+    ∥∥₁_elim (spelled_entries c.in-Some.chain c.in-Some.ensures.popped.good.0.2) le_prop (λ e.
     (said.any_moment told x.0 e.0 x.1.whole x.1.idle e.1).time.by_most))
 
 pub returns-in-Ok-clause-ordered : goal.returns-in-Ok-clause-ordered
@@ -153,5 +153,5 @@ returns-in-Ok-clause-ordered g c n is =
     let s = c.args.self.now in
     let got = c.in-Some.ensures.popped in
     let popped = (view s.consumer.pass).popped in
-    let order = subst (λ (l : List ℕ). AreInOrder l (of (λ (_ : List Held). 1) 1 (popped ++ c.in-Some.load ∷ []))) s.from.1 got.ordered in
-    subst (AreInOrder g.N.ServiceNaming.lasts) (of_all (popped ++ c.in-Some.load ∷ []) ∙ sym (ap (λ k. k.popped) got.now)) order
+    let order = subst (λ (l : List ℕ). AreInOrder l (of (λ (_ : List Held). 1) 1 (popped ++ c.in-Some.chain ∷ []))) s.from.1 got.ordered in
+    subst (AreInOrder g.N.ServiceNaming.lasts) (of_all (popped ++ c.in-Some.chain ∷ []) ∙ sym (ap (λ k. k.popped) got.now)) order

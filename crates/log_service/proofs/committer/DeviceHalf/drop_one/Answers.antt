@@ -7,7 +7,7 @@ use Rattle.disk_images.proofs.Moments.{since_weaker}
 use Rattle.log_trucks.specs.Held.{Held}
 use Rattle.log_ledger.specs.History.{History}
 use Rattle.log_device.specs.Whole.{disk_of}
-use Rattle.log_service.specs.Loads.{all_trucks}
+use Rattle.log_service.specs.Chains.{all_trucks}
 use Rattle.log_service.specs.Halves.{Fell, RecoversHeld}
 use Rattle.log_service.proofs.Committed.{spelled_entries, recovers_more, fell_more}
 use Rattle.log_service.proofs.Popped.{popped_more}

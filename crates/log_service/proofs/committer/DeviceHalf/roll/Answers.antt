@@ -2,8 +2,8 @@ use Rattle.std.proofs.Common.{ℕ, List, get_or, sym, ap, ◌∙◌, arith}
 use Rattle.std.proofs.Math.Logic.{∥∥₁_map, ∥∥₁_map₂}
 use Rattle.crossbeam_queue.specs.Passes.{view}
 use Rattle.log_trucks.specs.Held.{Held}
-use Rattle.log_device.specs.Whole.{disk_of, books_of}
-use Rattle.log_service.specs.Loads.{all_trucks}
+use Rattle.log_device.specs.Whole.{disk_of, numbers_of}
+use Rattle.log_service.specs.Chains.{all_trucks}
 use Rattle.log_service.proofs.Committed.{rose_before, told_none_fell}
 use Rattle.log_service.proofs.Elapsed.{goes_on_by}
 use Rattle.log_service.proofs.committer.DeviceHalf.roll.Goals as goal
@@ -44,4 +44,4 @@ invariant_of-self g c =
 pub returns-clause-later : goal.returns-clause-later
 returns-clause-later g c =
     let s = c.args.self.now in
-    told_none_fell s.regions (books_of s.device) (books_of c.roll_archived.new.device) c.roll_archived.ensures.numbers.later
+    told_none_fell s.regions (numbers_of s.device) (numbers_of c.roll_archived.new.device) c.roll_archived.ensures.numbers.later

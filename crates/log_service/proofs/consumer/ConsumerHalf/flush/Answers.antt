@@ -1,6 +1,6 @@
 use Rattle.std.proofs.Common.{ℕ, refl, ◌∙◌, subst, arith}
 use Rattle.log_device.specs.declared.error.DeviceFlush.TheVariants as refusals
-use Rattle.log_device.specs.Whole.{books_of}
+use Rattle.log_device.specs.Whole.{numbers_of}
 use Rattle.log_berth.specs.Words.{NoMore}
 use Rattle.log_berth.proofs.Joined.{no_more-trans}
 use Rattle.log_service.specs.Numbers.{told_numbers}
@@ -17,13 +17,13 @@ returns-clause-flushed g c =
     let new = c.flush.new.self in
     let done = c.if-move_up_to.ensures.done refl in
     let same = c.drain.ensures.same.0 ∙ c.move_all.ensures.same in
-    let moved = no_more-trans (told_numbers mid.regions (books_of mid.device)) (told_numbers all.regions (books_of all.device)) (told_numbers late.regions (books_of late.device)) c.move_all.ensures.later c.drain.ensures.later in
-    let below = subst (λ (n : ℕ). NoMore (told_numbers old.regions (books_of old.device)) (told_numbers n (books_of late.device))) (same ∙ c.move_up_to.ensures.same)
-    (no_more-trans (told_numbers old.regions (books_of old.device)) (told_numbers mid.regions (books_of mid.device)) (told_numbers late.regions (books_of late.device)) c.move_up_to.ensures.later moved) in
-    let later = subst (λ (n : ℕ). NoMore (told_numbers mid.regions (books_of mid.device)) (told_numbers n (books_of new.device))) (c.flush.ensures.same.0 ∙ same)
-    (no_more-trans (told_numbers mid.regions (books_of mid.device)) (told_numbers late.regions (books_of late.device)) (told_numbers new.regions (books_of new.device)) moved c.flush.ensures.later) in
-    let rose = synced_rose mid.regions (books_of mid.device) (books_of new.device) later c.args.region c.requires.region.0 (omega (arith, c.requires.region, c.move_up_to.ensures.same)) in
-    let stood = stored_rose old.regions (books_of old.device) (books_of late.device) below c.args.region c.requires.region.0 c.requires.region.1 in
+    let moved = no_more-trans (told_numbers mid.regions (numbers_of mid.device)) (told_numbers all.regions (numbers_of all.device)) (told_numbers late.regions (numbers_of late.device)) c.move_all.ensures.later c.drain.ensures.later in
+    let below = subst (λ (n : ℕ). NoMore (told_numbers old.regions (numbers_of old.device)) (told_numbers n (numbers_of late.device))) (same ∙ c.move_up_to.ensures.same)
+    (no_more-trans (told_numbers old.regions (numbers_of old.device)) (told_numbers mid.regions (numbers_of mid.device)) (told_numbers late.regions (numbers_of late.device)) c.move_up_to.ensures.later moved) in
+    let later = subst (λ (n : ℕ). NoMore (told_numbers mid.regions (numbers_of mid.device)) (told_numbers n (numbers_of new.device))) (c.flush.ensures.same.0 ∙ same)
+    (no_more-trans (told_numbers mid.regions (numbers_of mid.device)) (told_numbers late.regions (numbers_of late.device)) (told_numbers new.regions (numbers_of new.device)) moved c.flush.ensures.later) in
+    let rose = synced_rose mid.regions (numbers_of mid.device) (numbers_of new.device) later c.args.region c.requires.region.0 (omega (arith, c.requires.region, c.move_up_to.ensures.same)) in
+    let stood = stored_rose old.regions (numbers_of old.device) (numbers_of late.device) below c.args.region c.requires.region.0 c.requires.region.1 in
     then_whole c.flush.result refusals.WriteFault c.flush.ensures.broken.1
     (λ n unbroken said. (omega (arith, done, rose, said.last), record { last = said.last; stored = said.stored; above = λ all. omega (arith, stood, said.above all) })) c.flush.ensures.flushed
 
@@ -35,9 +35,9 @@ returns-clause-nothing g c n is =
     let new = c.flush.new.self in
     let done = c.if-move_up_to.ensures.done refl in
     let same = c.drain.ensures.same.0 ∙ c.move_all.ensures.same in
-    let moved = no_more-trans (told_numbers mid.regions (books_of mid.device)) (told_numbers all.regions (books_of all.device)) (told_numbers late.regions (books_of late.device)) c.move_all.ensures.later c.drain.ensures.later in
-    let later = subst (λ (n : ℕ). NoMore (told_numbers mid.regions (books_of mid.device)) (told_numbers n (books_of new.device))) (c.flush.ensures.same.0 ∙ same)
-    (no_more-trans (told_numbers mid.regions (books_of mid.device)) (told_numbers late.regions (books_of late.device)) (told_numbers new.regions (books_of new.device)) moved c.flush.ensures.later) in
-    let rose = synced_rose mid.regions (books_of mid.device) (books_of new.device) later c.args.region c.requires.region.0 (omega (arith, c.requires.region, c.move_up_to.ensures.same)) in
+    let moved = no_more-trans (told_numbers mid.regions (numbers_of mid.device)) (told_numbers all.regions (numbers_of all.device)) (told_numbers late.regions (numbers_of late.device)) c.move_all.ensures.later c.drain.ensures.later in
+    let later = subst (λ (n : ℕ). NoMore (told_numbers mid.regions (numbers_of mid.device)) (told_numbers n (numbers_of new.device))) (c.flush.ensures.same.0 ∙ same)
+    (no_more-trans (told_numbers mid.regions (numbers_of mid.device)) (told_numbers late.regions (numbers_of late.device)) (told_numbers new.regions (numbers_of new.device)) moved c.flush.ensures.later) in
+    let rose = synced_rose mid.regions (numbers_of mid.device) (numbers_of new.device) later c.args.region c.requires.region.0 (omega (arith, c.requires.region, c.move_up_to.ensures.same)) in
     let said = c.flush.ensures.nothing n is in
     (omega (arith, done, rose, said.last), said)

@@ -16,9 +16,9 @@ loop-moved-preserved g c =
     let same = c.refill.ensures.same in
     let put = c.if-not-put.ensures.moved refl in
     let still = c.put.ensures.same in
-    let start : Bench = record { popped = (view a.consumer.pass).popped; load = a.load; held = a.held; asked = a.asked; handed = (view a.hand.pass).pushed } in
-    let here : Bench = record { popped = (view b.consumer.pass).popped; load = b.load; held = b.held; asked = b.asked; handed = (view b.hand.pass).pushed } in
-    let then : Bench = record { popped = (view d.consumer.pass).popped; load = d.load; held = d.held; asked = d.asked; handed = (view d.hand.pass).pushed } in
+    let start : Bench = record { popped = (view a.consumer.pass).popped; chain = a.chain; held = a.held; asked = a.asked; handed = (view a.chain_key.pass).pushed } in
+    let here : Bench = record { popped = (view b.consumer.pass).popped; chain = b.chain; held = b.held; asked = b.asked; handed = (view b.chain_key.pass).pushed } in
+    let then : Bench = record { popped = (view d.consumer.pass).popped; chain = d.chain; held = d.held; asked = d.asked; handed = (view d.chain_key.pass).pushed } in
     let one : HasMoved here then (put.0 ∷ []) =
     moved_one here then got.0 put.0 (ap (λ v. v.popped) still.0 ∙ got.1) (ap held_in (sym put.1) ∙ got.2) put.2 (put.3 ∙ ap (λ (l : List Held). l ++ appended (put.0 ∷ [])) same.0)
     (put.4 ∙ ap (λ (x : Bool). x || is_sync put.0) same.1) (ap (λ v. v.pushed) still.1 ∙ ap (λ v. v.pushed) same.2) in

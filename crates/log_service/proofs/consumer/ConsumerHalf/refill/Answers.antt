@@ -8,7 +8,7 @@ use Rattle.log_service.specs.declared.item.Item.{Item}
 use Rattle.log_service.specs.declared.item.Item.TheVariants as items
 use Rattle.log_service.specs.Items.{region_of, number_of, IsWholeItem, appended, held_in}
 use Rattle.log_service.specs.Trucks.{FollowFrom}
-use Rattle.log_service.specs.Loads.{all_trucks}
+use Rattle.log_service.specs.Chains.{all_trucks}
 use Rattle.log_service.proofs.Chains.{spelled_front, spelled_both}
 use Rattle.log_service.proofs.ItemLaws.{no_some, item_spelled, item_follows, tie_popped}
 use Rattle.log_service.proofs.consumer.ConsumerHalf.refill.Goals as goal
@@ -22,14 +22,14 @@ invariant_of-self-2 g c =
     let got = c.in-Some.ensures.popped in
     let none : s.held ≡ None = no_some s.held (sym c.is_some.ensures ∙ c.if-is_some.false) in
     let more : (view c.pop.new.pass.pass).popped ≡ popped ++ x ∷ [] = ap (λ v. v.popped) got.now in
-    let pushed : List Held = all_trucks (view s.hand.pass).pushed in
-    let tie : pushed ++ (s.load ++ []) ≡ appended popped = ap (λ (o : Option Item). pushed ++ (s.load ++ appended (held_in o))) (sym none) ∙ s.tie in
+    let pushed : List Held = all_trucks (view s.chain_key.pass).pushed in
+    let tie : pushed ++ (s.chain ++ []) ≡ appended popped = ap (λ (o : Option Item). pushed ++ (s.chain ++ appended (held_in o))) (sym none) ∙ s.tie in
     record {
       ring = (c.in-Some.ensures.same ∙ s.ring.0, ap (λ v. v.lasts) got.now ∙ s.ring.1);
       to = s.to;
       rest = s.rest;
-      tie = tie_popped pushed s.load popped x tie ∙ ap appended (sym more);
-      spelled = spelled_both s.load (appended (x ∷ [])) (spelled_front s.load (appended (held_in s.held)) s.spelled) (item_spelled x got.good.0);
+      tie = tie_popped pushed s.chain popped x tie ∙ ap appended (sym more);
+      spelled = spelled_both s.chain (appended (x ∷ [])) (spelled_front s.chain (appended (held_in s.held)) s.spelled) (item_spelled x got.good.0);
       alone = λ truck is. (subst IsWholeItem (same_Some x (items.Append truck) is) got.good.0).1;
       follow = subst (λ (l : List Item). FollowFrom lasts (appended l)) (sym more)
           (item_follows lasts popped x s.follow got.good.1 (subst (λ (l : List ℕ). region_of x ≤ length l) s.ring.1 got.good.2)

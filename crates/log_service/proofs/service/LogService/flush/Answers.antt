@@ -2,9 +2,9 @@ use Rattle.std.proofs.Common.{◌≡◌, ◌≤◌, ◌-◌, ◌+◌, ℕ, get_o
 use Rattle.crossbeam_queue.specs.Passes.{view}
 use Rattle.log_berth.proofs.Joined.{no_more-trans}
 use Rattle.log_device.specs.declared.error.DeviceFlush.TheVariants as refusals
-use Rattle.log_device.specs.Whole.{log_of, books_of}
+use Rattle.log_device.specs.Whole.{log_of, numbers_of}
 use Rattle.log_service.specs.Numbers.{told_numbers}
-use Rattle.log_service.specs.Places.{Place}
+use Rattle.log_service.specs.Places.{ServiceId}
 use Rattle.log_service.proofs.Numbers.{stored_low}
 use Rattle.log_service.proofs.Sees.{has_file, not_broken, then_whole, sees_all}
 use Rattle.log_service.proofs.service.LogService.flush.Goals as goal
@@ -13,18 +13,18 @@ pub give_both-requires-clause-device : goal.give_both-requires-clause-device
 give_both-requires-clause-device g c =
     let a = c.take_both-mover.result.1.ware in
     let b = c.flush-flushed.new.committer in
-    no_more-trans c.take_both-mover.new.seat.device.knows.seen (told_numbers a.regions (books_of a.device)) (told_numbers b.regions (books_of b.device)) c.take_both-mover.ensures.device.1 c.flush-flushed.ensures.later
+    no_more-trans c.take_both-mover.new.seat.device.knows.seen (told_numbers a.regions (numbers_of a.device)) (told_numbers b.regions (numbers_of b.device)) c.take_both-mover.ensures.device.1 c.flush-flushed.ensures.later
 
 pub returns-clause-flushed : goal.returns-clause-flushed
 returns-clause-flushed g c =
     let first = c.take_both-mover.result.1.ware in
     let ware = c.flush-flushed.new.committer in
     let r = c.args.region in
-    let n_is : first.regions ≡ c.args.self.now.regions = first.all.0 ∙ (sym c.self.invariant.6 ∙ ap (λ (p : Place). p.regions) c.self.view_is) in
+    let n_is : first.regions ≡ c.args.self.now.regions = first.all.0 ∙ (sym c.self.invariant.6 ∙ ap (λ (p : ServiceId). p.regions) c.self.view_is) in
     let old = c.args.seat.now.device.knows.seen in
-    let seen = no_more-trans old c.take_both-mover.new.seat.device.knows.seen (told_numbers first.regions (books_of first.device)) c.take_both-mover.ensures.later.words c.take_both-mover.ensures.device.1 in
-    let low = subst (λ (m : ℕ). get_or old (m + r - 1) 0 ≤ get_or (books_of first.device).stored r 0) n_is
-    (stored_low first.regions (books_of first.device) old r seen c.requires.region.0 (omega (arith, c.requires.region, n_is))) in
+    let seen = no_more-trans old c.take_both-mover.new.seat.device.knows.seen (told_numbers first.regions (numbers_of first.device)) c.take_both-mover.ensures.later.words c.take_both-mover.ensures.device.1 in
+    let low = subst (λ (m : ℕ). get_or old (m + r - 1) 0 ≤ get_or (numbers_of first.device).stored r 0) n_is
+    (stored_low first.regions (numbers_of first.device) old r seen c.requires.region.0 (omega (arith, c.requires.region, n_is))) in
     then_whole c.flush-flushed.result refusals.WriteFault c.flush-flushed.ensures.broken.1
     (λ n unbroken said.
     let saw = c.give_both.ensures.saw (sym c.give_both.ensures.broken ∙ not_broken (log_of ware.device) unbroken) in
@@ -63,12 +63,12 @@ pub returns-clause-saw : goal.returns-clause-saw
 returns-clause-saw g c whole =
     let ware = c.flush-flushed.new.committer in
     let unbroken = has_file (log_of ware.device) (c.give_both.ensures.broken ∙ whole) in
-    let n_is : c.args.self.now.regions ≡ ware.regions = sym (ware.all.0 ∙ (sym c.self.invariant.6 ∙ ap (λ (p : Place). p.regions) c.self.view_is)) in
+    let n_is : c.args.self.now.regions ≡ ware.regions = sym (ware.all.0 ∙ (sym c.self.invariant.6 ∙ ap (λ (p : ServiceId). p.regions) c.self.view_is)) in
     record {
       pass = view ware.consumer.pass;
       from = ware.from.1;
       empty = (c.flush-flushed.ensures.drained unbroken).1;
       saw =
-          sees_all g.N.ServiceNaming.lasts c.args.self.now.regions (books_of ware.device) (view ware.consumer.pass).popped (n_is ∙ ware.all.0) (ware.synced unbroken) (ware.drawn unbroken)
+          sees_all g.N.ServiceNaming.lasts c.args.self.now.regions (numbers_of ware.device) (view ware.consumer.pass).popped (n_is ∙ ware.all.0) (ware.synced unbroken) (ware.drawn unbroken)
           c.give_both.new.seat.device.knows (c.give_both.ensures.saw whole);
     }

@@ -2,9 +2,9 @@ use Rattle.std.proofs.Common.{◌≡◌, ◌<◌, ◌*◌, ℕ, true≢false, ge
 use Rattle.log_berth.specs.declared.known.Known.{Known}
 use Rattle.log_berth.specs.declared.known.Tally.{Tally}
 use Rattle.log_berth.specs.Words.{NoMore}
-use Rattle.log_device.specs.Whole.{books_of}
+use Rattle.log_device.specs.Whole.{numbers_of}
 use Rattle.log_service.specs.Numbers.{told_numbers, HasSeen}
-use Rattle.log_service.specs.Places.{Place}
+use Rattle.log_service.specs.Places.{ServiceId}
 use Rattle.log_service.proofs.Sees.{has_seen}
 use Rattle.log_service.proofs.service.LogService.give_both.Goals as goal
 
@@ -26,8 +26,8 @@ returns-clause-saw g c whole =
     let ware = c.args.turn.ware in
     let seat = c.give.new.seat.knows in
     let still = ap (λ (k : Known). k.broken) c.give.ensures.1 in
-    let regions = ap (λ (p : Place). p.regions) c.self.view_is in
+    let regions = ap (λ (p : ServiceId). p.regions) c.self.view_is in
     let n_is : ware.regions ≡ c.args.self.now.regions = ware.all.0 ∙ (sym c.self.invariant.6 ∙ regions) in
-    let raised : (i : ℕ) → i < 3 * ware.regions → get_or seat.seen i 0 ≡ get_or (told_numbers ware.regions (books_of ware.device)) i 0 = λ i low.
+    let raised : (i : ℕ) → i < 3 * ware.regions → get_or seat.seen i 0 ≡ get_or (told_numbers ware.regions (numbers_of ware.device)) i 0 = λ i low.
     ap (λ (k : Known). get_or k.seen i 0) c.give.ensures.1 ∙ c.tell_all.ensures.raised (sym still ∙ whole) i (omega (arith, low, n_is, regions)) in
-    subst (λ (m : ℕ). HasSeen m seat (books_of ware.device)) n_is (has_seen ware.regions seat (books_of ware.device) raised)
+    subst (λ (m : ℕ). HasSeen m seat (numbers_of ware.device)) n_is (has_seen ware.regions seat (numbers_of ware.device) raised)

@@ -2,9 +2,9 @@ use Rattle.std.proofs.Common.{◌≡◌, sym, ap, ◌∙◌}
 use Rattle.crossbeam_queue.specs.Passes.{view}
 use Rattle.log_berth.proofs.Joined.{no_more-trans}
 use Rattle.log_device.specs.declared.error.RollRefusal.TheVariants as refusals
-use Rattle.log_device.specs.Whole.{log_of, books_of}
+use Rattle.log_device.specs.Whole.{log_of, numbers_of}
 use Rattle.log_service.specs.Numbers.{told_numbers}
-use Rattle.log_service.specs.Places.{Place}
+use Rattle.log_service.specs.Places.{ServiceId}
 use Rattle.log_service.proofs.Sees.{has_file, not_broken, then_whole, sees_all, closed_over}
 use Rattle.log_service.proofs.service.LogService.roll.Goals as goal
 
@@ -12,7 +12,7 @@ pub give_both-requires-clause-device : goal.give_both-requires-clause-device
 give_both-requires-clause-device g c =
     let a = c.take_both-mover.result.1.ware in
     let b = c.roll-rolled.new.committer in
-    no_more-trans c.take_both-mover.new.seat.device.knows.seen (told_numbers a.regions (books_of a.device)) (told_numbers b.regions (books_of b.device)) c.take_both-mover.ensures.device.1 c.roll-rolled.ensures.later
+    no_more-trans c.take_both-mover.new.seat.device.knows.seen (told_numbers a.regions (numbers_of a.device)) (told_numbers b.regions (numbers_of b.device)) c.take_both-mover.ensures.device.1 c.roll-rolled.ensures.later
 
 pub returns-clause-rolled : goal.returns-clause-rolled
 returns-clause-rolled g c =
@@ -32,13 +32,13 @@ pub returns-clause-saw : goal.returns-clause-saw
 returns-clause-saw g c whole =
     let ware = c.roll-rolled.new.committer in
     let unbroken = has_file (log_of ware.device) (c.give_both.ensures.broken ∙ whole) in
-    let n_is : c.args.self.now.regions ≡ ware.regions = sym (ware.all.0 ∙ (sym c.self.invariant.6 ∙ ap (λ (p : Place). p.regions) c.self.view_is)) in
+    let n_is : c.args.self.now.regions ≡ ware.regions = sym (ware.all.0 ∙ (sym c.self.invariant.6 ∙ ap (λ (p : ServiceId). p.regions) c.self.view_is)) in
     record {
       pass = view ware.consumer.pass;
       from = ware.from.1;
       empty = (c.roll-rolled.ensures.drained unbroken).1;
       saw =
-          sees_all g.N.ServiceNaming.lasts c.args.self.now.regions (books_of ware.device) (view ware.consumer.pass).popped (n_is ∙ ware.all.0) (ware.synced unbroken) (ware.drawn unbroken)
+          sees_all g.N.ServiceNaming.lasts c.args.self.now.regions (numbers_of ware.device) (view ware.consumer.pass).popped (n_is ∙ ware.all.0) (ware.synced unbroken) (ware.drawn unbroken)
           c.give_both.new.seat.device.knows (c.give_both.ensures.saw whole);
     }
 
@@ -48,13 +48,13 @@ returns-clause-closed g c =
     let ware = c.roll-rolled.new.committer in
     let old = c.args.seat.now.device.knows.seen in
     let mid = c.take_both-mover.new.seat.device.knows.seen in
-    let n_is : ware.regions ≡ c.args.self.now.regions = ware.all.0 ∙ (sym c.self.invariant.6 ∙ ap (λ (p : Place). p.regions) c.self.view_is) in
-    let seen = no_more-trans old mid (told_numbers first.regions (books_of first.device)) c.take_both-mover.ensures.later.words c.take_both-mover.ensures.device.1 in
-    let low = no_more-trans old (told_numbers first.regions (books_of first.device)) (told_numbers ware.regions (books_of ware.device)) seen c.roll-rolled.ensures.later in
+    let n_is : ware.regions ≡ c.args.self.now.regions = ware.all.0 ∙ (sym c.self.invariant.6 ∙ ap (λ (p : ServiceId). p.regions) c.self.view_is) in
+    let seen = no_more-trans old mid (told_numbers first.regions (numbers_of first.device)) c.take_both-mover.ensures.later.words c.take_both-mover.ensures.device.1 in
+    let low = no_more-trans old (told_numbers first.regions (numbers_of first.device)) (told_numbers ware.regions (numbers_of ware.device)) seen c.roll-rolled.ensures.later in
     then_whole c.roll-rolled.result refusals.WriteFault c.roll-rolled.ensures.broken.1
     (λ rolled unbroken closed.
     let saw = c.give_both.ensures.saw (sym c.give_both.ensures.broken ∙ not_broken (log_of ware.device) unbroken) in
-    closed_over ware.regions c.args.self.now.regions n_is c.give_both.new.seat.device.knows (books_of ware.device) old low saw closed)
+    closed_over ware.regions c.args.self.now.regions n_is c.give_both.new.seat.device.knows (numbers_of ware.device) old low saw closed)
     c.roll-rolled.ensures.closed
 
 pub returns-clause-nothing : goal.returns-clause-nothing
@@ -63,9 +63,9 @@ returns-clause-nothing g c n is =
     let ware = c.roll-rolled.new.committer in
     let old = c.args.seat.now.device.knows.seen in
     let mid = c.take_both-mover.new.seat.device.knows.seen in
-    let n_is : ware.regions ≡ c.args.self.now.regions = ware.all.0 ∙ (sym c.self.invariant.6 ∙ ap (λ (p : Place). p.regions) c.self.view_is) in
-    let seen = no_more-trans old mid (told_numbers first.regions (books_of first.device)) c.take_both-mover.ensures.later.words c.take_both-mover.ensures.device.1 in
-    let low = no_more-trans old (told_numbers first.regions (books_of first.device)) (told_numbers ware.regions (books_of ware.device)) seen c.roll-rolled.ensures.later in
+    let n_is : ware.regions ≡ c.args.self.now.regions = ware.all.0 ∙ (sym c.self.invariant.6 ∙ ap (λ (p : ServiceId). p.regions) c.self.view_is) in
+    let seen = no_more-trans old mid (told_numbers first.regions (numbers_of first.device)) c.take_both-mover.ensures.later.words c.take_both-mover.ensures.device.1 in
+    let low = no_more-trans old (told_numbers first.regions (numbers_of first.device)) (told_numbers ware.regions (numbers_of ware.device)) seen c.roll-rolled.ensures.later in
     let unbroken = not_broken (log_of ware.device) (λ broken. let why = c.roll-rolled.ensures.broken.1 broken in cc (why, is)) in
     let saw = c.give_both.ensures.saw (sym c.give_both.ensures.broken ∙ unbroken) in
-    closed_over ware.regions c.args.self.now.regions n_is c.give_both.new.seat.device.knows (books_of ware.device) old low saw (c.roll-rolled.ensures.nothing n is)
+    closed_over ware.regions c.args.self.now.regions n_is c.give_both.new.seat.device.knows (numbers_of ware.device) old low saw (c.roll-rolled.ensures.nothing n is)

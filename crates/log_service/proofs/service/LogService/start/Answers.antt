@@ -6,18 +6,18 @@ use Rattle.log_service.proofs.service.LogService.start.Goals as goal
 
 pub unreachable-requires : goal.unreachable-requires
 unreachable-requires g c =
-    let parts = c.requires.loads.1.parts in
-    let first = first_parted g.N.ServiceNaming.hand g.N.ServiceNaming.lasts c.args.rings.loads.passes (omega (arith, parts.all, c.requires.regions)) parts.new in
+    let parts = c.requires.chains.1.parts in
+    let first = first_parted g.N.ServiceNaming.chain_ring g.N.ServiceNaming.lasts c.args.rings.chains.passes (omega (arith, parts.all, c.requires.regions)) parts.new in
     cc (sym c.in_default.is ∙ (c.next.ensures.given ∙ first.is))
 
-pub first_half-mover-requires-clause-hand : goal.first_half-mover-requires-clause-hand
-first_half-mover-requires-clause-hand g c =
-    let parts = c.requires.loads.1.parts in
-    let first = first_parted g.N.ServiceNaming.hand g.N.ServiceNaming.lasts c.args.rings.loads.passes (omega (arith, parts.all, c.requires.regions)) parts.new in
-    subst (IsNew g.N.ServiceNaming.hand g.N.ServiceNaming.lasts 1) (same_Some first.pass c.in-Some.hand (sym first.is ∙ (sym c.next.ensures.given ∙ c.in-Some.is))) first.new
+pub first_half-mover-requires-clause-chain_key : goal.first_half-mover-requires-clause-chain_key
+first_half-mover-requires-clause-chain_key g c =
+    let parts = c.requires.chains.1.parts in
+    let first = first_parted g.N.ServiceNaming.chain_ring g.N.ServiceNaming.lasts c.args.rings.chains.passes (omega (arith, parts.all, c.requires.regions)) parts.new in
+    subst (IsNew g.N.ServiceNaming.chain_ring g.N.ServiceNaming.lasts 1) (same_Some first.pass c.in-Some.chain_key (sym first.is ∙ (sym c.next.ensures.given ∙ c.in-Some.is))) first.new
 
 pub first_half-mover-requires-clause-idle : goal.first_half-mover-requires-clause-idle
 first_half-mover-requires-clause-idle g c =
-    let parts = c.requires.loads.1.parts in
-    let first = first_parted g.N.ServiceNaming.hand g.N.ServiceNaming.lasts c.args.rings.loads.passes (omega (arith, parts.all, c.requires.regions)) parts.new in
-    (subst (AreNewAfter g.N.ServiceNaming.hand g.N.ServiceNaming.lasts 0 1) (sym c.next.ensures.left) first.left, ap length c.next.ensures.left ∙ (first.all ∙ parts.all))
+    let parts = c.requires.chains.1.parts in
+    let first = first_parted g.N.ServiceNaming.chain_ring g.N.ServiceNaming.lasts c.args.rings.chains.passes (omega (arith, parts.all, c.requires.regions)) parts.new in
+    (subst (AreNewAfter g.N.ServiceNaming.chain_ring g.N.ServiceNaming.lasts 0 1) (sym c.next.ensures.left) first.left, ap length c.next.ensures.left ∙ (first.all ∙ parts.all))

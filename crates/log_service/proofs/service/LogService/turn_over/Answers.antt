@@ -3,10 +3,10 @@ use Rattle.crossbeam_queue.specs.Passes.{view}
 use Rattle.log_berth.specs.declared.known.Known.{Known}
 use Rattle.log_berth.specs.Words.{NoMore, looked}
 use Rattle.log_berth.proofs.Joined.{no_more-trans}
-use Rattle.log_device.specs.Whole.{log_of, books_of}
+use Rattle.log_device.specs.Whole.{log_of, numbers_of}
 use Rattle.log_service.specs.declared.committing.Commit.TheVariants as commits
 use Rattle.log_service.specs.declared.seats.LogSeat.{LogSeat}
-use Rattle.log_service.specs.Loads.{AreInOrder}
+use Rattle.log_service.specs.Chains.{AreInOrder}
 use Rattle.log_service.specs.Moves.{WasFull}
 use Rattle.log_service.specs.Numbers.{told_numbers}
 use Rattle.log_service.specs.Turns.{SawCommitted}
@@ -49,15 +49,15 @@ returns-in-Committed-clause-synced g c n is =
     let unbroken = has_file (log_of ware.device) (held.broken ∙ (sym (c.broken.ensures.exact held.turn) ∙ c.if-broken.false)) in
     let of : commits.Committed c.in-Committed.count ≡ commits.Committed n = cc (is) in
     let got = c.in-Committed.ensures.committed n of in (
-      had_both c.args.seat.now after c.hand_load.new.seat c.take.new.seat.knows c.broken.new.seat.knows knows (search (c.if-not-hand_load.ensures.had)) same.0 held.tally c.broken.ensures.known.1 same.3 ended,
+      had_both c.args.seat.now after c.hand_chain.new.seat c.take.new.seat.knows c.broken.new.seat.knows knows (search (c.if-not-hand_chain.ensures.had)) same.0 held.tally c.broken.ensures.known.1 same.3 ended,
       record {
         before = before;
-        load = got.0;
+        chain = got.0;
         count = got.2;
         some = c.in-Committed.ensures.some n of;
         in_order = subst (AreInOrder lasts) got.1 (c.in-Committed.ensures.ordered n of);
-        saw = saw_at_most lasts ware.regions (books_of ware.device) before ware.all.0 (ware.synced unbroken) (ware.drawn unbroken) c.args.seat.now.device.knows
-            (no_more-trans c.args.seat.now.device.knows.seen c.take.new.seat.knows.seen (told_numbers ware.regions (books_of ware.device)) held.seen held.below);
+        saw = saw_at_most lasts ware.regions (numbers_of ware.device) before ware.all.0 (ware.synced unbroken) (ware.drawn unbroken) c.args.seat.now.device.knows
+            (no_more-trans c.args.seat.now.device.knows.seen c.take.new.seat.knows.seen (told_numbers ware.regions (numbers_of ware.device)) held.seen held.below);
         sees = subst (λ (k : Known). SawCommitted lasts k (before ++ got.0 ∷ [])) (sym ended) (subst (SawCommitted lasts knows) got.1 (c.in-Committed.ensures.sees n of));
       },
     )
@@ -73,13 +73,13 @@ returns-in-Clean-clause-clean g c is =
     let ended = c.end_turn-2.ensures.1 in
     let unbroken = has_file (log_of ware.device) (c.commit_and_raise-commit.ensures.broken ∙ c.in-Clean.ensures.whole.1 refl) in
     let none = c.in-Clean.ensures.clean refl in (
-      had_both c.args.seat.now after c.hand_load.new.seat c.take.new.seat.knows c.broken.new.seat.knows knows (search (c.if-not-hand_load.ensures.had)) same.0 held.tally c.broken.ensures.known.1 same.3 ended,
+      had_both c.args.seat.now after c.hand_chain.new.seat c.take.new.seat.knows c.broken.new.seat.knows knows (search (c.if-not-hand_chain.ensures.had)) same.0 held.tally c.broken.ensures.known.1 same.3 ended,
       record {
         pass = view ware.consumer.pass;
         from = ware.from.1;
         empty = subst (WasFull 0) (sym none.1) none.2;
-        saw = saw_at_most lasts ware.regions (books_of ware.device) (view ware.consumer.pass).popped ware.all.0 (ware.synced unbroken) (ware.drawn unbroken) c.end_turn-2.new.seat.knows
-            (subst (λ (k : Known). NoMore k.seen (told_numbers ware.regions (books_of ware.device))) (sym ended) c.commit_and_raise-commit.ensures.below);
+        saw = saw_at_most lasts ware.regions (numbers_of ware.device) (view ware.consumer.pass).popped ware.all.0 (ware.synced unbroken) (ware.drawn unbroken) c.end_turn-2.new.seat.knows
+            (subst (λ (k : Known). NoMore k.seen (told_numbers ware.regions (numbers_of ware.device))) (sym ended) c.commit_and_raise-commit.ensures.below);
       },
     )
 
@@ -90,7 +90,7 @@ returns-in-WriteFault-clause-fault g c is =
     let same = c.commit_and_raise-commit.ensures.seat in
     let ended = c.end_turn-2.ensures.1 in
     let whole = sym (c.broken.ensures.exact held.turn) ∙ c.if-broken.false in (
-      had_both c.args.seat.now after c.hand_load.new.seat c.take.new.seat.knows c.broken.new.seat.knows c.commit_and_raise-commit.new.seat.device.knows (search (c.if-not-hand_load.ensures.had)) same.0 held.tally
+      had_both c.args.seat.now after c.hand_chain.new.seat c.take.new.seat.knows c.broken.new.seat.knows c.commit_and_raise-commit.new.seat.device.knows (search (c.if-not-hand_chain.ensures.had)) same.0 held.tally
           c.broken.ensures.known.1 same.3 ended,
       not_set c.args.seat.now.device.knows.broken (λ broken. true≢false (sym (held.stands broken).0 ∙ whole)),
       ap (λ (k : Known). k.broken) ended ∙ c.in-WriteFault.ensures.fault refl,

@@ -1,8 +1,8 @@
 use Rattle.std.proofs.Common.{◌≡◌, ℕ, ◌+◌, ◌-◌, ◌<◌, ◌≤◌, true, List, map, slice_index, Contains, sym, ap, ◌∙◌, subst, arith}
 use Rattle.std.proofs.Math.Logic.{∥∥₁_map, ∥∥₁_map₂}
-use Rattle.append_ring.specs.declared.pass.RingPass.{RingPass}
+use Rattle.append_ring.specs.declared.pass.RingKey.{RingKey}
 use Rattle.log_service.specs.declared.item.Item.{Item}
-use Rattle.log_service.specs.Places.{Place}
+use Rattle.log_service.specs.Places.{ServiceId}
 use Rattle.log_service.specs.Closed.{stored_in}
 use Rattle.server_model.specs.Pass.{Pass as ThePass, Naming}
 use Rattle.server_model.specs.Closing.{Region, IsClosedRegion, Survives, Leaves}
@@ -19,20 +19,20 @@ use Rattle.region_calls.proofs.closed.CloseRefusal.into_disk.Goals as goal
 pub let_all_go-requires-clause-passes : goal.let_all_go-requires-clause-passes
 let_all_go-requires-clause-passes g c =
     let the = c.server.inside.service in
-    let of = subst (λ (p : Place). ArePassesOf p g.N.LockNaming.handlers c.args.self.passes) (sym c.server.view_is) c.requires.back.of in
+    let of = subst (λ (p : ServiceId). ArePassesOf p g.N.LockNaming.handlers c.args.self.passes) (sym c.server.view_is) c.requires.back.of in
     (the, of.back, omega (arith, c.server.invariant.1.locks))
 
 pub shut-disk-requires-clause-back : goal.shut-disk-requires-clause-back
 shut-disk-requires-clause-back g c =
     let the = c.server.inside.service in
-    let of = subst (λ (p : Place). ArePassesOf p g.N.LockNaming.handlers c.args.self.passes) (sym c.server.view_is) c.requires.back.of in
+    let of = subst (λ (p : ServiceId). ArePassesOf p g.N.LockNaming.handlers c.args.self.passes) (sym c.server.view_is) c.requires.back.of in
     c.let_all_go.ensures.of the of.back
 
 pub shut-disk-requires-clause-passes : goal.shut-disk-requires-clause-passes
 shut-disk-requires-clause-passes g c =
     let the = c.server.inside.service in
     let done = c.let_all_go.ensures in (
-      all_there (λ (p : RingPass Item). p.pass.table_id ≡ the.ring) c.let_all_go.new.places (λ j low.
+      all_there (λ (p : RingKey Item). p.pass.table_id ≡ the.ring) c.let_all_go.new.places (λ j low.
           let t = done.taken j (omega (arith, low, done.count.0)) in
           (t.2.pass, t.2.there, t.2.of_ring ∙ sym c.server.invariant.0.ring_is)),
       omega (arith, done.count.0, c.server.invariant.1.locks),
@@ -53,7 +53,7 @@ returns-clause-left g c told r low high =
     let words : List ℕ = c.shut-disk.result.synced in
     let broken = c.shut-disk.result.broken in
     let disk = g.D.Disk.view c.shut-disk.result.disk in
-    let of = subst (λ (p : Place). ArePassesOf p handlers c.args.self.passes) (sym c.server.view_is) c.requires.back.of in
+    let of = subst (λ (p : ServiceId). ArePassesOf p handlers c.args.self.passes) (sym c.server.view_is) c.requires.back.of in
     let k : ℕ = r - 1 in
     let same : k + 1 ≡ r = omega (arith, low) in
     let within : k < the.regions = omega (arith, low, high, begun.all, ap (λ (n : Naming). n.regions) begun.named) in

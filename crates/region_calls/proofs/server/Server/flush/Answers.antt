@@ -1,6 +1,6 @@
 use Rattle.std.proofs.Common.{◌+◌, sym, ap, ◌∙◌, subst, arith}
 use Rattle.std.specs.Option.{option_map}
-use Rattle.log_service.specs.Places.{Place, IsSeatOf}
+use Rattle.log_service.specs.Places.{ServiceId, IsSeatOf}
 use Rattle.region_lock.specs.Answers.{flush_answer}
 use Rattle.region_lock.proofs.Lists.{length_set}
 use Rattle.region_calls.proofs.Knowing.{hands_set}
@@ -16,7 +16,7 @@ returns-clause-flushes g c =
     let u = used pass.handler pass.calls c.args.self.now.regions c.args.region k pass.regions.items p c.requires.of.count c.place_of-place.ensures.place c.requires.region.0 c.place_of-place.ensures.few c.requires.of.hands c.index_mut.ensures.value in
     flushes_used g.N.ServerNaming.name g.N.VersionsNaming.region_base g.N.LockNaming.flushes c.args.region k (option_map (λ (f : _). f.now) c.args.family) (record { handler = pass.handler; call = c.args.call }) (flush_answer done.result)
     pass.handler pass.calls c.self.inside.service.regions pass.regions.items p done.new.at pass.seat done.new.seat u c.place_of-place.ensures.bases c.place_of-place.ensures.flushes
-    (c.requires.of.count ∙ sym (ap (λ (q : Place). q.regions) c.self.view_is)) (flush_is done.result) done.ensures.flushes done.ensures.later c.requires.call
+    (c.requires.of.count ∙ sym (ap (λ (q : ServiceId). q.regions) c.self.view_is)) (flush_is done.result) done.ensures.flushes done.ensures.later c.requires.call
 
 pub returns-clause-of : goal.returns-clause-of
 returns-clause-of g c =
@@ -28,7 +28,7 @@ returns-clause-of g c =
     let hand = flush_hand (g.N.VersionsNaming.region_base p.viewer.region) (g.N.LockNaming.flushes p.viewer.region) (k + 1) c.self.inside.service.regions pass.handler pass.calls
     (option_map (λ (f : _). f.now) c.args.family) (record { handler = pass.handler; call = c.args.call }) (flush_answer done.result) p done.new.at pass.seat done.new.seat _ _ u.hand done.ensures.same c.requires.call done.ensures.flushes in
     record {
-      seat = subst (λ (q : Place). IsSeatOf q done.new.seat) c.self.view_is done.ensures.seat;
+      seat = subst (λ (q : ServiceId). IsSeatOf q done.new.seat) c.self.view_is done.ensures.seat;
       count = length_set pass.regions.items k done.new.at ∙ c.requires.of.count;
       hands = hands_set pass.handler pass.calls c.args.call pass.regions.items k done.new.at c.requires.of.hands (omega (arith, c.requires.call)) hand;
     }

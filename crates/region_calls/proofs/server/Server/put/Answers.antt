@@ -1,5 +1,5 @@
 use Rattle.std.proofs.Common.{ℕ, ◌+◌, sym, ap, ◌∙◌, subst, arith}
-use Rattle.log_service.specs.Places.{Place, IsSeatOf}
+use Rattle.log_service.specs.Places.{ServiceId, IsSeatOf}
 use Rattle.region_lock.specs.Answers.{is_sync, put_answer}
 use Rattle.region_lock.specs.Puts.{IsFaultExact}
 use Rattle.region_lock.proofs.Lists.{length_set}
@@ -25,7 +25,7 @@ returns-clause-puts g c =
     let u = used pass.handler pass.calls c.args.self.now.regions c.args.region k pass.regions.items p c.requires.of.count c.place_of-place.ensures.place c.requires.region.0 c.place_of-place.ensures.few c.requires.of.hands c.index_mut.ensures.value in
     puts_used g.N.ServerNaming.name g.N.VersionsNaming.region_base c.args.time c.args.region k (is_sync c.args.durability) c.args.batch (record { handler = pass.handler; call = c.args.call }) (put_answer done.result)
     pass.handler pass.calls c.self.inside.service.regions pass.regions.items p done.new.at pass.seat done.new.seat u c.place_of-place.ensures.bases
-    (c.requires.of.count ∙ sym (ap (λ (q : Place). q.regions) c.self.view_is)) (put_is done.result) done.ensures.puts done.ensures.later c.requires.call
+    (c.requires.of.count ∙ sym (ap (λ (q : ServiceId). q.regions) c.self.view_is)) (put_is done.result) done.ensures.puts done.ensures.later c.requires.call
 
 pub returns-clause-exact : goal.returns-clause-exact
 returns-clause-exact g c =
@@ -46,7 +46,7 @@ returns-clause-of g c =
     let hand = put_hand (g.N.VersionsNaming.region_base p.viewer.region) c.args.time (k + 1) c.self.inside.service.regions pass.handler pass.calls (is_sync c.args.durability) c.args.batch
     (record { handler = pass.handler; call = c.args.call }) (put_answer done.result) p done.new.at pass.seat done.new.seat _ _ u.hand done.ensures.same c.requires.call done.ensures.puts in
     record {
-      seat = subst (λ (q : Place). IsSeatOf q done.new.seat) c.self.view_is done.ensures.seat;
+      seat = subst (λ (q : ServiceId). IsSeatOf q done.new.seat) c.self.view_is done.ensures.seat;
       count = length_set pass.regions.items k done.new.at ∙ c.requires.of.count;
       hands = hands_set pass.handler pass.calls c.args.call pass.regions.items k done.new.at c.requires.of.hands (omega (arith, c.requires.call)) hand;
     }

@@ -1,5 +1,5 @@
 use Rattle.std.proofs.Common.{sym, ap, ◌∙◌}
-use Rattle.log_service.specs.Places.{Place}
+use Rattle.log_service.specs.Places.{ServiceId}
 use Rattle.region_lock.specs.Answers.{roll_answer}
 use Rattle.region_calls.proofs.Using.{roll_is, rolls_used}
 use Rattle.region_calls.proofs.server.Server.roll.Goals as goal
@@ -9,4 +9,4 @@ returns-clause-rolls g c =
     let pass = c.args.pass.now in
     let done = c.roll_in in
     rolls_used c.self.inside.service.regions (roll_answer done.result) pass.handler pass.calls pass.regions.items pass.seat done.new.seat
-    (c.requires.of.count ∙ sym (ap (λ (q : Place). q.regions) c.self.view_is)) c.requires.of.hands (roll_is done.result) done.ensures.rolls
+    (c.requires.of.count ∙ sym (ap (λ (q : ServiceId). q.regions) c.self.view_is)) c.requires.of.hands (roll_is done.result) done.ensures.rolls

@@ -1,5 +1,5 @@
 use Rattle.std.proofs.Common.{◌≡◌, List, [], Option, get_or, refl, ap, subst, sym, ◌∙◌}
-use Rattle.seq_accounting.specs.declared.flushing.Room.{Room}
+use Rattle.seq_accounting.specs.declared.flushing.MarkRoom.{MarkRoom}
 use Rattle.seq_accounting.specs.Regions.{IsPouredAt}
 use Rattle.seq_accounting.specs.Rooms.{flush_of, family_of, IsRoom}
 use Rattle.seq_accounting.specs.Accounts.{Accounts, Flush}
@@ -12,7 +12,7 @@ pub returns-in-Some-clause-completed : goal.returns-in-Some-clause-completed
 returns-in-Some-clause-completed c =
     let s = c.«spend-region» in
     let has = subst (IsRoom s.result.region s.result.number) c.in-Some.is s.ensures.room in
-    let flush = ap (λ (o : Option Room). record { region = s.result.region; family = family_of o; number = s.result.number }) (sym c.in-Some.is) ∙ s.ensures.flush in
+    let flush = ap (λ (o : Option MarkRoom). record { region = s.result.region; family = family_of o; number = s.result.number }) (sym c.in-Some.is) ∙ s.ensures.flush in
     let under_way = subst (λ (f : Flush). get_or c.self.inside.flushing f.region 0 ≡ f.number) (sym s.ensures.flush) (subst (λ (a : Accounts). get_or a.flushing c.args.flushing.region 0 ≡ c.args.flushing.number) (sym c.self.view_is) c.requires) in
     rw (← c.self.view_is, ← flush) (completed_one _ _ s.result.region s.result.number c.in-Some.room.flushed.value.family c.in-Some.room.flushed.value c.in-Some.room.oldest.value c.put-in-Some.new.self c.self.invariant
     s.ensures.within has.given s.ensures.given under_way (record {
@@ -35,7 +35,7 @@ returns-in-Some-clause-history c notes h =
 pub returns-in-None-clause-completed : goal.returns-in-None-clause-completed
 returns-in-None-clause-completed c =
     let s = c.«spend-region» in
-    let flush = ap (λ (o : Option Room). record { region = s.result.region; family = family_of o; number = s.result.number }) (sym c.in-None.is) ∙ s.ensures.flush in
+    let flush = ap (λ (o : Option MarkRoom). record { region = s.result.region; family = family_of o; number = s.result.number }) (sym c.in-None.is) ∙ s.ensures.flush in
     rw (← c.self.view_is, ← flush) (completed_all _ _ s.result.region s.result.number c.self.invariant s.ensures.within (record {
       since = c.take-since.ensures.left;
       flushing = refl;

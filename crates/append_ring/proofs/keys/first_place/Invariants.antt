@@ -1,5 +1,5 @@
 use Rattle.append_ring.specs.Parts.{AreOut}
-use Rattle.append_ring.proofs.passes.first_place.Given as goal
+use Rattle.append_ring.proofs.keys.first_place.Given as goal
 
 abbrev pub invariant-loop-place : goal.invariant-loop-place
 invariant-loop-place g l = AreOut l.place l.places

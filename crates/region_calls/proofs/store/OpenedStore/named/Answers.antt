@@ -12,7 +12,7 @@ use Rattle.region_calls.specs.Seeds.{base_of}
 use Rattle.region_calls.specs.Store.{bases_of, disk_now, disk_found, disk_begun}
 use Rattle.region_calls.proofs.Begun.{len_map}
 use Rattle.region_calls.proofs.NamedSeeds.{named_seeds, base_of_region, last_at_base}
-use Rattle.region_calls.proofs.store.Opened.named.Goals as goal
+use Rattle.region_calls.proofs.store.OpenedStore.named.Goals as goal
 
 pub make_room-requires-clause-named : goal.make_room-requires-clause-named
 make_room-requires-clause-named g c =

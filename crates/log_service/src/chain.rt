@@ -8,17 +8,17 @@ use log_file::STAGE_BYTES;
 use log_trucks::{Chain, Truck};
 use std::marker::Model;
 
-/// Trucks, with the bytes that they take of a stage, each with one gate byte, and their number. Contracts see the trucks, in the order in
-/// which they were put in.
+/// Trucks on their way from the ring to the log's device, with the bytes that they take of a stage, each with one gate byte, and their
+/// number. Contracts see the trucks, in the order in which they were put in.
 #[derive(Drop)]
-pub struct Load {
+pub struct FrameChain {
     // The last one put in stands first.
     trucks: Chain,
     bytes: u64,
     entries: u64,
 }
 
-impl Model for Load {
+impl Model for FrameChain {
     ghost use Rattle.std.specs.Prelude.{◌≡◌, ◌≤◌, List, length, reverse};
     ghost use Rattle.log_trucks.specs.Held.{Held};
     ghost use Rattle.log_service.specs.Trucks.{IsMeasured};
@@ -30,16 +30,16 @@ impl Model for Load {
     ghost invariant = { λ l. IsMeasured l.bytes l.entries (reverse l.trucks) };
 }
 
-impl OfRegion for Load {
+impl OfRegion for FrameChain {
     ghost use Rattle.std.specs.Prelude.{None};
-    ghost use Rattle.log_service.specs.Loads.{IsWholeLoad, AreInOrder};
+    ghost use Rattle.log_service.specs.Chains.{IsWholeChain, AreInOrder};
     ghost use Rattle.log_service.specs.Order.{front_in_order};
 
     ghost place = { λ _. 1 };
 
     ghost number = { λ _. None };
 
-    ghost is_whole = { IsWholeLoad };
+    ghost is_whole = { IsWholeChain };
 
     ghost in_order = { AreInOrder };
 
@@ -56,12 +56,12 @@ impl OfRegion for Load {
     ghost order_front = { front_in_order };
 }
 
-impl Load {
+impl FrameChain {
     /// No truck.
-    pub(crate) fn new() -> Load
+    pub(crate) fn new() -> FrameChain
         ensures { result ≡ [] }
     {
-        Load {
+        FrameChain {
             trucks: Chain::new(),
             bytes: 0,
             entries: 0,

@@ -7,20 +7,20 @@ use Rattle.disk_images.specs.Crash.{DiskView, Throughout}
 use Rattle.log_trucks.specs.Held.{Held, AreHeld}
 use Rattle.log_device.specs.Bears.{Bears}
 use Rattle.log_device.specs.Leaves.{Leaves}
-use Rattle.log_device.specs.Whole.{disk_of, books_of}
+use Rattle.log_device.specs.Whole.{disk_of, numbers_of}
 use Rattle.log_service.specs.Trucks.{AreSpelled, FollowOn, size_of}
 use Rattle.log_service.specs.Commits.{all_staged_in, AreServed, drawn_in}
 use Rattle.log_service.proofs.Committed.{spelled_entries}
-use Rattle.log_service.proofs.staging.commit_load.Goals as goal
+use Rattle.log_service.proofs.staging.commit_chain.Goals as goal
 
 pub stage_all-requires-clause-served : goal.stage_all-requires-clause-served
-stage_all-requires-clause-served g c = subst (AreServed (books_of c.args.device.now)) (sym c.into_chain.ensures) c.requires.served
+stage_all-requires-clause-served g c = subst (AreServed (numbers_of c.args.device.now)) (sym c.into_chain.ensures) c.requires.served
 
 pub stage_all-requires-clause-spelled : goal.stage_all-requires-clause-spelled
 stage_all-requires-clause-spelled g c = subst AreSpelled (sym c.into_chain.ensures) c.requires.spelled
 
 pub stage_all-requires-clause-rising : goal.stage_all-requires-clause-rising
-stage_all-requires-clause-rising g c = (c.requires.rising.0, subst (FollowOn c.requires.rising.0 (drawn_in (books_of c.args.device.now))) (sym c.into_chain.ensures) c.requires.rising.1)
+stage_all-requires-clause-rising g c = (c.requires.rising.0, subst (FollowOn c.requires.rising.0 (drawn_in (numbers_of c.args.device.now))) (sym c.into_chain.ensures) c.requires.rising.1)
 
 pub stage_all-requires-clause-room : goal.stage_all-requires-clause-room
 stage_all-requires-clause-room g c file is =
@@ -30,7 +30,7 @@ stage_all-requires-clause-room g c file is =
 
 pub sync-requires : goal.sync-requires
 sync-requires g c told unbroken =
-    ∥∥₁_map₂ (c.requires.whole told) (spelled_entries c.args.load c.requires.spelled)
+    ∥∥₁_map₂ (c.requires.whole told) (spelled_entries c.args.chain c.requires.spelled)
     (λ w e. (all_staged_in w.0 e.0, c.stage_all.ensures.whole told w.0 e.0 w.1 (subst (λ (l : List Held). AreHeld l e.0) (sym c.into_chain.ensures) e.1)))
 
 moments : {D : Type 0} (view : D → DiskView) (stored stored' closed closed' : List ℕ) (a b : D) (w : DiskView) (staged es : List Entry) → stored' ≡ stored → closed' ≡ closed → b ≡ a → staged ≡ []
@@ -42,14 +42,14 @@ pub returns-in-Ok-clause-any_moment : goal.returns-in-Ok-clause-any_moment
 returns-in-Ok-clause-any_moment g c told h es whole none held =
     let mid = c.stage_all.new.device in
     let staged = c.stage_all.ensures.whole told h es whole (subst (λ (l : List Held). AreHeld l es) (sym c.into_chain.ensures) held) in
-    moments g.D.Disk.view (books_of c.args.device.now).stored (books_of mid).stored (books_of c.args.device.now).closed (books_of mid).closed (disk_of c.args.device.now) (disk_of mid) (g.D.Disk.view (disk_of c.sync.new.self)) h.kept.staged es
+    moments g.D.Disk.view (numbers_of c.args.device.now).stored (numbers_of mid).stored (numbers_of c.args.device.now).closed (numbers_of mid).closed (disk_of c.args.device.now) (disk_of mid) (g.D.Disk.view (disk_of c.sync.new.self)) h.kept.staged es
     c.stage_all.ensures.same.stored c.stage_all.ensures.same.closed c.stage_all.ensures.disk none (c.sync.ensures.syncs told (all_staged_in h es) staged).any_moment
 
 pub returns-in-Err-clause-any_moment : goal.returns-in-Err-clause-any_moment
 returns-in-Err-clause-any_moment g c told h es whole none held =
     let mid = c.stage_all.new.device in
     let staged = c.stage_all.ensures.whole told h es whole (subst (λ (l : List Held). AreHeld l es) (sym c.into_chain.ensures) held) in
-    moments g.D.Disk.view (books_of c.args.device.now).stored (books_of mid).stored (books_of c.args.device.now).closed (books_of mid).closed (disk_of c.args.device.now) (disk_of mid) (g.D.Disk.view (disk_of c.sync.new.self)) h.kept.staged es
+    moments g.D.Disk.view (numbers_of c.args.device.now).stored (numbers_of mid).stored (numbers_of c.args.device.now).closed (numbers_of mid).closed (disk_of c.args.device.now) (disk_of mid) (g.D.Disk.view (disk_of c.sync.new.self)) h.kept.staged es
     c.stage_all.ensures.same.stored c.stage_all.ensures.same.closed c.stage_all.ensures.disk none (c.sync.ensures.syncs told (all_staged_in h es) staged).any_moment
 
 names_from : {D : Type 0} (view : D → DiskView) (base : Files) (next next' : List ℕ) (a b : D) (w : DiskView) (m n : Name) → next' ≡ next → b ≡ a → m ≡ n
@@ -62,7 +62,7 @@ returns-in-Ok-clause-names g c told h es file whole held is =
     let mid = c.stage_all.new.device in
     let staged = c.stage_all.ensures.whole told h es whole (subst (λ (l : List Held). AreHeld l es) (sym c.into_chain.ensures) held) in
     let now = c.stage_all.ensures.file file is in
-    names_from g.D.Disk.view h.kept.base (books_of c.args.device.now).next_store (books_of mid).next_store (disk_of c.args.device.now) (disk_of mid) (g.D.Disk.view (disk_of c.sync.new.self)) now.0.name file.name
+    names_from g.D.Disk.view h.kept.base (numbers_of c.args.device.now).next_store (numbers_of mid).next_store (disk_of c.args.device.now) (disk_of mid) (g.D.Disk.view (disk_of c.sync.new.self)) now.0.name file.name
     c.stage_all.ensures.same.next_store c.stage_all.ensures.disk now.3 ((c.sync.ensures.syncs told (all_staged_in h es) staged).names now.0 now.1)
 
 pub returns-in-Err-clause-names : goal.returns-in-Err-clause-names
@@ -70,17 +70,17 @@ returns-in-Err-clause-names g c told h es file whole held is =
     let mid = c.stage_all.new.device in
     let staged = c.stage_all.ensures.whole told h es whole (subst (λ (l : List Held). AreHeld l es) (sym c.into_chain.ensures) held) in
     let now = c.stage_all.ensures.file file is in
-    names_from g.D.Disk.view h.kept.base (books_of c.args.device.now).next_store (books_of mid).next_store (disk_of c.args.device.now) (disk_of mid) (g.D.Disk.view (disk_of c.sync.new.self)) now.0.name file.name
+    names_from g.D.Disk.view h.kept.base (numbers_of c.args.device.now).next_store (numbers_of mid).next_store (disk_of c.args.device.now) (disk_of mid) (g.D.Disk.view (disk_of c.sync.new.self)) now.0.name file.name
     c.stage_all.ensures.same.next_store c.stage_all.ensures.disk now.3 ((c.sync.ensures.syncs told (all_staged_in h es) staged).names now.0 now.1)
 
 pub returns-in-Ok-clause-few : goal.returns-in-Ok-clause-few
-returns-in-Ok-clause-few g c limit few = c.sync.ensures.books.few limit (c.stage_all.ensures.same.few limit few)
+returns-in-Ok-clause-few g c limit few = c.sync.ensures.numbers.few limit (c.stage_all.ensures.same.few limit few)
 
 pub returns-in-Err-clause-few : goal.returns-in-Err-clause-few
-returns-in-Err-clause-few g c limit few = c.sync.ensures.books.few limit (c.stage_all.ensures.same.few limit few)
+returns-in-Err-clause-few g c limit few = c.sync.ensures.numbers.few limit (c.stage_all.ensures.same.few limit few)
 
 pub returns-in-Ok-clause-rises : goal.returns-in-Ok-clause-rises
-returns-in-Ok-clause-rises g c r = let same = ap (λ (l : List ℕ). get_or l r 0) c.stage_all.ensures.same.synced in omega (arith, same, c.sync.ensures.books.never_falls r)
+returns-in-Ok-clause-rises g c r = let same = ap (λ (l : List ℕ). get_or l r 0) c.stage_all.ensures.same.synced in omega (arith, same, c.sync.ensures.numbers.never_falls r)
 
 pub returns-in-Err-clause-rises : goal.returns-in-Err-clause-rises
-returns-in-Err-clause-rises g c r = let same = ap (λ (l : List ℕ). get_or l r 0) c.stage_all.ensures.same.synced in omega (arith, same, c.sync.ensures.books.never_falls r)
+returns-in-Err-clause-rises g c r = let same = ap (λ (l : List ℕ). get_or l r 0) c.stage_all.ensures.same.synced in omega (arith, same, c.sync.ensures.numbers.never_falls r)

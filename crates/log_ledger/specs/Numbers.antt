@@ -9,7 +9,7 @@ use Rattle.seq_accounting.specs.Live.{AreCounted, AreRisingTo}
 use Rattle.seq_accounting.specs.Order.{IsInOrder}
 use Rattle.log_trucks.specs.Held.{Held, AreHeld}
 
-pub record Books : Type 0 where
+pub record Numbers : Type 0 where
   -- the last sequence id staged of each region, and the last one committed
   pub drawn : List ℕ
   pub synced : List ℕ
@@ -24,11 +24,11 @@ pub record Books : Type 0 where
   pub chains : List (List Held)
 
 -- the device serves this region
-abbrev pub IsServed : Books → ℕ → Type 0
+abbrev pub IsServed : Numbers → ℕ → Type 0
 IsServed b r = 0 < get_or b.next_store r 0
 
 -- each list has a place for each region
-pub record AreWide (b : Books) : Type 0 where
+pub record AreWide (b : Numbers) : Type 0 where
   pub drawn : length b.drawn ≡ 65
   pub synced : length b.synced ≡ 65
   pub stored : length b.stored ≡ 65
@@ -53,7 +53,7 @@ pub record IsChain (a : Accounts) (r stored drawn : ℕ) (chain : List Held) : T
   pub numbers : (h : Held) → Contains chain h → (stored < h.number) × (h.number ≤ drawn)
 
 -- the numbers of one region
-pub record IsRegionInOrder (b : Books) (r : ℕ) : Type 0 where
+pub record IsRegionInOrder (b : Numbers) (r : ℕ) : Type 0 where
   pub drawn : get_or b.drawn r 0 < 2 ^ 48
   pub noted : get_or b.accounts.noted r 0 ≡ get_or b.drawn r 0
   pub synced : get_or b.synced r 0 ≤ get_or b.drawn r 0
@@ -72,39 +72,39 @@ notes_of r notes = filter (λ x. x.region == r) notes
 
 -- So many flushes of the region came off since a moment at which its next store's number was at most limit + 1, and each took a
 -- family of an entry that wasn't flushed.
-pub record IsStoreFew (limit : ℕ) (b : Books) (notes : List Note) (r : ℕ) : Type 0 where
+pub record IsStoreFew (limit : ℕ) (b : Numbers) (notes : List Note) (r : ℕ) : Type 0 where
   pub flushes : ℕ
   pub counted : AreCounted flushes (flushed_at b.accounts r) (notes_of r notes)
   pub small : AllByRecursion (λ (x : Note). length x.families ≤ 1024) (notes_of r notes)
   pub rising : AreRisingTo 0 (notes_of r notes) (get_or b.drawn r 0)
   pub next_store : get_or b.next_store r 0 ≤ limit + 1 + flushes
 
-pub record HasFewStores (limit : ℕ) (b : Books) : Type 0 where
+pub record HasFewStores (limit : ℕ) (b : Numbers) : Type 0 where
   pub notes : List Note
   pub noted : HasNoted b.accounts notes
   pub each : (r : ℕ) → IsStoreFew limit b notes r
 
 -- there are no more new store files than flushes that came off, and these are bounded by the families of the entries
-abbrev pub AreStoresFew : ℕ → Books → Type 0
+abbrev pub AreStoresFew : ℕ → Numbers → Type 0
 AreStoresFew limit b = ∥ HasFewStores limit b ∥₁
 
 -- so the numbers of store files are bounded
 abbrev pub FewStoresAreFew : Type 0
-FewStoresAreFew = (limit : ℕ) (b : Books) (r : ℕ) → AreStoresFew limit b → get_or b.drawn r 0 < 2 ^ 48 → get_or b.next_store r 0 < limit + 1 + 2 ^ 58
+FewStoresAreFew = (limit : ℕ) (b : Numbers) (r : ℕ) → AreStoresFew limit b → get_or b.drawn r 0 < 2 ^ 48 → get_or b.next_store r 0 < limit + 1 + 2 ^ 58
 
 -- what always holds, whatever a disk told
-pub record AreInOrder (b : Books) : Type 0 where
+pub record AreInOrder (b : Numbers) : Type 0 where
   pub wide : AreWide b
   pub accounts : IsInOrder b.accounts
   pub regions : (r : ℕ) → IsRegionInOrder b r
   pub few : AreStoresFew (2 ^ 63) b
 
 -- a family of the region, this one or any where it is empty, has a number that isn't flushed
-abbrev pub IsLeft : Books → ℕ → List ℕ → Type 0
+abbrev pub IsLeft : Numbers → ℕ → List ℕ → Type 0
 IsLeft b r family = ∥ ((f : List ℕ) × IsFor family f × (0 < oldest_at b.accounts r f)) ∥₁
 
 -- what is told of regions is the same
-pub record SameRegions (old new : Books) : Type 0 where
+pub record SameRegions (old new : Numbers) : Type 0 where
   pub drawn : new.drawn ≡ old.drawn
   pub synced : new.synced ≡ old.synced
   pub stored : new.stored ≡ old.stored

@@ -3,7 +3,7 @@ use Rattle.std.proofs.lemmas.Grind.{reverse_onto}
 use Rattle.log_trucks.specs.Held.{Held, Haul, held_of}
 use Rattle.log_service.specs.Trucks.{size_of}
 use Rattle.log_service.proofs.Chains.{size_one_more}
-use Rattle.log_service.proofs.load.Load.push.Goals as goal
+use Rattle.log_service.proofs.chain.FrameChain.push.Goals as goal
 
 pub invariant_of-self : goal.invariant_of-self
 invariant_of-self c =

@@ -1,5 +1,5 @@
 use Rattle.std.specs.Prelude.{◌≡◌, ◌≤◌, false}
-use Rattle.log_service.proofs.service.LogService.hand_load.Given as goal
+use Rattle.log_service.proofs.service.LogService.hand_chain.Given as goal
 
 abbrev pub invariant-loop-try : goal.invariant-loop-try
 invariant-loop-try g l = record {
