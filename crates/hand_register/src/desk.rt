@@ -28,7 +28,10 @@ impl<X: Drop> Model for Desk<X> {
 
     ghost view = { λ d. record { id = d.seat.table_id; records = d.seat.me.0.all } };
 
-    ghost invariant = { λ d. (d.seat.table_id ≡ d.table.shared.table_id) × (d.table.shared.table_id.words ≡ 1) × (d.table.shared.table_id.slots ≡ 0) × (d.seat.me ≡ (desk_of d.seat.me.0.all d.seat.me.0.outs, [])) };
+    ghost invariant = { λ d. (d.seat.table_id ≡ d.table.shared.table_id)
+        × (d.table.shared.table_id.words ≡ 1)
+        × (d.table.shared.table_id.slots ≡ 0)
+        × (d.seat.me ≡ (desk_of d.seat.me.0.all d.seat.me.0.outs, [])) };
 }
 
 /// A desk and its hands.

@@ -35,9 +35,25 @@ impl Model for Ledger {
 
     ghost Value = { Numbers };
 
-    ghost view = { λ l. record { drawn = l.drawn; synced = l.synced; stored = l.stored; closed = l.closed; next_store = l.next_store; accounts = l.accounts; chains = l.chains } };
+    ghost view = { λ l. record {
+      drawn = l.drawn;
+      synced = l.synced;
+      stored = l.stored;
+      closed = l.closed;
+      next_store = l.next_store;
+      accounts = l.accounts;
+      chains = l.chains;
+    } };
 
-    ghost invariant = { λ l. AreInOrder (record { drawn = l.drawn; synced = l.synced; stored = l.stored; closed = l.closed; next_store = l.next_store; accounts = l.accounts; chains = l.chains }) };
+    ghost invariant = { λ l. AreInOrder (record {
+      drawn = l.drawn;
+      synced = l.synced;
+      stored = l.stored;
+      closed = l.closed;
+      next_store = l.next_store;
+      accounts = l.accounts;
+      chains = l.chains;
+    }) };
 }
 
 impl Ledger {

@@ -69,7 +69,8 @@ impl<N: ServiceNaming> ConsumerHalf<N> {
         requires region { (0 < region) × (region ≤ committer.old.regions) }
         requires family { IfSome family (λ f. (1 ≤ length f.now) × (length f.now ≤ 127)) }
         ensures flushed { IfOk result
-            (λ n. (upto ≤ n) × IsFlushedTo region (option_map (λ f. f.now) family.entry) n (numbers_of committer.old.device) (numbers_of committer.new.device)) }
+            (λ n. (upto ≤ n) × IsFlushedTo region (option_map (λ f. f.now) family.entry) n
+            (numbers_of committer.old.device) (numbers_of committer.new.device)) }
         ensures nothing { (n : ℕ) → result ≡ Err (DeviceFlush.Nothing n)
             → (upto ≤ n) × HasNoneAbove region (option_map (λ f. f.now) family.entry) n (numbers_of committer.new.device) }
         ensures broken { IsErrOf result DeviceFlush.WriteFault ↔ IsBroken committer.new.device }

@@ -150,7 +150,8 @@ impl<
     }
 
     /// Writes what is logged of a family of a region (1 to 127 bytes), or of all where none is given, to a store file, and answers up to which
-    /// number: it is at or above each one of the region that the pass has seen. Where a flush of the region by another handler was under way at the look under the region's lock, it answers that one.
+    /// number: it is at or above each one of the region that the pass has seen. Where a flush of the region by another handler was under way
+    /// at the look under the region's lock, it answers that one.
     pub fn flush<S: Wait>(
         &self,
         rt: &S,

@@ -47,5 +47,6 @@ impl<
 
     ghost view = { λ s. s.service };
 
-    ghost invariant = { λ s. IsBegun D.told N.name N.found N.handlers N.flushes N.ring N.lasts N.begun N.region_base s.service × AreLocked s.service (length s.regions.items) s.places };
+    ghost invariant = { λ s. IsBegun D.told N.name N.found N.handlers N.flushes N.ring N.lasts N.begun N.region_base s.service
+        × AreLocked s.service (length s.regions.items) s.places };
 }

@@ -43,7 +43,8 @@ impl<
 
     ghost view = { λ u. u.state.region };
 
-    ghost invariant = { λ u. IsUnlocked (N.desk u.state.region) (N.spent u.state.region) (N.region_base u.state.region) N.lasts N.handlers u.state u.desk u.spent u.history u.shower.shown };
+    ghost invariant = { λ u. IsUnlocked (N.desk u.state.region) (N.spent u.state.region) (N.region_base u.state.region) N.lasts N.handlers
+        u.state u.desk u.spent u.history u.shower.shown };
 }
 
 /// The region, and the hands of its handlers.

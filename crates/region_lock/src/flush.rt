@@ -66,9 +66,10 @@ fn unmark<
     unreachable!()
 }
 
-/// A flush of one region, of one family (1 to 127 bytes) or of all where none is given: the look under the region's lock, which sets this flush's mark; the log's flush up to the write point that was
-/// found there, with no lock held; and the mark is taken away, whatever the log answered. The number flushed is at or above each one of the
-/// region that the pass has seen. `Flushing` exactly where a flush by that caller was under way at the look.
+/// A flush of one region, of one family (1 to 127 bytes) or of all where none is given: the look under the region's lock, which sets this
+/// flush's mark; the log's flush up to the write point that was found there, with no lock held; and the mark is taken away, whatever the log
+/// answered. The number flushed is at or above each one of the region that the pass has seen. `Flushing` exactly where a flush by that
+/// caller was under way at the look.
 pub fn flush_in<
     N: LockNaming + log_service::ServiceNaming + region_versions::VersionsNaming,
     D: Disk,

@@ -35,7 +35,11 @@ impl Model for Layers {
 
     ghost coded = { coded_layered };
 
-    ghost view = { λ l. record { merged = joined l.parts; waiting = all_of arc_value l.next l.waiting.items; room = deque_capacity l.waiting - deque_len l.waiting } };
+    ghost view = { λ l. record {
+      merged = joined l.parts;
+      waiting = all_of arc_value l.next l.waiting.items;
+      room = deque_capacity l.waiting - deque_len l.waiting;
+    } };
 }
 
 impl Layers {

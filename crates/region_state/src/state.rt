@@ -43,7 +43,13 @@ impl Model for RegionState {
 
     ghost coded = { coded_state };
 
-    ghost view = { λ s. record { region = s.region; base = s.base; lines = s.lines.items; shown = s.shown; room = min (vec_capacity s.lines - vec_len s.lines) (min s.queue.room s.layers.room) } };
+    ghost view = { λ s. record {
+      region = s.region;
+      base = s.base;
+      lines = s.lines.items;
+      shown = s.shown;
+      room = min (vec_capacity s.lines - vec_len s.lines) (min s.queue.room s.layers.room);
+    } };
 
     ghost invariant = { λ s. IsRegion s.region s.base s.lines.items s.queue.numbers s.layers.merged s.layers.waiting };
 }

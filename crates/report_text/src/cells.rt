@@ -78,7 +78,8 @@ fn append_tags(out: &mut Vec<u8>, tags: &[u8]) -> Result<(), NoMemory>
     append_word(out, tags)
 }
 
-/// Appends the line of a cell with the number of its edit: its tags are the last word exactly where it has some. After a refusal the vector begins with what it had.
+/// Appends the line of a cell with the number of its edit: its tags are the last word exactly where it has some. After a refusal the
+/// vector begins with what it had.
 pub fn append_cell(out: &mut Vec<u8>, number: u64, cell: &Cell) -> Result<(), NoMemory>
     ensures ok { OnOk result (out.new.items ≡ out.old.items ++ cell_line (number, cell.now)) }
     ensures reads { OnOk result (IsNumberedCell (number, cell.now)) }

@@ -41,7 +41,8 @@ pub(crate) fn write_kept<D: Disk>(
         (store_text Tagged (whole_store name from to (kept_by kind (cells_of merged.now))))) }
     // At each moment each image of the file isn't there, or is the whole store.
     ensures any_moment { IsTrue D.told → (by : ℕ) × Throughout (OnlyAt name
-        (IsWholeOrNot (store_text Tagged (whole_store name from to (kept_by kind (cells_of merged.now))))) (D.view disk.old)) by (D.view disk.old) (D.view disk.new) }
+        (IsWholeOrNot (store_text Tagged (whole_store name from to (kept_by kind (cells_of merged.now))))) (D.view disk.old))
+        by (D.view disk.old) (D.view disk.new) }
     ensures whole { IsStore (whole_store name from to (kept_by kind (cells_of merged.now))) }
     ensures count { IfOk result (λ n. n ≡ length (kept_by kind (cells_of merged.now))) }
     ensures touches { IsTrue D.told → Touches name (D.view disk.old) (D.view disk.new) }
