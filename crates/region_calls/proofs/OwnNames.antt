@@ -32,7 +32,7 @@ locks_named flushes store = record {
 abbrev pub service_named : {D N : Type 0} → Disks D → OpenedStore D → ServiceNames N
 service_named disk store = record {
   ring = ring_of store;
-  hand = chain_ring_of store;
+  chain_ring = chain_ring_of store;
   lasts = lasts_of (bases_of store);
   begun = (disk.view (disk_begun store)).files;
   start = (disk.view (disk_now store)).clock;
