@@ -14,7 +14,7 @@ use Rattle.command_base.proofs.Endings.{refused_so, same_disk}
 use Rattle.ship_queue.specs.declared.error.ShipRefusal.TheVariants.{Memory}
 use Rattle.ship_command.proofs.Ships.{none_written, refused_ends as ship_refused}
 use Rattle.load_run.specs.Words.{Word, To_log, To_show, To_dump, To_ship, To_recover, To_compact, To_run, To_load}
-use Rattle.load_run.specs.Top.{Ends, IsStatusFor, MayLeave}
+use Rattle.load_run.specs.Commands.{profile, profile_of}
 
 -- the same, where a fault of the source is allowed for too
 pub load_full : (status : Status) (name : Name) → IsOrEarlier status (ends.NotEmpty name) (ends.DiskFault ∷ []) → IsOrEarlier status (ends.NotEmpty name) (ends.SourceFault ∷ ends.DiskFault ∷ [])
@@ -35,10 +35,10 @@ untouched : (v : DiskView) → KeepsFound v v
 untouched v J image = ∣ inl image ∣₁
 
 pub unread_ends : (word : Word) (status : Status) (script had has : List ℕ) (v : DiskView) (rose sank : Type 0) → status ≡ ends.Memory → Prints had has refused_memory sank
-    → Ends word status (invocation script v v had has) rose sank
-unread_ends word status script had has v rose sank is printed = subst (λ (s : Status). Ends word s (invocation script v v had has) rose sank) (sym is) (go word)
+    → (profile word).ends status (invocation script v v had has) rose sank
+unread_ends word status script had has v rose sank is printed = subst (λ (s : Status). (profile word).ends s (invocation script v v had has) rose sank) (sym is) (go word)
   where
-    go : (w : Word) → Ends w ends.Memory (invocation script v v had has) rose sank
+    go : (w : Word) → (profile w).ends ends.Memory (invocation script v v had has) rose sank
     go To_log = (refused_so had has refused_memory sank printed, same_disk v)
     go To_show = (refused_so had has refused_memory sank printed, same_disk v)
     go (To_dump n) = (refused_so had has refused_memory sank printed, same_disk v)
@@ -48,7 +48,7 @@ unread_ends word status script had has v rose sank is printed = subst (λ (s : S
     go To_run = inr (refused_so had has refused_memory sank printed, same_disk v)
     go (To_load options) = (refused_so had has refused_memory sank printed, untouched v)
 
-memory_for : (words : Option Word) → IsStatusFor words ends.Memory
+memory_for : (words : Option Word) → (profile_of words).may_end ends.Memory
 memory_for None = tt
 memory_for (Some To_log) = tt
 memory_for (Some To_show) = tt
@@ -59,10 +59,10 @@ memory_for (Some (To_compact kind r)) = tt
 memory_for (Some To_run) = tt
 memory_for (Some (To_load options)) = tt
 
-pub unread_status : (words : Option Word) (status : Status) → status ≡ ends.Memory → IsStatusFor words status
-unread_status words status is = subst (λ (s : Status). IsStatusFor words s) (sym is) (memory_for words)
+pub unread_status : (words : Option Word) (status : Status) → status ≡ ends.Memory → (profile_of words).may_end status
+unread_status words status is = subst (λ (s : Status). (profile_of words).may_end s) (sym is) (memory_for words)
 
-pub unread_leaves : (words : Option Word) (script : List ℕ) (v : DiskView) (J : Files) → IsImageNow v J → MayLeave words script v J
+pub unread_leaves : (words : Option Word) (script : List ℕ) (v : DiskView) (J : Files) → IsImageNow v J → (profile_of words).may_leave script v J
 unread_leaves None script v J image = image
 unread_leaves (Some To_log) script v J image = inl image
 unread_leaves (Some To_show) script v J image = image

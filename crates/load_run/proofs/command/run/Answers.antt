@@ -10,7 +10,7 @@ use Rattle.log_tail.specs.Position.{position_of}
 use Rattle.load_run.specs.Words.{word_of, To_log, To_show, To_dump, To_ship, To_recover, To_compact, To_run, To_load}
 use Rattle.command_base.specs.Invocation.{invocation}
 use Rattle.load_run.proofs.Finish.{ends_for, word_named, words_named, moments_of, script_told, status_of, none_status, show_reported, dump_reported, ship_reported, ship_lacks, recover_reported, compact_reported, run_reported, show_complete, dump_complete, ship_complete, recover_complete, compact_complete, run_complete}
-use Rattle.load_run.specs.Top.{MayLeave}
+use Rattle.load_run.specs.Commands.{profile_of}
 use Rattle.load_run.proofs.Load.{load_full, unread_ends, unread_status, unread_leaves}
 use Rattle.load_run.specs.declared.words.Word.TheVariants.{Log, Show, Dump, Ship, Recover, Compact, Run, Load}
 use Rattle.load_run.proofs.command.run.Goals as goal
@@ -248,7 +248,7 @@ returns-in_default-clause-ends g c told told_disk told_sink word names =
 
 pub returns-in_default-clause-any_moment : goal.returns-in_default-clause-any_moment
 returns-in_default-clause-any_moment g c told told_disk =
-    no_moment (MayLeave _ (g.S.Source.left c.args.script.now) (g.D.Disk.view c.args.disk)) (g.D.Disk.view c.args.disk)
+    no_moment ((profile_of _).may_leave (g.S.Source.left c.args.script.now) (g.D.Disk.view c.args.disk)) (g.D.Disk.view c.args.disk)
     (unread_leaves _ (g.S.Source.left c.args.script.now) (g.D.Disk.view c.args.disk))
 
 pub returns-in-Some-Compact-clause-ends : goal.returns-in-Some-Compact-clause-ends
