@@ -1,6 +1,7 @@
 //! An edit that is ready to be begun.
 
 ghost use Rattle.std.specs.Prelude.{◌≡◌, ℕ, ◌^◌, ◌<◌, ◌≤◌, IfOk};
+ghost use Rattle.std.specs.Arc.{arc_value};
 ghost use Rattle.region_model.specs.Lines.{pending};
 ghost use Rattle.region_lock.specs.Jobs.{IsJob, line_of};
 
@@ -39,7 +40,7 @@ pub fn prepare(
 {
     let bytes = encode_entry(alloc, region, 1, time, &batch)?;
     let marks = FamilyMarks::of_batch(alloc, &batch).map_err(|_| NoMemory)?;
-    let batch = Arc::new(alloc, batch).map_err(|_| NoMemory)?;
+    let batch = shared(alloc, batch)?;
     let draft = Draft::new(alloc, &batch)?;
     let truck = Box::new(
         alloc,
@@ -59,4 +60,11 @@ pub fn prepare(
         draft,
         truck,
     })
+}
+
+/// The batch, for several that share it.
+fn shared(alloc: Global, batch: Batch) -> Result<Arc<Batch, Global>, NoMemory>
+    ensures { IfOk result (λ it. arc_value it ≡ batch) }
+{
+    Arc::new(alloc, batch).map_err(|_| NoMemory)
 }
