@@ -73,7 +73,7 @@ dump n = record plain {
 -- no such position.
 abbrev pub ship : Position → Profile
 ship p = record plain {
-  ends = λ status o rose. EndsShip p status o;
+  ends = λ status o rose sank. EndsShip p status o sank;
   may_end = IsShipEnd;
   line = λ status. ⊥;
   damage = λ found left. IsShipDamage p found;

@@ -259,3 +259,12 @@ returns-in-Some-Compact-clause-ends g c told told_disk told_sink word names =
     (Rose (g.D.Disk.faults c.args.disk) (g.D.Disk.faults c.compact_region.new.disk)) (Rose (g.K.Sink.faults c.args.out.now) (g.K.Sink.faults c.compact_region.new.out))
     (word_named c.in-Ok.word (Compact c.in-Some-Compact.kind c.in-Some-Compact.region) _ word read c.in-Ok.ensures.named names)
     (c.compact_region.ensures.ends told_disk told_sink (g.S.Source.left c.args.script.now))
+
+pub returns-in-Some-Ship-clause-ends : goal.returns-in-Some-Ship-clause-ends
+returns-in-Some-Ship-clause-ends g c told told_disk told_sink word names =
+    let read : c.in-Ok.word ≡ Some (Ship c.in-Some-Ship.from) = search rules in
+    ends_for word (To_ship (position_of c.in-Some-Ship.from)) c.ship.result
+    (invocation (g.S.Source.left c.args.script.now) (g.D.Disk.view c.args.disk) (g.D.Disk.view c.ship.new.disk) (g.K.Sink.taken c.args.out.now) (g.K.Sink.taken c.ship.new.out))
+    (Rose (g.D.Disk.faults c.args.disk) (g.D.Disk.faults c.ship.new.disk)) (Rose (g.K.Sink.faults c.args.out.now) (g.K.Sink.faults c.ship.new.out))
+    (word_named c.in-Ok.word (Ship c.in-Some-Ship.from) _ word read c.in-Ok.ensures.named names)
+    (c.ship.ensures.ends told_disk told_sink (g.S.Source.left c.args.script.now))
