@@ -1,3 +1,4 @@
+pub mod CellLaws
 pub mod FewLaws
 pub mod FillingLaws
 pub mod GroupLaws

@@ -1,3 +1,4 @@
+pub mod Cells
 pub mod Grouping
 pub mod Spoken
 pub mod Stamps
