@@ -33,6 +33,7 @@ struct OtherFields {
     value: Octets,
 }
 
+/// The fields of a cell's column, each within its limits.
 fn column_fields(
     alloc: Global,
     row: &[u8],
@@ -56,6 +57,7 @@ fn column_fields(
     })
 }
 
+/// The fields behind its column, each within its limits. The time is that of the script's head, in milliseconds.
 fn other_fields(
     alloc: Global,
     time: u64,
