@@ -33,7 +33,6 @@ struct OtherFields {
     value: Octets,
 }
 
-/// The fields of a cell's column, each within its limits.
 fn column_fields(
     alloc: Global,
     row: &[u8],
@@ -57,7 +56,6 @@ fn column_fields(
     })
 }
 
-/// The fields behind its column, each within its limits. The time is that of the script's head, in milliseconds.
 fn other_fields(
     alloc: Global,
     time: u64,
