@@ -1,4 +1,3 @@
-pub mod Cells
 pub mod Grouping
 pub mod Spoken
 pub mod Stamps

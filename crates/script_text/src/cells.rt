@@ -1,83 +1,20 @@
 //! The line of a cell.
 
-ghost use Rattle.std.specs.Prelude.{◌≡◌, ◌<◌, ◌≤◌, ◌∷◌, IfOk, IsTrue, Some, length, map};
+ghost use Rattle.std.specs.Prelude.{◌≡◌, ◌<◌, ◌≤◌, IfOk, Some, length, map};
 ghost use Rattle.cell_model.specs.Batch.{body_length};
-ghost use Rattle.cell_model.specs.Cell.{is_kind};
-ghost use Rattle.kv_cell.specs.Kind.{code_of as kind_code};
-ghost use Rattle.script_model.specs.Fields.{bytes_of, cell_of, code_of, one_more, tagged_with, ts_of};
+ghost use Rattle.script_model.specs.Fields.{cell_of, one_more, tagged_with};
 ghost use Rattle.script_model.specs.Tables.{cell_fault, cell_in, cell_of_fields, due_fault, fields_fault, six_fields_fault, tagged_fault};
-ghost use Rattle.script_text.specs.Cells.{column_fault, other_fault};
 ghost use Rattle.script_text.specs.Why.{Tells};
 
 use crate::faults::{CellField, LineError, ScriptWhy};
 use crate::fields::{kind, sized, stamp};
 use crate::filling::Filling;
 use crate::here::{here, kind_here};
-use kv_cell::{Cell, Kind, Octets, RareOctets};
+use kv_cell::{Cell, RareOctets};
 use script_model::Command;
 use std::alloc::Global;
 
-/// The fields of a cell's column.
-#[derive(Drop)]
-struct ColumnFields {
-    row: Octets,
-    family: Octets,
-    qualifier: Octets,
-}
-
-/// The fields of a cell behind its column.
-#[derive(Drop)]
-struct OtherFields {
-    ts: u64,
-    kind: Kind,
-    value: Octets,
-}
-
-fn column_fields(
-    alloc: Global,
-    row: &[u8],
-    family: &[u8],
-    qualifier: &[u8],
-) -> Result<ColumnFields, LineError>
-    ensures value { IfOk result
-        (λ f. (f.row ≡ bytes_of row.now) × (f.family ≡ bytes_of family.now) × (f.qualifier ≡ bytes_of qualifier.now)) }
-    ensures row { IfOk result (λ f. (1 ≤ length f.row) × (length f.row ≤ 32767)) }
-    ensures family { IfOk result (λ f. (1 ≤ length f.family) × (length f.family ≤ 127)) }
-    ensures qualifier { IfOk result (λ f. length f.qualifier ≤ 32767) }
-    ensures exact { Tells result (column_fault row.now family.now qualifier.now) }
-{
-    let row = sized(alloc, row, 1, 32_767, CellField::Row)?;
-    let family = sized(alloc, family, 1, 127, CellField::Family)?;
-    let qualifier = sized(alloc, qualifier, 0, 32_767, CellField::Qualifier)?;
-    Ok(ColumnFields {
-        row,
-        family,
-        qualifier,
-    })
-}
-
-fn other_fields(
-    alloc: Global,
-    time: u64,
-    ts: &[u8],
-    name: &[u8],
-    value: &[u8],
-) -> Result<OtherFields, LineError>
-    requires time { time < 9223372036854775808 }
-    ensures value { IfOk result
-        (λ f. (f.ts ≡ ts_of time ts.now) × (kind_code f.kind ≡ code_of name.now) × (f.value ≡ bytes_of value.now)) }
-    ensures within { IfOk result
-        (λ f. (f.ts < 9223372036854775808) × IsTrue (is_kind (kind_code f.kind)) × (length f.value ≤ 65536)) }
-    ensures exact { Tells result (other_fault time ts.now name.now value.now) }
-{
-    let ts = stamp(time, ts)?;
-    let kind = kind(name)?;
-    let value = sized(alloc, value, 0, 65_536, CellField::Value)?;
-    Ok(OtherFields { ts, kind, value })
-}
-
 /// The cell of the six fields that each line of a cell has.
-#[tactic(auto, using(crate::proofs::CellLaws::column_first))]
 fn six_fields(
     alloc: Global,
     time: u64,
@@ -92,15 +29,19 @@ fn six_fields(
     ensures value { IfOk result (λ cell. cell ≡ cell_of time row.now family.now qualifier.now ts.now name.now value.now) }
     ensures exact { Tells result (six_fields_fault time row.now family.now qualifier.now ts.now name.now value.now) }
 {
-    let column = column_fields(alloc, row, family, qualifier)?;
-    let other = other_fields(alloc, time, ts, name, value)?;
+    let row = sized(alloc, row, 1, 32_767, CellField::Row)?;
+    let family = sized(alloc, family, 1, 127, CellField::Family)?;
+    let qualifier = sized(alloc, qualifier, 0, 32_767, CellField::Qualifier)?;
+    let ts = stamp(time, ts)?;
+    let kind = kind(name)?;
+    let value = sized(alloc, value, 0, 65_536, CellField::Value)?;
     Ok(Cell {
-        row: column.row,
-        family: column.family,
-        qualifier: column.qualifier,
-        ts: other.ts,
-        kind: other.kind,
-        value: other.value,
+        row,
+        family,
+        qualifier,
+        ts,
+        kind,
+        value,
         tags: RareOctets::none(),
     })
 }
@@ -184,38 +125,6 @@ fn tagged_line(
     Ok(cell)
 }
 
-/// The cell of six fields and those behind them, one or none.
-fn plain_or_tagged(
-    alloc: Global,
-    command: Command,
-    time: u64,
-    filling: &Filling,
-    row: &[u8],
-    family: &[u8],
-    qualifier: &[u8],
-    ts: &[u8],
-    name: &[u8],
-    value: &[u8],
-    behind: &[&[u8]],
-) -> Result<Cell, LineError>
-    requires time { time < 9223372036854775808 }
-    ensures room { IfOk result (λ cell. body_length (one_more filling.now cell) ≤ 1048576) }
-    ensures value { IfOk result
-        (λ cell. cell_of_fields time (row.now ∷ family.now ∷ qualifier.now ∷ ts.now ∷ name.now ∷ value.now ∷ map (λ w. w.now) behind.now) ≡ Some cell) }
-    ensures exact { Tells result
-        (fields_fault command time filling.now (row.now ∷ family.now ∷ qualifier.now ∷ ts.now ∷ name.now ∷ value.now ∷ map (λ w. w.now) behind.now)) }
-{
-    match behind {
-        [] => plain_line(
-            alloc, command, time, filling, row, family, qualifier, ts, name, value,
-        ),
-        [tags] => tagged_line(
-            alloc, command, time, filling, row, family, qualifier, ts, name, value, tags,
-        ),
-        _ => Err(LineError::Wrong(ScriptWhy::Word)),
-    }
-}
-
 /// The cell of its fields, six or seven, with room behind those so far.
 fn cell_line(
     alloc: Global,
@@ -230,8 +139,11 @@ fn cell_line(
     ensures exact { Tells result (fields_fault command time filling.now (map (λ w. w.now) fields.now)) }
 {
     match fields {
-        [row, family, qualifier, ts, kind, value, behind @ ..] => plain_or_tagged(
-            alloc, command, time, filling, row, family, qualifier, ts, kind, value, behind,
+        [row, family, qualifier, ts, kind, value] => plain_line(
+            alloc, command, time, filling, row, family, qualifier, ts, kind, value,
+        ),
+        [row, family, qualifier, ts, kind, value, tags] => tagged_line(
+            alloc, command, time, filling, row, family, qualifier, ts, kind, value, tags,
         ),
         _ => Err(LineError::Wrong(ScriptWhy::Word)),
     }
