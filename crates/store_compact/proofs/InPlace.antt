@@ -1,14 +1,14 @@
 -- One store takes the place of a region's others, from its first byte to the last of them that goes.
-use Rattle.std.proofs.Common.{◌≡◌, ◌≢◌, inl, inr, ℕ, ◌+◌, ◌<◌, ◌^◌, List, Contains, refl, sym, ap, ◌∙◌, subst, arith}
+use Rattle.std.proofs.Common.{◌≡◌, ◌≢◌, inl, inr, ℕ, ◌+◌, List, Contains, refl, sym, ap, ◌∙◌, arith}
 use Rattle.std.specs.FinMap.{empty}
 use Rattle.cell_model.specs.declared.form.Form.TheVariants.{Tagged}
-use Rattle.cell_model.specs.Order.{Content, NumberedCell, cells_of}
+use Rattle.cell_model.specs.Order.{Content, cells_of}
 use Rattle.cell_model.specs.Merge.{put_numbered}
 use Rattle.log_model.specs.declared.name.Name.{Name}
 use Rattle.log_model.specs.declared.name.NameKind.TheVariants as kinds
 use Rattle.log_model.specs.StoreText.{Store, IsStore, store_text}
 use Rattle.log_model.specs.Files.{Files, content, IsAbsent, IsFit, Reads}
-use Rattle.disk_images.specs.Crash.{DiskView, IsImageNow, Throughout, OnlyAt}
+use Rattle.disk_images.specs.Crash.{DiskView, Throughout, OnlyAt}
 use Rattle.disk_images.specs.OneFile.{Touches, IsDurableFile}
 use Rattle.disk_images.specs.Calls.{IsTrueDisk}
 use Rattle.disk_images.proofs.Moments.{at_once, joined, weaker}

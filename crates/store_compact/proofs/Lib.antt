@@ -1,4 +1,5 @@
 pub mod Covering
+pub mod Halves
 pub mod Stores
 pub mod Planned
 pub mod Moments

@@ -1,15 +1,15 @@
 -- Each moment of writing the store that takes the place of the others.
-use Rattle.std.proofs.Common.{◌≡◌, ◌≢◌, ◌⊎◌, inl, inr, ℕ, ◌+◌, List, Option, Some, None, refl, sym, ap, ◌∙◌, subst, arith}
+use Rattle.std.proofs.Common.{◌≡◌, ◌≢◌, inl, inr, ℕ, List, Some, sym, ap, ◌∙◌, subst}
 use Rattle.cell_model.specs.declared.form.Form.TheVariants.{Tagged}
 use Rattle.log_model.specs.declared.name.Name.{Name}
 use Rattle.log_model.specs.declared.name.NameKind.TheVariants as kinds
 use Rattle.log_model.specs.StoreText.{Store, store_text}
-use Rattle.log_model.specs.Files.{Files, content, IsAbsent, IsFit, HoldsEntries}
+use Rattle.log_model.specs.Files.{Files, content, IsAbsent, IsFit}
 use Rattle.disk_images.specs.Crash.{DiskView, IsImageNow, Throughout, OnlyAt}
 use Rattle.disk_images.specs.OneFile.{Touches, IsDurableFile}
 use Rattle.disk_images.specs.Calls.{IsTrueDisk}
 use Rattle.disk_images.specs.Settled.{Watches}
-use Rattle.disk_images.proofs.Moments.{at_once, at_end, weaker}
+use Rattle.disk_images.proofs.Moments.{at_end, weaker}
 use Rattle.disk_images.proofs.Watching.{was_image}
 use Rattle.store_file.specs.Whole.{IsWholeOrNot}
 use Rattle.recovery_laws.specs.Alike.{AllAlike}

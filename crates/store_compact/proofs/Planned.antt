@@ -1,13 +1,13 @@
 -- What files recover to where one store takes the place of a region's others.
-use Rattle.std.proofs.Common.{◌≡◌, ◌≢◌, ◌⊎◌, ◌↔◌, inl, inr, ℕ, ◌<◌, ◌≤◌, List, Contains, Option, Some, refl, sym, ap, ◌∙◌, subst, arith}
+use Rattle.std.proofs.Common.{◌≡◌, ◌⊎◌, inl, inr, ℕ, ◌<◌, ◌≤◌, List, Some, refl, sym, ap, ◌∙◌, subst, arith}
 use Rattle.std.proofs.lemmas.Bool.{cases_eq}
 use Rattle.cell_model.specs.declared.form.Form.TheVariants.{Tagged}
-use Rattle.cell_model.specs.Order.{VersionKey, Payload, payload_of, NumberedCell, version_of}
+use Rattle.cell_model.specs.Order.{NumberedCell}
 use Rattle.log_model.specs.declared.name.Name.{Name}
 use Rattle.log_model.specs.declared.name.NameKind.TheVariants as kinds
 use Rattle.log_model.specs.StoreText.{Store, IsStore, IsStoreText, IsThere, store_text}
 use Rattle.log_model.specs.Files.{Files, content, IsAbsent, IsPresent, IsStoreFile, IsFit}
-use Rattle.log_model.specs.Recovered.{IsCounting, IsStored, IsSeen, IsLast, Holds}
+use Rattle.log_model.specs.Recovered.{IsCounting, IsSeen, Holds}
 use Rattle.recovery_laws.specs.Kept.{HasNoLogs}
 use Rattle.recovery_laws.proofs.Names.{name_cases}
 use Rattle.recovery_laws.proofs.OneStore.{one_store}

@@ -1,10 +1,10 @@
 -- The cells of a region's stores, one behind the other, put in order are what is stored of it.
-use Rattle.std.proofs.Common.{◌≡◌, ◌≢◌, ◌↔◌, inl, inr, ℕ, ◌<◌, ◌≤◌, ◌^◌, List, [], ◌∷◌, ◌++◌, map, Contains, Option, Some, refl, sym, ap, ◌∙◌, subst, arith}
+use Rattle.std.proofs.Common.{◌≡◌, ◌↔◌, ℕ, ◌<◌, ◌≤◌, ◌^◌, List, [], ◌∷◌, map, Contains, Some, refl, sym, ap, ◌∙◌, subst, arith}
 use Rattle.std.specs.FinMap.{get, empty}
 use Rattle.std.specs.List.{AllByRecursion}
 use Rattle.cell_model.specs.Cell.{IsCell}
 use Rattle.cell_model.specs.Order.{VersionKey, Payload, Content, NumberedCell, cells_of}
-use Rattle.cell_model.specs.Merge.{IsRising, put_numbered}
+use Rattle.cell_model.specs.Merge.{put_numbered}
 use Rattle.log_model.specs.declared.name.Name.{Name}
 use Rattle.log_model.specs.StoreText.{Store, IsStore, IsStoredCell}
 use Rattle.log_model.specs.Files.{Files}
@@ -14,10 +14,10 @@ use Rattle.mem_segments.proofs.Contents.{rising-cells_of, content_of-cells_of, r
 use Rattle.flush_snapshot.specs.Cut.{cut_store, IsWithin, AreOf}
 use Rattle.flush_snapshot.proofs.Cuts.{cut_is_store}
 use Rattle.found_files.specs.declared.found.FoundStore.{FoundStore}
-use Rattle.found_files.specs.Found.{store_of, AreInNameOrder}
+use Rattle.found_files.specs.Found.{store_of}
 use Rattle.region_replay.specs.Bases.{Numbered, AreRising, stores_cells}
 use Rattle.region_replay.specs.Dealt as dealt
-use Rattle.region_replay.proofs.Sorting.{HasCell, put_all, Each, Newest, got_has, has_got, got_newest, newest_got, is_first, is_later}
+use Rattle.region_replay.proofs.Sorting.{HasCell, put_all, Each, got_has, has_got, got_newest, newest_got, is_first, is_later}
 use Rattle.region_replay.proofs.Lists.{in_map, to_map}
 use Rattle.region_replay.proofs.Finding.{all_append, weaker_all}
 use Rattle.region_replay.proofs.RegionsInOrder.{numbered, rising_of, cells_same}

@@ -1,18 +1,13 @@
 -- What was read of a region, and what is to replace it.
-use Rattle.std.proofs.Common.{◌≡◌, ◌⊎◌, inl, inr, ℕ, ◌+◌, ◌<◌, ◌≤◌, List, Contains, Result, Ok, Err, refl, sym, ap, ◌∙◌, subst, arith}
+use Rattle.std.proofs.Common.{◌≡◌, inl, ℕ, ◌+◌, ◌≤◌, List, Contains, refl, sym, ap, ◌∙◌, subst, arith}
 use Rattle.log_model.specs.declared.name.Name.{Name}
-use Rattle.log_model.specs.declared.name.NameKind.TheVariants as kinds
-use Rattle.log_model.specs.declared.damage.Damage.{Damage}
 use Rattle.log_model.specs.declared.damage.Damage.TheVariants as damages
-use Rattle.log_model.specs.Files.{Files, IsFit, IsLogFile}
-use Rattle.log_model.specs.Damage.{IsFirstDamageOf, IsDisagreement}
+use Rattle.log_model.specs.Files.{Files, IsFit}
 use Rattle.recovery_laws.specs.Kept.{HasNoLogs}
-use Rattle.disk_images.specs.Crash.{DiskView, IsImageNow, Throughout}
+use Rattle.disk_images.specs.Crash.{DiskView, IsImageNow}
 use Rattle.disk_images.proofs.Moments.{joined, weaker}
 use Rattle.found_files.specs.declared.found.FoundEntry.{FoundEntry}
 use Rattle.found_files.specs.declared.found.FoundStore.{FoundStore}
-use Rattle.found_files.specs.declared.refusal.SplitRefusal.{SplitRefusal}
-use Rattle.found_files.specs.declared.refusal.SplitRefusal.TheVariants as split_refusals
 use Rattle.found_files.specs.Found.{AreContents}
 use Rattle.found_files.specs.OfRegion.{AreNamesOf, IsDamageIn}
 use Rattle.found_files.specs.Counting.{AreCounting}

@@ -4,6 +4,7 @@
 
 mod compacting;
 mod kind;
+mod merging;
 mod range;
 mod refusal;
 mod removing;

@@ -11,12 +11,11 @@ ghost use Rattle.store_compact.specs.Ready.{IsAtRest};
 ghost use Rattle.store_compact.specs.Plan.{AreCovered, AreToReplace};
 
 use crate::kind::{CompactKind, Compacted};
+use crate::merging::merged_cells;
 use crate::removing::remove_stores;
 use crate::writing::write_kept;
 use disk_images::{Disk, Name};
 use found_files::FoundStore;
-use mem_segments::Segment;
-use region_replay::all_cells;
 use std::alloc::Global;
 use store_file::FileRefusal;
 
@@ -46,8 +45,7 @@ pub(crate) fn replace_stores<D: Disk>(
     ensures memory { IsErrOf result FileRefusal.Memory → disk.new ≡ disk.old }
     ensures cause { HasCause (D.faults disk.old) (D.faults disk.new) (IsErrOf result FileRefusal.DiskFault) }
 {
-    let cells = all_cells(alloc, stores)?;
-    let merged = Segment::of_cells(alloc, cells)?;
+    let merged = merged_cells(alloc, stores)?;
     let before = merged.len() as u64;
     let after = write_kept(alloc, disk, name, from, to, kind, &merged)?;
     match remove_stores(disk, names) {

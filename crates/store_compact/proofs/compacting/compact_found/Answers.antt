@@ -1,12 +1,9 @@
-use Rattle.std.proofs.Common.{◌≡◌, ◌≤◌, ◌<◌, ◌∙◌, IsTrue, length, List, Contains, Ok, Err, refl, sym, ap, subst, arith}
-use Rattle.std.specs.Prelude.{OnOk}
-use Rattle.std.proofs.lemmas.Result.{on_ok_weaker}
+use Rattle.std.proofs.Common.{◌≡◌, IsTrue, length, List, sym, ap, subst, arith}
 use Rattle.log_model.specs.declared.name.Name.{Name}
 use Rattle.found_files.specs.declared.found.FoundStore.{FoundStore}
-use Rattle.found_files.specs.Counting.{AreCountingOf}
 use Rattle.region_replay.specs.Alone.{IsNextStore}
 use Rattle.region_replay.specs.Names.{store_name}
-use Rattle.store_compact.specs.Compacting.{HasCounting, least_files}
+use Rattle.store_compact.specs.Compacting.{HasCounting}
 use Rattle.store_compact.specs.Plan.{AreCovered, AreToReplace}
 use Rattle.store_compact.proofs.Counting.{has_counting}
 use Rattle.store_compact.proofs.Reading.{least_given, low_regions, to_replace}

@@ -1,7 +1,5 @@
-use Rattle.std.proofs.Common.{◌+◌, ◌∙◌, sym, ap, subst, arith}
-use Rattle.std.proofs.lemmas.List.Elements.{Contains-get_or}
-use Rattle.found_files.specs.declared.found.FoundStore.{FoundStore}
-use Rattle.store_compact.proofs.Covering.{first_covered, one_covered, all_covered}
+use Rattle.std.proofs.Common.{sym, arith}
+use Rattle.store_compact.proofs.Covering.{one_covered, all_covered}
 use Rattle.store_compact.proofs.range.range_of.Goals as goal
 
 pub loop-store-preserved : goal.loop-store-preserved

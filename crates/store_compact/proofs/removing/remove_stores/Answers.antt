@@ -1,4 +1,4 @@
-use Rattle.std.proofs.Common.{◌≡◌, ◌+◌, ◌∙◌, Ok, Err, sym, ap, length, arith}
+use Rattle.std.proofs.Common.{◌+◌, ◌∙◌, Ok, Err, ap, length, arith}
 use Rattle.std.specs.Prelude.{Result, OnOk}
 use Rattle.log_model.specs.Files.{Files, content}
 use Rattle.disk_images.proofs.Moments.{more_time}

@@ -1,12 +1,9 @@
-use Rattle.std.proofs.Common.{◌≡◌, ◌+◌, ◌∙◌, IsTrue, List, Contains, Ok, Err, length, refl, sym, ap, subst, arith}
+use Rattle.std.proofs.Common.{◌+◌, ◌∙◌, IsTrue, Ok, Err, length, refl, sym, ap, arith}
 use Rattle.std.specs.Prelude.{Result, OnOk}
-use Rattle.std.specs.FinMap.{empty, entries, len-entries}
+use Rattle.std.specs.FinMap.{len, entries, len-entries}
 use Rattle.std.proofs.lemmas.List.{length-map}
-use Rattle.std.specs.List.{AllByRecursion}
-use Rattle.cell_model.specs.Cell.{IsCell}
 use Rattle.cell_model.specs.declared.form.Form.TheVariants.{Tagged}
-use Rattle.cell_model.specs.Order.{NumberedCell, cell_of, cells_of}
-use Rattle.cell_model.specs.Merge.{put_numbered}
+use Rattle.cell_model.specs.Order.{Content, cell_of, cells_of}
 use Rattle.log_model.specs.StoreText.{store_text}
 use Rattle.store_compact.specs.Compacting.{kept_by}
 use Rattle.store_compact.specs.Plan.{whole_store}
@@ -25,20 +22,15 @@ write_kept-requires-clause-absent g c told =
 
 pub write_kept-requires-clause-store : goal.write_kept-requires-clause-store
 write_kept-requires-clause-store g c =
-    let is = c.in_ok-merged.ensures.content ∙ ap (λ (l : List NumberedCell). put_numbered empty l) c.in_ok-cells.ensures in
-    merged_store c.args.name (omega arith) c.args.from c.args.to c.args.stores.items c.requires.these c.requires.covered c.in_ok-merged.merged is
-    (subst (λ (l : List NumberedCell). AllByRecursion (λ x. IsCell x.1) l) c.in_ok-cells.ensures c.in_ok-merged.ensures.within)
+    let is = c.deref-2.ensures ∙ c.in_ok-merged.ensures.content in
+    merged_store c.args.name (omega arith) c.args.from c.args.to c.args.stores.items c.requires.these c.requires.covered c.deref-2.result.now is
+    c.in_ok-merged.ensures.within
 
 pub remove_stores-requires-clause-there : goal.remove_stores-requires-clause-there
 remove_stores-requires-clause-there g c told =
     let v = g.D.Disk.view c.args.disk.now in
     let w = g.D.Disk.view c.write_kept.new.disk in
     still_there (IsTrue g.D.Disk.told) told v.files c.args.name c.args.names.now c.args.stores.items c.requires.these v w refl (c.write_kept.ensures.touches told)
-
-pub returns-in_err-cells-clause-any_moment : goal.returns-in_err-cells-clause-any_moment
-returns-in_err-cells-clause-any_moment g c told fit =
-    let v = g.D.Disk.view c.args.disk.now in
-    none_done v (c.requires.rest told) fit c.args.name.region c.args.kind
 
 pub returns-in_err-merged-clause-any_moment : goal.returns-in_err-merged-clause-any_moment
 returns-in_err-merged-clause-any_moment g c told fit =
@@ -49,39 +41,39 @@ pub returns-in_err-after-clause-any_moment : goal.returns-in_err-after-clause-an
 returns-in_err-after-clause-any_moment g c told fit =
     let v = g.D.Disk.view c.args.disk.now in
     let w = g.D.Disk.view c.write_kept.new.disk in
-    let is = c.in_ok-merged.ensures.content ∙ ap (λ (l : List NumberedCell). put_numbered empty l) c.in_ok-cells.ensures in
+    let is = c.deref-2.ensures ∙ c.in_ok-merged.ensures.content in
     let over = c.write_kept.ensures.any_moment told in
-    first_moments told v (c.requires.rest told) c.args.name c.args.names.now c.args.stores.items c.requires.these c.args.from c.args.to c.requires.covered c.in_ok-merged.merged is c.args.kind c.write_kept.ensures.whole over.0 w over.1 fit
+    first_moments told v (c.requires.rest told) c.args.name c.args.names.now c.args.stores.items c.requires.these c.args.from c.args.to c.requires.covered c.deref-2.result.now is c.args.kind c.write_kept.ensures.whole over.0 w over.1 fit
 
 pub returns-in-Ok-clause-any_moment : goal.returns-in-Ok-clause-any_moment
 returns-in-Ok-clause-any_moment g c told fit =
     let v = g.D.Disk.view c.args.disk.now in
     let w = g.D.Disk.view c.write_kept.new.disk in
     let x = g.D.Disk.view c.remove_stores.new.disk in
-    let is = c.in_ok-merged.ensures.content ∙ ap (λ (l : List NumberedCell). put_numbered empty l) c.in_ok-cells.ensures in
+    let is = c.deref-2.ensures ∙ c.in_ok-merged.ensures.content in
     let over = c.write_kept.ensures.any_moment told in
-    let second = c.remove_stores.ensures.any_moment told v.files c.args.name (store_text Tagged (whole_store c.args.name c.args.from c.args.to (kept_by c.args.kind (cells_of c.in_ok-merged.merged)))) (ready_to_go told v (c.requires.rest told) c.args.name c.args.names.now c.args.stores.items c.requires.these c.args.from c.args.to c.requires.covered c.in_ok-merged.merged is c.args.kind c.write_kept.ensures.whole over.0 w over.1 (g.met.D.Disk.is_true c.args.disk.now told) (c.write_kept.ensures.touches told) (c.in_ok-after.ensures.stored told)) (are_others (IsTrue g.D.Disk.told) told v.files c.args.name c.args.names.now c.args.stores.items c.requires.these) in
-    all_moments told v (c.requires.rest told) c.args.name c.args.names.now c.args.stores.items c.requires.these c.args.from c.args.to c.requires.covered c.in_ok-merged.merged is c.args.kind c.write_kept.ensures.whole over.0 w over.1 fit (length c.args.names.now + 1) x second
+    let second = c.remove_stores.ensures.any_moment told v.files c.args.name (store_text Tagged (whole_store c.args.name c.args.from c.args.to (kept_by c.args.kind (cells_of c.deref-2.result.now)))) (ready_to_go told v (c.requires.rest told) c.args.name c.args.names.now c.args.stores.items c.requires.these c.args.from c.args.to c.requires.covered c.deref-2.result.now is c.args.kind c.write_kept.ensures.whole over.0 w over.1 (g.met.D.Disk.is_true c.args.disk.now told) (c.write_kept.ensures.touches told) (c.in_ok-after.ensures.stored told)) (are_others (IsTrue g.D.Disk.told) told v.files c.args.name c.args.names.now c.args.stores.items c.requires.these) in
+    all_moments told v (c.requires.rest told) c.args.name c.args.names.now c.args.stores.items c.requires.these c.args.from c.args.to c.requires.covered c.deref-2.result.now is c.args.kind c.write_kept.ensures.whole over.0 w over.1 fit (length c.args.names.now + 1) x second
 
 pub returns-clause-any_moment : goal.returns-clause-any_moment
 returns-clause-any_moment g c told fit =
     let v = g.D.Disk.view c.args.disk.now in
     let w = g.D.Disk.view c.write_kept.new.disk in
     let x = g.D.Disk.view c.remove_stores.new.disk in
-    let is = c.in_ok-merged.ensures.content ∙ ap (λ (l : List NumberedCell). put_numbered empty l) c.in_ok-cells.ensures in
+    let is = c.deref-2.ensures ∙ c.in_ok-merged.ensures.content in
     let over = c.write_kept.ensures.any_moment told in
-    let second = c.remove_stores.ensures.any_moment told v.files c.args.name (store_text Tagged (whole_store c.args.name c.args.from c.args.to (kept_by c.args.kind (cells_of c.in_ok-merged.merged)))) (ready_to_go told v (c.requires.rest told) c.args.name c.args.names.now c.args.stores.items c.requires.these c.args.from c.args.to c.requires.covered c.in_ok-merged.merged is c.args.kind c.write_kept.ensures.whole over.0 w over.1 (g.met.D.Disk.is_true c.args.disk.now told) (c.write_kept.ensures.touches told) (c.in_ok-after.ensures.stored told)) (are_others (IsTrue g.D.Disk.told) told v.files c.args.name c.args.names.now c.args.stores.items c.requires.these) in
-    all_moments told v (c.requires.rest told) c.args.name c.args.names.now c.args.stores.items c.requires.these c.args.from c.args.to c.requires.covered c.in_ok-merged.merged is c.args.kind c.write_kept.ensures.whole over.0 w over.1 fit (length c.args.names.now + 1) x second
+    let second = c.remove_stores.ensures.any_moment told v.files c.args.name (store_text Tagged (whole_store c.args.name c.args.from c.args.to (kept_by c.args.kind (cells_of c.deref-2.result.now)))) (ready_to_go told v (c.requires.rest told) c.args.name c.args.names.now c.args.stores.items c.requires.these c.args.from c.args.to c.requires.covered c.deref-2.result.now is c.args.kind c.write_kept.ensures.whole over.0 w over.1 (g.met.D.Disk.is_true c.args.disk.now told) (c.write_kept.ensures.touches told) (c.in_ok-after.ensures.stored told)) (are_others (IsTrue g.D.Disk.told) told v.files c.args.name c.args.names.now c.args.stores.items c.requires.these) in
+    all_moments told v (c.requires.rest told) c.args.name c.args.names.now c.args.stores.items c.requires.these c.args.from c.args.to c.requires.covered c.deref-2.result.now is c.args.kind c.write_kept.ensures.whole over.0 w over.1 fit (length c.args.names.now + 1) x second
 
 pub returns-in-Ok-clause-compacted : goal.returns-in-Ok-clause-compacted
 returns-in-Ok-clause-compacted g c told fit =
     let v = g.D.Disk.view c.args.disk.now in
     let w = g.D.Disk.view c.write_kept.new.disk in
     let x = g.D.Disk.view c.remove_stores.new.disk in
-    let is = c.in_ok-merged.ensures.content ∙ ap (λ (l : List NumberedCell). put_numbered empty l) c.in_ok-cells.ensures in
+    let is = c.deref-2.ensures ∙ c.in_ok-merged.ensures.content in
     let over = c.write_kept.ensures.any_moment told in
-    let replaced = c.in-Ok.ensures.replaced told v.files c.args.name (store_text Tagged (whole_store c.args.name c.args.from c.args.to (kept_by c.args.kind (cells_of c.in_ok-merged.merged)))) (ready_to_go told v (c.requires.rest told) c.args.name c.args.names.now c.args.stores.items c.requires.these c.args.from c.args.to c.requires.covered c.in_ok-merged.merged is c.args.kind c.write_kept.ensures.whole over.0 w over.1 (g.met.D.Disk.is_true c.args.disk.now told) (c.write_kept.ensures.touches told) (c.in_ok-after.ensures.stored told)) (are_others (IsTrue g.D.Disk.told) told v.files c.args.name c.args.names.now c.args.stores.items c.requires.these) in
-    λ J now. done told v (c.requires.rest told) c.args.name c.args.names.now c.args.stores.items c.requires.these c.args.from c.args.to c.requires.covered c.in_ok-merged.merged is c.args.kind c.write_kept.ensures.whole fit J (replaced J now) (λ m has store. c.in-Ok.ensures.gone told J m now has store)
+    let replaced = c.in-Ok.ensures.replaced told v.files c.args.name (store_text Tagged (whole_store c.args.name c.args.from c.args.to (kept_by c.args.kind (cells_of c.deref-2.result.now)))) (ready_to_go told v (c.requires.rest told) c.args.name c.args.names.now c.args.stores.items c.requires.these c.args.from c.args.to c.requires.covered c.deref-2.result.now is c.args.kind c.write_kept.ensures.whole over.0 w over.1 (g.met.D.Disk.is_true c.args.disk.now told) (c.write_kept.ensures.touches told) (c.in_ok-after.ensures.stored told)) (are_others (IsTrue g.D.Disk.told) told v.files c.args.name c.args.names.now c.args.stores.items c.requires.these) in
+    λ J now. done told v (c.requires.rest told) c.args.name c.args.names.now c.args.stores.items c.requires.these c.args.from c.args.to c.requires.covered c.deref-2.result.now is c.args.kind c.write_kept.ensures.whole fit J (replaced J now) (λ m has store. c.in-Ok.ensures.gone told J m now has store)
 
 pub returns-in_err-after-clause-others : goal.returns-in_err-after-clause-others
 returns-in_err-after-clause-others g c told m other =
@@ -103,10 +95,10 @@ returns-clause-others g c told m other =
 pub returns-in-Ok-clause-counts : goal.returns-in-Ok-clause-counts
 returns-in-Ok-clause-counts g c told =
     let v = g.D.Disk.view c.args.disk.now in
-    let is = c.in_ok-merged.ensures.content ∙ ap (λ (l : List NumberedCell). put_numbered empty l) c.in_ok-cells.ensures in
+    let is = c.deref-2.ensures ∙ c.in_ok-merged.ensures.content in
     record {
-      cells = cells_of c.in_ok-merged.merged;
-      stored = cells_stored told v (c.requires.rest told) c.args.name c.args.names.now c.args.stores.items c.requires.these c.args.from c.args.to c.requires.covered c.in_ok-merged.merged is c.args.kind c.write_kept.ensures.whole;
-      before = c.len-before.ensures ∙ len-entries c.in_ok-merged.merged ∙ sym (length-map (entries c.in_ok-merged.merged) cell_of);
+      cells = cells_of c.deref-2.result.now;
+      stored = cells_stored told v (c.requires.rest told) c.args.name c.args.names.now c.args.stores.items c.requires.these c.args.from c.args.to c.requires.covered c.deref-2.result.now is c.args.kind c.write_kept.ensures.whole;
+      before = c.len-before.ensures ∙ ap (λ (m : Content). len m) (c.deref.ensures ∙ sym c.deref-2.ensures) ∙ len-entries c.deref-2.result.now ∙ sym (length-map (entries c.deref-2.result.now) cell_of);
       after = c.in_ok-after.ensures.count;
     }

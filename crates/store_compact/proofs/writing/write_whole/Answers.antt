@@ -1,7 +1,6 @@
-use Rattle.std.proofs.Common.{◌≡◌, ◌+◌, ◌∙◌, [], refl, sym, ap, subst, length, arith}
+use Rattle.std.proofs.Common.{◌+◌, sym, subst, length}
 use Rattle.cell_model.specs.declared.form.Form.TheVariants.{Tagged}
-use Rattle.log_model.specs.declared.name.Name.{Name}
-use Rattle.log_model.specs.StoreText.{Store, IsStore, store_text}
+use Rattle.log_model.specs.StoreText.{IsStore, store_text}
 use Rattle.store_file.proofs.Stores.{or_whole}
 use Rattle.store_compact.specs.Plan.{whole_store}
 use Rattle.store_compact.proofs.Begun.{begun_store, whole_moments}
