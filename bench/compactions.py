@@ -2,11 +2,11 @@
 """Measures a major compaction of hwal beside RocksDB's CompactRange over the same cells, in rounds that alternate.
 
 usage: bench/compactions.py PROGRAM [--former PROGRAM] [--filler PROGRAM] [--cells N,N..] [--files N] [--rounds N] [--dir FOLDER]
+       [--realtime]
 
-PROGRAM is a built hwal (crates/hwal/out/hwal); --former is another one, which has rows of its own, and
---filler the one that makes the stores (PROGRAM). RocksDB's is
-bench/bin/rocks_compact, which bench/build.sh makes. 250,000, 500,000 and 1,000,000 cells in 8 files, 3 rounds; FOLDER is
-one in memory (/dev/shm).
+PROGRAM is a built hwal (crates/hwal/out/hwal); --former is another one, which has rows of its own, and --filler the one that
+makes the stores (PROGRAM). RocksDB's is bench/bin/rocks_compact, which bench/build.sh makes. 250,000, 500,000 and 1,000,000
+cells in 8 files, 3 rounds; FOLDER is one in memory (/dev/shm).
 
 The cells are those of the load's generator, in one region: rows of 8 bytes in no order, so each file's cells fall among those
 of the others. Behind the first file each tenth cell is a delete of a put of the file before, which a major compaction drops
@@ -14,7 +14,8 @@ with the put. hwal gets each file's cells by a script that ends with a flush; Ro
 
 hwal's compaction opens the store first, as each command does, and RocksDB's opens nothing: so "recover", the opening alone, has
 a row of its own. Each row has user and system time, by the best round and the median: on a busy machine the clock shows the
-scheduler. The clock's best stands behind them, and the most memory of the whole process.
+scheduler, and --realtime (root; `chrt -r 10`) keeps neighbours from it. The clock's best stands behind them, and the most memory
+of the whole process.
 """
 import argparse
 import os
@@ -28,6 +29,7 @@ import time
 
 HERE = os.path.dirname(os.path.realpath(__file__))
 MASK = (1 << 64) - 1
+FRONT = ["chrt", "-r", "10"] if "--realtime" in sys.argv else []
 
 
 def rows_of(cells):
@@ -91,7 +93,7 @@ def of_hwal(table, name, program, made, work):
     for row, words in ((f"{name}: recover", ["recover"]), (f"{name}: compact major", ["compact", "major", "1"])):
         shutil.rmtree(work, ignore_errors=True)
         shutil.copytree(made, work)
-        said, *used = run([program, *words], work)
+        said, *used = run([*FRONT, program, *words], work)
         table.note(row, *used)
     return re.search(r"compacted 1 (\d+) (\d+)", said).groups()
 
@@ -115,7 +117,7 @@ def measure(given, cells, folder):
         if os.path.exists(rocks):
             shutil.rmtree(f"{folder}/rocks", ignore_errors=True)
             run([rocks, "fill", f"{folder}/rocks", str(cells), str(given.files)], folder)
-            said = run([rocks, "compact", f"{folder}/rocks"], folder)[0]
+            said = run([*FRONT, rocks, "compact", f"{folder}/rocks"], folder)[0]
             found = dict(re.findall(r"(\w+)=([\d.]+)", said))
             table.note("RocksDB: CompactRange", float(found["used"]), float(found["clock"]), float(found["memory"]))
             kept.add((found["before"], found["after"]))
@@ -134,6 +136,7 @@ def main():
     took.add_argument("--files", type=int, default=8)
     took.add_argument("--rounds", type=int, default=3)
     took.add_argument("--dir", default="/dev/shm")
+    took.add_argument("--realtime", action="store_true")
     given = took.parse_args()
     given.program = os.path.abspath(given.program)
     given.filler = os.path.abspath(given.filler or given.program)
