@@ -6,22 +6,27 @@ use std::alloc::{AllocError, Global};
 use std::rt::Files;
 use std::{fs, io};
 
-/// The folder, in the working directory.
+/// The folder of a store, in the working directory, where no other one is named.
 pub const FOLDER: &str = "hwal-store";
 
 /// Where it lies.
 pub const AROUND: &str = ".";
 
-/// Where the file of this name lies.
-pub fn path_of(alloc: Global, name: Name) -> Result<String, AllocError> {
+/// Where the file of this name lies in a folder.
+pub fn path_of(alloc: Global, folder: &str, name: Name) -> Result<String, AllocError> {
     let spelled = Spelled(name);
-    format!(in alloc; "{FOLDER}/{spelled}")
+    format!(in alloc; "{folder}/{spelled}")
 }
 
 /// The length of the file of this name in bytes, or None where there is no such file. A link stands for the file that it
 /// leads to; a folder or a pipe is no file.
-pub fn length_of<R: Files>(rt: &R, alloc: Global, name: Name) -> io::Result<Option<u64>> {
-    let path = path_of(alloc, name)?;
+pub fn length_of<R: Files>(
+    rt: &R,
+    alloc: Global,
+    folder: &str,
+    name: Name,
+) -> io::Result<Option<u64>> {
+    let path = path_of(alloc, folder, name)?;
     match fs::metadata(rt, path.as_str()) {
         Ok(metadata) if metadata.is_file() => Ok(Some(metadata.len())),
         Ok(_) => Ok(None),
@@ -34,15 +39,16 @@ pub fn length_of<R: Files>(rt: &R, alloc: Global, name: Name) -> io::Result<Opti
 pub fn names_in<R: Files + AllocGlobal + Clone + Drop>(
     rt: &R,
     alloc: Global,
+    folder: &str,
 ) -> io::Result<Vec<Name>> {
     let mut names = Vec::new(alloc);
-    let entries = match fs::read_dir(rt, FOLDER) {
+    let entries = match fs::read_dir(rt, folder) {
         Ok(entries) => entries,
         Err(e) if e.kind() == io::ErrorKind::NotFound => return Ok(names),
         Err(e) => return Err(e),
     };
     for entry in entries {
-        if let Some(name) = named(rt, alloc, entry)? {
+        if let Some(name) = named(rt, alloc, folder, entry)? {
             names.push(name)?;
         }
     }
@@ -54,6 +60,7 @@ pub fn names_in<R: Files + AllocGlobal + Clone + Drop>(
 fn named<R: Files + Clone + Drop>(
     rt: &R,
     alloc: Global,
+    folder: &str,
     entry: io::Result<fs::DirEntry<R>>,
 ) -> io::Result<Option<Name>> {
     let entry = match entry {
@@ -65,6 +72,6 @@ fn named<R: Files + Clone + Drop>(
     let Some(name) = name_of(entry.file_name()) else {
         return Ok(None);
     };
-    let length = length_of(rt, alloc, name)?;
+    let length = length_of(rt, alloc, folder, name)?;
     Ok(length.map(|_| name))
 }

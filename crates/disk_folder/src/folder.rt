@@ -22,8 +22,8 @@ pub enum Access {
     Writing,
 }
 
-/// The folder `hwal-store` in the working directory, as a disk that tells nothing. A folder that isn't there reads as
-/// empty, and is made with its first file. Each error of the system, and each write that takes nothing, is a fault, and
+/// A folder in the working directory, as a disk that tells nothing: `hwal-store`, or one that is named. A folder that isn't
+/// there reads as empty, and is made with its first file. Each error of the system, and each write that takes nothing, is a fault, and
 /// is told in one line on standard error.
 ///
 /// The first call that finds the folder locks it until the disk is dropped. Where another program's lock stands against
@@ -32,6 +32,8 @@ pub enum Access {
 pub struct FolderDisk<'a, R> {
     rt: &'a R,
     alloc: Global,
+    // its name
+    folder: &'a str,
     access: Access,
     // the folder itself, with its lock
     held: Option<File>,
@@ -44,10 +46,17 @@ pub struct FolderDisk<'a, R> {
 }
 
 impl<'a, R> FolderDisk<'a, R> {
+    /// The folder `hwal-store`.
     pub fn new(rt: &'a R, alloc: Global, access: Access) -> Self {
+        FolderDisk::named(rt, alloc, FOLDER, access)
+    }
+
+    /// The folder of this name, which has no `/`. It makes no call of the system.
+    pub fn named(rt: &'a R, alloc: Global, folder: &'a str, access: Access) -> Self {
         FolderDisk {
             rt,
             alloc,
+            folder,
             access,
             held: None,
             open: OpenFiles::new(alloc),
@@ -69,10 +78,25 @@ impl<R: Eprint> FolderDisk<'_, R> {
         ensures rose { Rose self.old.faults self.new.faults }
         ensures later { self.old.faults ≤ self.new.faults }
     {
-        let spelled = Spelled(name);
-        // Where standard error takes nothing, nobody is told.
-        let _ = eprintln!(self.rt; "hwal: {call} {spelled}: {cause}");
+        // Where there is one folder, the file's name is enough.
+        if self.folder == FOLDER {
+            self.tell(call, name, cause);
+        } else {
+            self.tell_in_folder(call, name, cause);
+        }
         self.count()
+    }
+
+    /// Tells a cause on standard error. Where that takes nothing, nobody is told.
+    fn tell(&self, call: &str, name: Name, cause: &io::Error) {
+        let spelled = Spelled(name);
+        let _ = eprintln!(self.rt; "hwal: {call} {spelled}: {cause}");
+    }
+
+    /// The same with the folder in front of the file.
+    fn tell_in_folder(&self, call: &str, name: Name, cause: &io::Error) {
+        let (folder, spelled) = (self.folder, Spelled(name));
+        let _ = eprintln!(self.rt; "hwal: {call} {folder}/{spelled}: {cause}");
     }
 
     /// The same for a call on the folder.
@@ -80,7 +104,8 @@ impl<R: Eprint> FolderDisk<'_, R> {
         ensures rose { Rose self.old.faults self.new.faults }
         ensures later { self.old.faults ≤ self.new.faults }
     {
-        let _ = eprintln!(self.rt; "hwal: {call} {FOLDER}: {cause}");
+        let folder = self.folder;
+        let _ = eprintln!(self.rt; "hwal: {call} {folder}: {cause}");
         self.count()
     }
 
@@ -99,14 +124,14 @@ impl<R: Files<File = File> + AllocGlobal + Clone + Drop> FolderDisk<'_, R> {
         ensures faults { self.new.faults ≡ self.old.faults }
     {
         self.hold()?;
-        names_in(self.rt, self.alloc)
+        names_in(self.rt, self.alloc, self.folder)
     }
 
     pub(crate) fn size_of(&mut self, name: Name) -> io::Result<Option<u64>>
         ensures faults { self.new.faults ≡ self.old.faults }
     {
         self.hold()?;
-        length_of(self.rt, self.alloc, name)
+        length_of(self.rt, self.alloc, self.folder, name)
     }
 
     pub(crate) fn read_file(&mut self, name: Name, at: u64, into: &mut [u8]) -> io::Result<usize>
@@ -126,7 +151,7 @@ impl<R: Files<File = File> + AllocGlobal + Clone + Drop> FolderDisk<'_, R> {
         self.make_folder()?;
         self.place_folder()?;
         self.is_settled = false;
-        let path = path_of(self.alloc, name)?;
+        let path = path_of(self.alloc, self.folder, name)?;
         let file = OpenOptions::new()
             .read(true)
             .write(true)
@@ -163,7 +188,8 @@ impl<R: Files<File = File> + AllocGlobal + Clone + Drop> FolderDisk<'_, R> {
         ensures faults { self.new.faults ≡ self.old.faults }
     {
         self.hold_to_write()?;
-        let (old, new) = (path_of(self.alloc, from)?, path_of(self.alloc, to)?);
+        let old = path_of(self.alloc, self.folder, from)?;
+        let new = path_of(self.alloc, self.folder, to)?;
         self.open.close(from);
         self.is_settled = false;
         fs::rename(self.rt, old.as_str(), new.as_str())
@@ -173,7 +199,7 @@ impl<R: Files<File = File> + AllocGlobal + Clone + Drop> FolderDisk<'_, R> {
         ensures faults { self.new.faults ≡ self.old.faults }
     {
         self.hold_to_write()?;
-        let path = path_of(self.alloc, name)?;
+        let path = path_of(self.alloc, self.folder, name)?;
         self.open.close(name);
         fs::remove_file(self.rt, path.as_str())
     }
@@ -201,7 +227,7 @@ impl<R: Files<File = File> + AllocGlobal + Clone + Drop> FolderDisk<'_, R> {
         if self.held.is_some() {
             return Ok(());
         }
-        match File::open(self.rt, FOLDER) {
+        match File::open(self.rt, self.folder) {
             Ok(folder) => {
                 lock(&folder, self.access)?;
                 self.held = Some(folder);
@@ -230,9 +256,9 @@ impl<R: Files<File = File> + AllocGlobal + Clone + Drop> FolderDisk<'_, R> {
         if self.held.is_some() {
             return Ok(());
         }
-        fs::create_dir(self.rt, FOLDER)?;
+        fs::create_dir(self.rt, self.folder)?;
         self.hold()?;
-        let names = names_in(self.rt, self.alloc)?;
+        let names = names_in(self.rt, self.alloc, self.folder)?;
         if names.is_empty() {
             Ok(())
         } else {
@@ -259,7 +285,7 @@ impl<R: Files<File = File> + AllocGlobal + Clone + Drop> FolderDisk<'_, R> {
         if self.open.find(name, for_writing) {
             return Ok(());
         }
-        let path = path_of(self.alloc, name)?;
+        let path = path_of(self.alloc, self.folder, name)?;
         let file = OpenOptions::new()
             .read(true)
             .write(for_writing)

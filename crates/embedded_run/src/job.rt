@@ -36,6 +36,8 @@ impl<'a, 'b, D: Disk, N: ServerName, R: Wait, H: Handler> Job
 
     ghost is_seat = { λ j q. IsSeatOf j.server.now q };
 
+    ghost log_of = { λ q. 1 };
+
     fn work<W: Wait>(&self, _rt: &W, alloc: Global, handler: &mut Seated<Pass<N>, H>) {
         let Some(pass) = handler.pass.take() else {
             unreachable!()

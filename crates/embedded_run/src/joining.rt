@@ -37,10 +37,10 @@ pub(crate) fn run_on<
     ensures helpers { (length helpers.new ≡ 2) × AreSeatsOf server.now helpers.new }
     ensures worked { HaveAllWorked H.did N.name server.now time seated.old.items seated.new.items }
 {
-    let Some(mut first) = helpers.next() else {
+    let Some(first) = helpers.next() else {
         unreachable!()
     };
-    let Some(mut second) = helpers.next() else {
+    let Some(second) = helpers.next() else {
         unreachable!()
     };
     let job = SessionJob {
@@ -50,7 +50,15 @@ pub(crate) fn run_on<
         regions,
         of: PhantomData,
     };
-    run_all(rt, alloc, &job, &mut first, &mut second, seated);
+    let mut seats = [first, second];
+    run_all(rt, alloc, &job, &mut seats, seated);
+    let mut seats = seats.into_iter();
+    let Some(first) = seats.next() else {
+        unreachable!()
+    };
+    let Some(second) = seats.next() else {
+        unreachable!()
+    };
     helpers.put_back(first);
     helpers.put_back(second);
 }

@@ -156,11 +156,21 @@ module _ {groups : ℕ} {script : Script} {found left : ℕ → DiskView} {names
           let t = told groups k script (found k) (left k) (names k) hs (xs k) (broken k) (c.each k there) (so k there.0 there.1) x (right.from x is) refl status (whole k there) in
           record { last = t.0; content = t.1; journal = t.2; lawful = t.3; serial_history = t.4; endures = t.5 }
 
-  -- the headline, though not which beginning of a journal a crash leaves
-  pub groups_headline : (status : ℕ) → FitsStatus status (all_replies hs) → ((k : ℕ) → IsGroup groups k → status ≢ 5 → broken k ≡ false)
-      → ∥ IsGroupsHeadline groups script found left status (report_text (report_of (map history_of chosen) (all_replies hs) status)) ∥₁
-  groups_headline status fits whole = ∥∥₁_map (each_up_to (λ k. IsSettled script (found k).files (left k) (xs k) (broken k)) groups settled) (λ so. assembled so status fits whole)
+  all_settled : ∥ ((k : ℕ) → 1 ≤ k → k ≤ groups → IsSettled script (found k).files (left k) (xs k) (broken k)) ∥₁
+  all_settled = each_up_to (λ k. IsSettled script (found k).files (left k) (xs k) (broken k)) groups settled
     where
       settled : (k : ℕ) → 1 ≤ k → k ≤ groups → ∥ IsSettled script (found k).files (left k) (xs k) (broken k) ∥₁
       settled k low high = let d = c.each k (low, high) in
           ∥∥₁_map₂ (each_in (λ (x : ClosedAt). Survives (left k) (broken k) x.region x.it) (xs k) d.survives) d.leaves (λ survives leaves. record { survives = survives; leaves = leaves })
+
+  -- the headline, though not which beginning of a journal a crash leaves
+  pub groups_headline : (status : ℕ) → FitsStatus status (all_replies hs) → ((k : ℕ) → IsGroup groups k → status ≢ 5 → broken k ≡ false)
+      → ∥ IsGroupsHeadline groups script found left status (report_text (report_of (map history_of chosen) (all_replies hs) status)) ∥₁
+  groups_headline status fits whole = ∥∥₁_map all_settled (λ so. assembled so status fits whole)
+
+  -- what holds of the histories and the replies goes with it
+  pub groups_headline_with : (status : ℕ) → FitsStatus status (all_replies hs) → ((k : ℕ) → IsGroup groups k → status ≢ 5 → broken k ≡ false)
+      → (P : List History → List Reply → Type 0) → P (map history_of chosen) (all_replies hs)
+      → ∥ ((h : IsGroupsHeadline groups script found left status (report_text (report_of (map history_of chosen) (all_replies hs) status))) × P h.histories h.replies) ∥₁
+  unfolding assembled
+  groups_headline_with status fits whole P holds = ∥∥₁_map all_settled (λ so. (assembled so status fits whole, holds))

@@ -1,6 +1,6 @@
 //! The threads of a run.
 
-ghost use Rattle.handler_threads.specs.Working.{AreReady, HaveWorked};
+ghost use Rattle.handler_threads.specs.Working.{AreReady, AreSeats, HasHelped, HaveHelped, HaveWorked};
 
 use crate::job::Job;
 use region_calls::Helped;
@@ -38,7 +38,7 @@ where
 /// a helper, and to wake one at each put would cost more than it helps.
 fn help_until<R: Wait, J: Job>(rt: &R, job: &J, stop: &AtomicU64, seat: &mut J::Seat)
     requires { J.is_seat job.now seat.old }
-    ensures { J.is_seat job.now seat.new }
+    ensures { HasHelped J.is_seat J.log_of job.now seat.old seat.new }
 {
     for _ in rt.forever() {
         if stop.load(Ordering::SeqCst) != 0 {
@@ -51,6 +51,30 @@ fn help_until<R: Wait, J: Job>(rt: &R, job: &J, stop: &AtomicU64, seat: &mut J::
             }
         }
     }
+}
+
+/// Helps by each seat, in a thread of its own, until the helpers are told to stop. Where no thread can be made one helper comes after another.
+fn help_each<R: Threads + Wait + Sync, J: Job + Sync>(
+    rt: &R,
+    job: &J,
+    stop: &AtomicU64,
+    seats: &mut [J::Seat],
+)
+where
+    J::Seat: Send,
+    requires { AreSeats J.is_seat job.now seats.old }
+    ensures { HaveHelped J.is_seat J.log_of job.now seats.old seats.new }
+{
+    let threads = seats.len().max(1);
+    for_each_mut(
+        rt,
+        seats,
+        threads,
+        &|_, seat: &mut J::Seat|
+            requires { J.is_seat job.now seat.now }
+            ensures { HasHelped J.is_seat J.log_of job.entry.now seat.entry.now seat.exit.now }
+        { help_until(rt, job, stop, seat) },
+    );
 }
 
 /// Runs the handlers, and then tells the helpers to stop and wakes them.
@@ -71,29 +95,29 @@ where
     stop.wake_all();
 }
 
-/// Runs the handlers beside one helper. A helper whose thread can't be made comes after the handlers, and finds that it is to stop.
-fn beside_one<'a, R: Threads + Wait + Sync, J: Job + Sync>(
+/// Runs the handlers beside the helpers. Helpers whose threads can't be made come after the handlers, and find that they are to stop.
+fn beside<'a, R: Threads + Wait + Sync, J: Job + Sync>(
     rt: &'a R,
     alloc: Global,
     job: &'a J,
     stop: &'a AtomicU64,
-    seat: &mut J::Seat,
+    seats: &mut [J::Seat],
     handlers: &mut Vec<J::Handler>,
 )
 where
     J::Handler: Send,
     J::Seat: Send,
-    requires seat { J.is_seat job.now seat.old }
+    requires seats { AreSeats J.is_seat job.now seats.old }
     requires ready { AreReady J.is_ready job.now handlers.old.items }
     ensures worked { HaveWorked J.has_worked job.now handlers.old.items handlers.new.items }
-    ensures seat { J.is_seat job.now seat.new }
+    ensures seats { HaveHelped J.is_seat J.log_of job.now seats.old seats.new }
 {
     join_mut(
         rt,
         &mut || -> ()
-            requires { J.is_seat job.now seat.now }
-            ensures { J.is_seat job.entry.now seat.exit.now }
-        { help_until(rt, job, stop, seat) },
+            requires { AreSeats J.is_seat job.now seats.now }
+            ensures { HaveHelped J.is_seat J.log_of job.entry.now seats.entry.now seats.exit.now }
+        { help_each(rt, job, stop, seats) },
         &mut || -> ()
             requires { AreReady J.is_ready job.now handlers.now.items }
             ensures { HaveWorked J.has_worked job.entry.now handlers.entry.now.items handlers.exit.now.items }
@@ -101,54 +125,22 @@ where
     );
 }
 
-/// Runs the handlers beside two helpers.
-fn beside_two<'a, R: Threads + Wait + Sync, J: Job + Sync>(
-    rt: &'a R,
-    alloc: Global,
-    job: &'a J,
-    stop: &'a AtomicU64,
-    first: &mut J::Seat,
-    second: &mut J::Seat,
-    handlers: &mut Vec<J::Handler>,
-)
-where
-    J::Handler: Send,
-    J::Seat: Send,
-    requires seats { J.is_seat job.now first.old × J.is_seat job.now second.old }
-    requires ready { AreReady J.is_ready job.now handlers.old.items }
-    ensures worked { HaveWorked J.has_worked job.now handlers.old.items handlers.new.items }
-    ensures seats { J.is_seat job.now first.new × J.is_seat job.now second.new }
-{
-    join_mut(
-        rt,
-        &mut || -> ()
-            requires { J.is_seat job.now first.now }
-            ensures { J.is_seat job.entry.now first.exit.now }
-        { help_until(rt, job, stop, first) },
-        &mut || -> ()
-            requires { AreReady J.is_ready job.now handlers.now.items × J.is_seat job.now second.now }
-            ensures { HaveWorked J.has_worked job.entry.now handlers.entry.now.items handlers.exit.now.items × J.is_seat job.entry.now second.exit.now }
-        { beside_one(rt, alloc, job, stop, second, handlers) },
-    );
-}
-
-/// Runs all handlers, each in a thread of its own, while two more threads help the log, one by each seat; and returns once all have ended.
+/// Runs all handlers, each in a thread of its own, while by each seat one more thread helps the log; and returns once all have ended.
 pub fn run_all<R: Threads + Wait + Sync, J: Job + Sync>(
     rt: &R,
     alloc: Global,
     job: &J,
-    first: &mut J::Seat,
-    second: &mut J::Seat,
+    seats: &mut [J::Seat],
     handlers: &mut Vec<J::Handler>,
 )
 where
     J::Handler: Send,
     J::Seat: Send,
-    requires seats { J.is_seat job.now first.old × J.is_seat job.now second.old }
+    requires seats { AreSeats J.is_seat job.now seats.old }
     requires ready { AreReady J.is_ready job.now handlers.old.items }
     ensures worked { HaveWorked J.has_worked job.now handlers.old.items handlers.new.items }
-    ensures seats { J.is_seat job.now first.new × J.is_seat job.now second.new }
+    ensures seats { HaveHelped J.is_seat J.log_of job.now seats.old seats.new }
 {
     let word = AtomicU64::new(0);
-    beside_two(rt, alloc, job, &word, first, second, handlers);
+    beside(rt, alloc, job, &word, seats, handlers);
 }

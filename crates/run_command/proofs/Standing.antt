@@ -62,7 +62,7 @@ region_lines (c ∷ cs) = λ i. one_line c i ∷ region_lines cs i
 -- ---- a run that is closed
 
 -- the report of the lines that are told is the report of the histories
-same_report : (regions : List ClosedRegion) (replies : List Reply) (lines : List ReplyLine) (status : ℕ) → lines ≡ map reply_line replies
+pub same_report : (regions : List ClosedRegion) (replies : List Reply) (lines : List ReplyLine) (status : ℕ) → lines ≡ map reply_line replies
     → report_of (map history_of (map closed_at regions)) replies status ≡ report_in regions lines status
 same_report regions replies lines status said = λ i. record { regions = region_lines regions i; replies = (sym said) i; status = status }
 
@@ -115,7 +115,7 @@ module _ (script : Script) (entry left : DiskView) (name : Naming) (regions : Li
   of_end (ends.NoPosition number entries) is e reads = absurd e
   of_end (ends.NumbersSpent region last) is e reads = spent_stands region last is reads
 
-no_cut : (status : Status) → IsDecided status → status ≡ ends.SinkFault → ⊥
+pub no_cut : (status : Status) → IsDecided status → status ≡ ends.SinkFault → ⊥
 no_cut status e is = subst IsDecided is e
 
 -- what the sink took of the report of a closed server, or of the line that refuses
@@ -143,7 +143,7 @@ pub left_ends : (rose sank : Type 0) (status : Status) (old new : List ℕ) (scr
 left_ends rose sank status old new script before after is keeps p =
     subst (λ s. EndsRun s script before after rose sank (taken_of old new)) (sym is) (inr (refused_so old new refused_memory sank (p refused_memory refl), keeps))
 
-damage_line : (damage : Damage) → refusal_line (ends.Damaged damage) ≡ Some (refused_damage damage)
+pub damage_line : (damage : Damage) → refusal_line (ends.Damaged damage) ≡ Some (refused_damage damage)
 damage_line (damages.Bytes name at) = refl
 damage_line (damages.Two first second region number) = refl
 

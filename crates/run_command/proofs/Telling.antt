@@ -24,7 +24,7 @@ use Rattle.run_command.specs.Ends.{EndsRun, RunEnds, IsReportEnd, IsParsedEnd, I
 -- ---- with a report
 
 -- a status with which a report ends
-report_cases : (P : Status → Type 0) → P ends.Done → P ends.Memory → P ends.DiskFault → P ends.SinkFault → ((region last : ℕ) → P (ends.NumbersSpent region last))
+pub report_cases : (P : Status → Type 0) → P ends.Done → P ends.Memory → P ends.DiskFault → P ends.SinkFault → ((region last : ℕ) → P (ends.NumbersSpent region last))
     → (status : Status) → IsReportEnd status → P status
 report_cases P done memory disk sink spent ends.Done may = done
 report_cases P done memory disk sink spent ends.Memory may = memory

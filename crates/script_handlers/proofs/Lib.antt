@@ -1,2 +1,2 @@
-mod GetLaws
+pub mod GetLaws
 mod Laws

@@ -27,9 +27,11 @@ impl<'a, S: Serves, G: Gate> Job for Calling<'a, S, G> {
 
     ghost is_ready = { λ j h. IsReady S.is_pass S.knows S.handler_of S.calls_of S.may j.server.now h × (j.time < 2 ^ 63) };
 
-    ghost has_worked = { λ j old new. HasRun S.is_pass S.knows S.handler_of S.calls_of (S.does j.time) j.server.now old new };
+    ghost has_worked = { λ j old new. HasRun S.is_pass S.knows S.handler_of S.calls_of (S.does j.server.now j.time) j.server.now old new };
 
     ghost is_seat = { λ j q. S.is_seat j.server.now q };
+
+    ghost log_of = { S.log_of };
 
     fn work<R: Wait>(&self, rt: &R, alloc: Global, handler: &mut Handler<S::Pass>) {
         handle(rt, alloc, self.server, self.gate, self.time, handler)

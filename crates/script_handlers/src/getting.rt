@@ -16,7 +16,7 @@ use std::alloc::Global;
 use std::sync::Wait;
 
 /// The row behind which the rows above this one begin: the row with a byte 0 behind it.
-fn row_behind(alloc: Global, row: &[u8]) -> Result<Vec<u8>, NoMemory>
+pub fn row_behind(alloc: Global, row: &[u8]) -> Result<Vec<u8>, NoMemory>
     ensures { IfOk result (λ behind. behind.items ≡ row.now ++ 0 ∷ []) }
 {
     let mut behind = Vec::new(alloc);

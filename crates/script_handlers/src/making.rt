@@ -32,7 +32,7 @@ fn make_calls<R: Wait, S: Serves, G: Gate>(
     requires few { vec_len calls < 2 ^ 32 }
     requires may { MayCallAll S.may (S.handler_of (S.knows pass.old)) 1 (map call_of calls.items) }
     requires time { time < 2 ^ 63 }
-    ensures handles { Handles S.handler_of (S.does time) S.calls_of (S.handler_of (S.knows pass.old)) (map call_of calls.items)
+    ensures handles { Handles S.handler_of (S.does server.now time) S.calls_of (S.handler_of (S.knows pass.old)) (map call_of calls.items)
         (S.knows pass.old) (S.knows pass.new) replies.new.items result }
     ensures of { S.is_pass server.now pass.new }
 {
@@ -79,7 +79,7 @@ pub fn handle<R: Wait, S: Serves, G: Gate>(
 )
     requires ready { IsReady S.is_pass S.knows S.handler_of S.calls_of S.may server.now handler.old }
     requires time { time < 2 ^ 63 }
-    ensures { HasRun S.is_pass S.knows S.handler_of S.calls_of (S.does time) server.now handler.old handler.new }
+    ensures { HasRun S.is_pass S.knows S.handler_of S.calls_of (S.does server.now time) server.now handler.old handler.new }
 {
     let calls = mem::replace(&mut handler.calls, Vec::new(alloc));
     handler.spent = make_calls(

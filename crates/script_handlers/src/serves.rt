@@ -37,11 +37,14 @@ pub trait Serves {
 
     ghost is_seat: { Self → Self.Seat → Type 0 };
 
+    /// Which of its logs the seat is of.
+    ghost log_of: { Self.Seat → ℕ };
+
     /// A handler of this number may make this call under this number.
     ghost may: { ℕ → ℕ → TheCall → Type 0 };
 
-    /// What a call at this time with this answer makes of what its handler knows.
-    ghost does: { ℕ → Caller → TheCall → TheAnswer → Knowledge → Knowledge → Type 0 };
+    /// What a call on it, at this time and with this answer, makes of what its handler knows.
+    ghost does: { Self → ℕ → Caller → TheCall → TheAnswer → Knowledge → Knowledge → Type 0 };
 
     /// The handler's number.
     fn handler(&self, pass: &Self::Pass) -> u32
@@ -62,15 +65,16 @@ pub trait Serves {
         requires call { may (handler_of (knows pass.old)) number (call_of call) }
         requires number { calls_of (knows pass.old) < number }
         requires time { time < 2 ^ 63 }
-        ensures does { does time (record { handler = handler_of (knows pass.old); call = number }) (call_of call) (answer_of result)
+        ensures does { does self.now time (record { handler = handler_of (knows pass.old); call = number }) (call_of call) (answer_of result)
             (knows pass.old) (knows pass.new) }
         ensures got { is_got result ≡ is_get (call_of call) }
         ensures handler { handler_of (knows pass.new) ≡ handler_of (knows pass.old) }
         ensures calls { calls_of (knows pass.new) ≤ number }
         ensures of { is_pass self.now pass.new };
 
-    /// Helps its log: one turn of each kind.
+    /// Helps the seat's log: one turn of each kind.
     fn help<R: Wait>(&self, rt: &R, seat: &mut Self::Seat) -> Helped
         requires seat { is_seat self.now seat.old }
-        ensures seat { is_seat self.now seat.new };
+        ensures seat { is_seat self.now seat.new }
+        ensures log { log_of seat.new ≡ log_of seat.old };
 }

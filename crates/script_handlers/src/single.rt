@@ -36,9 +36,11 @@ impl<'a, D: Disk, N: ServerName, S: Wait> Serves for Server<'a, D, N, S> {
 
     ghost is_seat = { λ s q. IsSeatOf s q };
 
+    ghost log_of = { λ q. 1 };
+
     ghost may = { λ h n call. MayCall ⟦<N as region_calls::ServerNaming>⟧.name h n call };
 
-    ghost does = { λ time caller call answer old new. Does ⟦<N as region_calls::ServerNaming>⟧.name time caller call answer old new };
+    ghost does = { λ s time caller call answer old new. Does ⟦<N as region_calls::ServerNaming>⟧.name time caller call answer old new };
 
     fn handler(&self, pass: &Pass<N>) -> u32 {
         pass.handler()

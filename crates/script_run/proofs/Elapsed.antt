@@ -2,9 +2,8 @@
 use Rattle.std.proofs.Common.{◌≡◌, ℕ, ◌⊎◌, ◌≤◌, Bool, List, map, Contains, sym, subst, arith, inl, inr}
 use Rattle.std.proofs.Math.Logic.{∥∥₁_map, ∥∥₁_elim, ∥∥₁_prop}
 use Rattle.log_model.specs.Files.{Files}
-use Rattle.disk_images.specs.Crash.{DiskView, IsImageNow, Since, Throughout}
+use Rattle.disk_images.specs.Crash.{DiskView, IsImageNow}
 use Rattle.wal_split.specs.Moments.{During, WasOrAlike}
-use Rattle.region_model.specs.Crash.{Fits}
 use Rattle.script_model.specs.Calls.{Script}
 use Rattle.server_model.specs.Pass.{Naming, Pass}
 use Rattle.server_model.specs.Closing.{Handled}
@@ -13,7 +12,7 @@ use Rattle.region_calls.specs.Closes.{HasElapsed, HasSurvived, IsLeft}
 use Rattle.region_calls.specs.Wordings.{region_of}
 use Rattle.region_calls.specs.declared.closed.ClosedRegion.{ClosedRegion}
 use Rattle.run_model.specs.Closed.{ClosedAt, Closed, IsFound, FitsThroughout}
-use Rattle.run_model.specs.Headline.{KeepsIn, KeepsThroughout, MayKeep}
+use Rattle.run_model.specs.Headline.{KeepsIn, KeepsThroughout}
 use Rattle.run_model.proofs.FromClose.{base_at, region_there}
 use Rattle.run_model.proofs.KeepsFound.{alike_keeps}
 use Rattle.run_model.proofs.Lists.{mapped}

@@ -37,9 +37,15 @@ pub fn run_on<
     ensures seats { IsSeatOf server.now result.1 × IsSeatOf server.now result.2 }
 {
     let job = Calling { server, gate, time };
-    let mut first = first;
-    let mut second = second;
+    let mut seats = [first, second];
     let mut handlers = handlers;
-    run_all(rt, alloc, &job, &mut first, &mut second, &mut handlers);
+    run_all(rt, alloc, &job, &mut seats, &mut handlers);
+    let mut seats = seats.into_iter();
+    let Some(first) = seats.next() else {
+        unreachable!()
+    };
+    let Some(second) = seats.next() else {
+        unreachable!()
+    };
     (handlers, first, second)
 }

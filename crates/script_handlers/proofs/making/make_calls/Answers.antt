@@ -19,8 +19,8 @@ loop-call-init g c =
     record {
       done = [];
       all = sym same;
-      handles = subst (λ (lines : List ReplyLine). Handles S.handler_of (S.does c.args.time) S.calls_of (S.handler_of first) [] first first lines None) (sym c.requires.none)
-          (handles_none S.handler_of S.calls_of (S.does c.args.time) (S.handler_of first) first refl c.requires.fresh);
+      handles = subst (λ (lines : List ReplyLine). Handles S.handler_of (S.does c.args.server.now c.args.time) S.calls_of (S.handler_of first) [] first first lines None) (sym c.requires.none)
+          (handles_none S.handler_of S.calls_of (S.does c.args.server.now c.args.time) (S.handler_of first) first refl c.requires.fresh);
       number = refl;
       left = omega (arith, c.reverse.ensures.len);
       len = omega (arith, c.args.replies.now.ok, ap (λ (lines : List ReplyLine). length lines) c.requires.none);
@@ -48,8 +48,8 @@ loop-call-preserved g c =
     let all : c.args.calls.items ≡ (inv.done ++ made ∷ []) ++ reverse left =
     inv.all ∙ ap (λ (xs : List TheCall). inv.done ++ xs) turned ∙ sym (append_assoc inv.done (made ∷ []) (reverse left)) in
     let len : length done ≡ c.loop-call.number = length-map inv.done call_of ∙ sym inv.number in
-    let does = subst (λ n. S.does c.args.time (record { handler = S.handler_of mid; call = n + 1 }) call answer mid last) (sym len) c.make-answer.ensures.does in
-    let pushed = handles_push S.handler_of S.calls_of (S.does c.args.time) h done call answer first mid last c.loop-call.replies.items c.loop-call.spent inv.handles does c.make-answer.ensures.handler (omega (arith, len, c.make-answer.ensures.calls)) in
+    let does = subst (λ n. S.does c.args.server.now c.args.time (record { handler = S.handler_of mid; call = n + 1 }) call answer mid last) (sym len) c.make-answer.ensures.does in
+    let pushed = handles_push S.handler_of S.calls_of (S.does c.args.server.now c.args.time) h done call answer first mid last c.loop-call.replies.items c.loop-call.spent inv.handles does c.make-answer.ensures.handler (omega (arith, len, c.make-answer.ensures.calls)) in
     let said : c.loop-call.replies.items ++ record { handler = h; call = length done + 1; answer = answer; got = is_get call } ∷ [] ≡ c.push_reserved.new.self.items =
     ap (λ n. c.loop-call.replies.items ++ record { handler = h; call = n + 1; answer = answer; got = is_get call } ∷ []) len
     ∙ ap (λ k. c.loop-call.replies.items ++ record { handler = k; call = c.loop-call.number + 1; answer = answer; got = is_get call } ∷ []) (sym c.handler-handler.ensures)
@@ -61,9 +61,9 @@ loop-call-preserved g c =
     record {
       done = inv.done ++ made ∷ [];
       all = all;
-      handles = subst (λ xs. Handles S.handler_of (S.does c.args.time) S.calls_of h xs first last c.push_reserved.new.self.items c.or_told-spent.result) more
-          (subst (Handles S.handler_of (S.does c.args.time) S.calls_of h (done ++ call ∷ []) first last c.push_reserved.new.self.items) kept
-          (subst (λ ls. Handles S.handler_of (S.does c.args.time) S.calls_of h (done ++ call ∷ []) first last ls (first_of c.loop-call.spent (told_spent call answer))) said pushed));
+      handles = subst (λ xs. Handles S.handler_of (S.does c.args.server.now c.args.time) S.calls_of h xs first last c.push_reserved.new.self.items c.or_told-spent.result) more
+          (subst (Handles S.handler_of (S.does c.args.server.now c.args.time) S.calls_of h (done ++ call ∷ []) first last c.push_reserved.new.self.items) kept
+          (subst (λ ls. Handles S.handler_of (S.does c.args.server.now c.args.time) S.calls_of h (done ++ call ∷ []) first last ls (first_of c.loop-call.spent (told_spent call answer))) said pushed));
       number = omega (arith, inv.number, length-append inv.done (made ∷ []));
       left = omega (arith, inv.left, fewer);
       len = omega (arith, inv.len, c.push_reserved.ensures.len);

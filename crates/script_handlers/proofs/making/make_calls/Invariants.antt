@@ -11,7 +11,7 @@ invariant-loop-call g l =
     record {
       done : List Call;
       all : l.fn.calls.items ≡ done ++ reverse l.later.items;
-      handles : Handles S.handler_of (S.does l.time) S.calls_of (S.handler_of (S.knows l.initial.pass)) (map call_of done) (S.knows l.initial.pass) (S.knows l.pass) l.replies.items l.spent;
+      handles : Handles S.handler_of (S.does l.server l.time) S.calls_of (S.handler_of (S.knows l.initial.pass)) (map call_of done) (S.knows l.initial.pass) (S.knows l.pass) l.replies.items l.spent;
       number : l.number ≡ length done;
       left : l.number + vec_len l.later ≡ vec_len l.fn.calls;
       len : vec_len l.replies ≡ l.number;

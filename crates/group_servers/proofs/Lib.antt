@@ -1,0 +1,4 @@
+pub mod Handing
+pub mod Unused
+pub mod Begins
+pub mod Ends

@@ -1,0 +1,5 @@
+pub mod Lists
+pub mod Choosing
+pub mod Refusals
+pub mod Recovering
+pub mod Checking

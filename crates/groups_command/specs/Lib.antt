@@ -1,0 +1,5 @@
+pub mod Status
+pub mod Words
+pub mod Disks
+pub mod Carried
+pub mod Ends

@@ -1,0 +1,9 @@
+pub mod Runs
+pub mod Handled
+pub mod Kept
+pub mod Closes
+pub mod Chosen
+pub mod Seats
+pub mod Backs
+pub mod Slots
+pub mod Assembled

@@ -1,0 +1,113 @@
+use Rattle.std.proofs.Common.{◌≡◌, ℕ, ◌+◌, ◌≤◌, Option, Some, None, IfSome, length, sym, subst, ap, ◌∙◌, arith}
+use Rattle.log_groups.specs.Helpers.{held}
+use Rattle.log_groups.specs.Passes.{named}
+use Rattle.log_groups.specs.Servers.{Servers}
+use Rattle.server_model.specs.Pass.{Naming}
+use Rattle.group_servers.specs.Closing.{HasEnded}
+use Rattle.groups_run.specs.Ended.{passes_on}
+use Rattle.groups_run.specs.Handing.{known_on}
+use Rattle.groups_run.specs.Seating.{seats_of, times}
+use Rattle.groups_run.proofs.Backs.{all_back, ended_of, same_back}
+use Rattle.groups_run.proofs.Handled.{all_of, all_ready, are_handled, handled, taken_length}
+use Rattle.groups_run.proofs.Seats.{at_most_two, two_each}
+use Rattle.groups_run.proofs.started.run_started.Goals as goal
+
+pub take_passes-requires-clause-of : goal.take_passes-requires-clause-of
+take_passes-requires-clause-of g c = (c.args.started.groups, c.requires.passes.0)
+
+pub run_on-requires-clause-seats : goal.run_on-requires-clause-seats
+run_on-requires-clause-seats g c κs within = (c.take_seats.ensures.of c.args.started.groups c.requires.helpers.0).1
+
+pub run_on-requires-clause-ready : goal.run_on-requires-clause-ready
+run_on-requires-clause-ready g c κs within =
+    let s : Servers = c.args.started.groups in
+    let names : ℕ → Naming = named g.N1.ServerNaming.name g.N2.ServerNaming.name g.N3.ServerNaming.name g.N4.ServerNaming.name in
+    all_ready names s c.args.time g.N1.ServerNaming.name.regions c.args.rooms.items c.take_passes.new.handlers.items c.requires.script c.requires.fits c.requires.rooms c.take_passes.ensures.taken
+    (c.take_passes.ensures.of s c.requires.passes.0).1
+
+pub give_seats-requires-clause-of : goal.give_seats-requires-clause-of
+give_seats-requires-clause-of g c =
+    let s : Servers = c.args.started.groups in
+    (s, (c.take_seats.ensures.of s c.requires.helpers.0).0, c.run_on.ensures.seats)
+
+pub give_seats-requires-clause-room : goal.give_seats-requires-clause-room
+give_seats-requires-clause-room g c k =
+    let same : seats_of k c.run_on.new.seats.items ≡ seats_of k c.take_seats.new.seats.items = ap (times k) c.run_on.ensures.groups in
+    let taken = c.take_seats.ensures.taken k in
+    let most = at_most_two c.args.started.helpers c.requires.helpers.1 k in
+    omega (arith, same, taken, most)
+
+pub give_back-spent-requires-clause-none : goal.give_back-spent-requires-clause-none
+give_back-spent-requires-clause-none g c =
+    let taken = taken_length 1 c.args.rooms.items c.take_passes.new.handlers.items c.take_passes.ensures.taken in
+    (c.requires.replies.0, omega (arith, c.run_on.ensures.run.len, taken, c.requires.replies.1, c.run_on.new.handlers.ok, c.args.rooms.ok))
+
+pub give_back-spent-requires-clause-of : goal.give_back-spent-requires-clause-of
+give_back-spent-requires-clause-of g c =
+    let s : Servers = c.args.started.groups in
+    let names : ℕ → Naming = named g.N1.ServerNaming.name g.N2.ServerNaming.name g.N3.ServerNaming.name g.N4.ServerNaming.name in
+    (s, (c.take_passes.ensures.of s c.requires.passes.0).0, all_of names c.args.time s c.take_passes.new.handlers.items c.run_on.new.handlers.items c.run_on.ensures.run)
+
+pub give_back-spent-requires-clause-passes : goal.give_back-spent-requires-clause-passes
+give_back-spent-requires-clause-passes g c =
+    let taken = taken_length 1 c.args.rooms.items c.take_passes.new.handlers.items c.take_passes.ensures.taken in
+    (c.take_passes.ensures.out, c.take_passes.ensures.back, omega (arith, c.run_on.ensures.run.len, taken, c.requires.few, c.run_on.new.handlers.ok, c.args.rooms.ok))
+
+pub close-closed-requires-clause-back : goal.close-closed-requires-clause-back
+close-closed-requires-clause-back g c =
+    let s : Servers = c.args.started.groups in
+    let names : ℕ → Naming = named g.N1.ServerNaming.name g.N2.ServerNaming.name g.N3.ServerNaming.name g.N4.ServerNaming.name in
+    let all = all_of names c.args.time s c.take_passes.new.handlers.items c.run_on.new.handlers.items c.run_on.ensures.run in
+    let passes = c.give_back-spent.ensures.of s (c.take_passes.ensures.of s c.requires.passes.0).0 all in
+    let taken = taken_length 1 c.args.rooms.items c.take_passes.new.handlers.items c.take_passes.ensures.taken in
+    let seats = c.take_seats.ensures.of s c.requires.helpers.0 in
+    let same : (k : ℕ) → held c.give_seats.new.helpers k ≡ held c.args.started.helpers k = λ k.
+    (let over : seats_of k c.run_on.new.seats.items ≡ seats_of k c.take_seats.new.seats.items = ap (times k) c.run_on.ensures.groups in
+    let given = c.give_seats.ensures.given k in
+    let was = c.take_seats.ensures.taken k in
+    omega (arith, over, given, was)) in
+    let helpers = c.give_seats.ensures.of s seats.0 c.run_on.ensures.seats in
+    all_back s g.N1.LockNaming.handlers g.N2.LockNaming.handlers g.N3.LockNaming.handlers g.N4.LockNaming.handlers c.give_back-spent.new.passes c.run_on.new.handlers.items c.give_seats.new.helpers passes
+    c.give_back-spent.ensures.back c.give_back-spent.ensures.out (omega (arith, c.run_on.ensures.run.len, taken, c.requires.few, c.args.rooms.ok)) helpers
+    (two_each s c.args.started.helpers c.give_seats.new.helpers c.requires.helpers.0 helpers same c.requires.helpers.1)
+
+always : {A : Type 0} (P : Type 0) (o : Option A) → P → IfSome o (λ _. P)
+always P None is = tt
+always P (Some x) is = is
+
+pub close-closed-requires-clause-regions : goal.close-closed-requires-clause-regions
+close-closed-requires-clause-regions g c =
+    let s : Servers = c.args.started.groups in
+    record {
+      second_same = always _ s.second (c.requires.fits 2).regions;
+      third_same = always _ s.third (c.requires.fits 3).regions;
+      fourth_same = always _ s.fourth (c.requires.fits 4).regions;
+    }
+
+pub returns : goal.returns
+returns g c =
+    let s : Servers = c.args.started.groups in
+    let names : ℕ → Naming = named g.N1.ServerNaming.name g.N2.ServerNaming.name g.N3.ServerNaming.name g.N4.ServerNaming.name in
+    let back = close-closed-requires-clause-back g c.before in
+    let olds = c.take_passes.new.handlers.items in
+    let news = c.run_on.new.handlers.items in
+    let all = (c.take_passes.ensures.of s c.requires.passes.0).1 in
+    let h = handled names s c.args.time g.N1.ServerNaming.name.regions c.args.rooms.items olds news c.requires.servers c.take_passes.ensures.taken all c.run_on.ensures.run in
+    let e = c.close-closed.ensures in
+    let passes = c.give_back-spent.new.passes in
+    let have = c.give_back-spent.ensures.back in
+    record {
+      handlers = h.0;
+      handled = are_handled names s c.args.time g.N1.ServerNaming.name.regions c.args.rooms.items news h.0 h.1;
+      lines = c.give_back-spent.ensures.parts ∙ h.1.lines;
+      first_told = h.1.spent ∙ sym c.give_back-spent.ensures.spent;
+      ends = e.0;
+      joined = e.1;
+      first = subst (λ ps. HasEnded g.D.Disk g.N1.ServerNaming g.N1.LockNaming g.N1.ServiceNaming g.N1.VersionsNaming ps e.0.first) (have.first ∙ sym (h.1.passes 1)) e.2;
+      second = ended_of g.D.Disk g.N2.ServerNaming g.N2.LockNaming g.N2.ServiceNaming g.N2.VersionsNaming s.second g.N2.LockNaming.handlers (passes_on 2 h.0) passes.second c.give_seats.new.helpers.second e.0.second back.second
+          (same_back (known_on 2 news) (passes_on 2 h.0) passes.second (sym (h.1.passes 2)) have.second) e.3;
+      third = ended_of g.D.Disk g.N3.ServerNaming g.N3.LockNaming g.N3.ServiceNaming g.N3.VersionsNaming s.third g.N3.LockNaming.handlers (passes_on 3 h.0) passes.third c.give_seats.new.helpers.third e.0.third back.third
+          (same_back (known_on 3 news) (passes_on 3 h.0) passes.third (sym (h.1.passes 3)) have.third) e.4;
+      fourth = ended_of g.D.Disk g.N4.ServerNaming g.N4.LockNaming g.N4.ServiceNaming g.N4.VersionsNaming s.fourth g.N4.LockNaming.handlers (passes_on 4 h.0) passes.fourth c.give_seats.new.helpers.fourth e.0.fourth back.fourth
+          (same_back (known_on 4 news) (passes_on 4 h.0) passes.fourth (sym (h.1.passes 4)) have.fourth) e.5;
+    }

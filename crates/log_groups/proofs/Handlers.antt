@@ -1,0 +1,30 @@
+-- All passes of a handler are one handler's.
+use Rattle.std.proofs.Common.{◌≡◌, ℕ, ◌+◌, Option, Some, None, sym, ap, ◌∙◌}
+use Rattle.log_service.specs.Places.{ServiceId}
+use Rattle.region_calls.specs.declared.pass.Pass.{Pass}
+use Rattle.region_calls.specs.declared.passes.Passes.{Passes}
+use Rattle.region_lock.specs.declared.naming.LockNaming.{Ghosts}
+use Rattle.group_servers.specs.Dealing.{IsEvenAt, IsNextAt}
+use Rattle.group_servers.specs.Passes.{known_by, HasHandlerAt, IsPassAt}
+
+module _ {N : Type 0} {g : Ghosts N} where
+  -- the first pass keeps its handler
+  pub first_keeps : (h now : ℕ) (p : Option (Pass N g)) → now ≡ h → HasHandlerAt h p → HasHandlerAt now p
+  first_keeps h now None same is = tt
+  first_keeps h now (Some p) same is = is ∙ sym same
+
+  -- another one keeps it
+  pub other_keeps : (place : Option ServiceId) (h : ℕ) (old new : Option (Pass N g)) → IsPassAt place old → IsPassAt place new
+      → (known_by new).handler ≡ (known_by old).handler → HasHandlerAt h old → HasHandlerAt h new
+  other_keeps place h old None was is same had = tt
+  other_keeps None h old (Some q) was is same had = absurd is
+  other_keeps (Some place) h None (Some q) was is same had = absurd was
+  other_keeps (Some place) h (Some p) (Some q) was is same had = same ∙ had
+
+  -- the next handler's is handed out
+  pub handed_out : (h these out handler : ℕ) (p : Option (Passes N g)) (r : Option (Pass N g)) (q : Option (Passes N g)) → IsEvenAt h out these p → IsNextAt p r q
+      → handler ≡ out + 1 → HasHandlerAt handler r
+  handed_out h these out handler p None q even step is = tt
+  handed_out h these out handler None (Some x) q even step is = absurd step
+  handed_out h these out handler (Some p) (Some x) None even step is = absurd step
+  handed_out h these out handler (Some p) (Some x) (Some q) even step is = step.fresh.handler ∙ ap (λ (n : ℕ). n + 1) even.1 ∙ sym is

@@ -1,0 +1,10 @@
+pub mod Ending
+pub mod Evens
+pub mod Held
+pub mod Seats
+pub mod Starts
+pub mod Handlers
+pub mod Joins
+pub mod Answered
+pub mod Doing
+pub mod Crossing

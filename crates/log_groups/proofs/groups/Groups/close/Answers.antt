@@ -1,0 +1,33 @@
+use Rattle.log_groups.proofs.Ending.{as_first, as_many, ended_at, ended_so}
+use Rattle.std.proofs.Common.{refl, subst}
+use Rattle.group_stores.specs.declared.lists.GroupList.{GroupList}
+use Rattle.group_servers.specs.declared.shutting.ServerEnd.{ServerEnd}
+use Rattle.log_groups.specs.Servers.{Servers}
+use Rattle.region_calls.specs.Deals.{passes_back}
+use Rattle.log_groups.specs.Closing.{IsJoined, regions_in}
+use Rattle.log_groups.proofs.groups.Groups.close.Goals as goal
+
+pub join-requires-clause-count : goal.join-requires-clause-count
+join-requires-clause-count g c =
+    let n = g.N1.ServerNaming.name.regions in
+    let back = c.requires.back in
+    let same = c.requires.regions in
+    let first = c.close_one-first.result in
+    let ends : GroupList (ServerEnd g.row.D.Denot) = record { first = first; second = c.close_at-second.result; third = c.close_at-third.result; fourth = c.close_at-fourth.result } in
+    let firsts = ended_so g.D.Disk g.N1.ServerNaming g.N1.LockNaming g.N1.ServiceNaming g.N1.VersionsNaming n (passes_back c.args.passes.first) first.disk first.broken first.regions refl c.close_one-first.ensures in
+    as_first n first.regions (regions_in ends) firsts
+    (as_many n ends firsts
+    (ended_at g.D.Disk g.N2.ServerNaming g.N2.LockNaming g.N2.ServiceNaming g.N2.VersionsNaming n g.N2.LockNaming.handlers _ _ _ _ back.second same.second_same c.close_at-second.ensures)
+    (ended_at g.D.Disk g.N3.ServerNaming g.N3.LockNaming g.N3.ServiceNaming g.N3.VersionsNaming n g.N3.LockNaming.handlers _ _ _ _ back.third same.third_same c.close_at-third.ensures)
+    (ended_at g.D.Disk g.N4.ServerNaming g.N4.LockNaming g.N4.ServiceNaming g.N4.VersionsNaming n g.N4.LockNaming.handlers _ _ _ _ back.fourth same.fourth_same c.close_at-fourth.ensures))
+
+pub returns : goal.returns
+returns g c =
+    let ends : GroupList (ServerEnd g.row.D.Denot) = record { first = c.close_one-first.result; second = c.close_at-second.result; third = c.close_at-third.result; fourth = c.close_at-fourth.result } in (
+      ends,
+      subst (λ (s : Servers). IsJoined s.count ends c.join.result) c.self.view_is c.join.ensures,
+      c.close_one-first.ensures,
+      c.close_at-second.ensures,
+      c.close_at-third.ensures,
+      c.close_at-fourth.ensures,
+    )

@@ -1,0 +1,7 @@
+pub mod Servers
+pub mod Passes
+pub mod Helpers
+pub mod Serving
+pub mod Dealing
+pub mod Starting
+pub mod Closing
