@@ -19,7 +19,6 @@ use Rattle.region_calls.specs.contracts.pass.Pass as pass
 use Rattle.region_calls.specs.contracts.server.Server as server
 use Rattle.region_calls.specs.declared.naming.ServerNaming.{Ghosts}
 use Rattle.region_lock.specs.contracts.locked.Locked as locked
-use Rattle.region_lock.specs.contracts.part.RegionPart as part
 use Rattle.region_lock.specs.contracts.pass.RegionPass as region_pass
 use Rattle.region_lock.specs.declared.naming.LockNaming.{Ghosts as LockGhosts}
 use Rattle.region_state.proofs.state.RegionState.TheSendSync as state
@@ -54,22 +53,24 @@ module _ (N R : RattleType) (g : LockGhosts N.Denot) (l : LogGhosts N.Denot) (v 
   history_send : IsSend N → IsSend (histories.the_row N v)
   history_send n = search (history.the_send, sendable, crosses) fits 5000 depth 30
 
-  pub part_send : IsSend N → IsSend (part.the_row N g l v)
-  part_send n =
-      view_send _ _ _ _ _ (declared_send (part.TheInside.the_type N g l v) (
+  pub locked_send : IsSend N → IsSend R → IsSend (locked.the_row N R g l v)
+  locked_send n r =
+      view_send _ _ _ _ _ (declared_send (locked.TheInside.the_type N R g l v) (
         as_row_send states.the_field state_send,
         (
           as_row_send (ring_pass.the_field item.the_row) pass_send,
           (
             search (as_row_send, desk.the_send, lines.the_send, sendable, crosses) fits 5000 depth 30,
-            (search (as_row_send, desk.the_send, sendable, crosses) fits 5000 depth 30, (search (as_row_send, sendable, crosses) fits 5000 depth 30, (search (as_row_send, sendable, crosses) fits 5000 depth 30, tt))),
+            (
+              search (as_row_send, desk.the_send, sendable, crosses) fits 5000 depth 30,
+              (
+                search (as_row_send, sendable, crosses) fits 5000 depth 30,
+                (shower_send N R v n r, (as_row_send (histories.the_field N v) (history_send n), tt)),
+              ),
+            ),
           ),
         ),
       ))
-
-  pub locked_send : IsSend N → IsSend R → IsSend (locked.the_row N R g l v)
-  locked_send n r =
-      view_send _ _ _ _ _ (declared_send (locked.TheInside.the_type N R g l v) (as_row_send (part.the_field N g l v) (part_send n), (shower_send N R v n r, (as_row_send (histories.the_field N v) (history_send n), tt))))
 
 module _ (N : RattleType) (g : LockGhosts N.Denot) (v : VersionGhosts N.Denot) where
   pub region_pass_send : IsSend N → IsSend (region_pass.the_row N g v)

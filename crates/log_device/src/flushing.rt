@@ -56,7 +56,7 @@ impl<D: Disk> Device<D> {
         ensures cause { CausesFault D.Disk self.old self.new ((IsBroken self.old → ⊥)
             × IsErrOf result DeviceFlush.WriteFault) }
     {
-        self.commit_staged()?;
+        self.sync()?;
         self.flush_committed(alloc, region, family)
     }
 

@@ -40,7 +40,7 @@ impl<D: Disk> Device<D> {
         ensures cause { CausesFault D.Disk self.old self.new ((IsBroken self.old → ⊥)
             × IsErrOf result RollRefusal.WriteFault) }
     {
-        self.commit_staged()?;
+        self.sync()?;
         self.roll_committed(alloc)
     }
 

@@ -64,7 +64,13 @@ impl<D: Disk> Device<D> {
             → Syncs D.Disk h result self.old self.new }
         ensures numbers { SyncsNumbers result self.old self.new }
 
-        // The logs' chronicle before the call begins the one after it, whatever it answers.
+        ensures order { OnOk result (AreInOrder (numbers_of self.old)) }
+
+        // The current log is longer by what was committed, the lower ones stay; so the logs' chronicle before the call begins the one after
+        // it, whatever it answers.
+        ensures appends { IsTrue D.told → (h : History) (file : OpenLog) → HasHistory D.Disk self.old h
+            → log_of self.old ≡ Some file
+            → AppendsTo file.name.number (files_of D.Disk self.old) (files_of D.Disk self.new) }
         ensures chronicle { IsTrue D.told → (h : History) → HasHistory D.Disk self.old h
             → Prolongs (files_of D.Disk self.old) (files_of D.Disk self.new) }
 
@@ -72,22 +78,6 @@ impl<D: Disk> Device<D> {
         ensures stays { IsBroken self.old → self.new ≡ self.old }
         ensures broken { IsErr result ↔ IsBroken self.new }
         ensures cause { CausesFault D.Disk self.old self.new ((IsBroken self.old → ⊥) × IsErr result) }
-    {
-        self.commit_staged()
-    }
-
-    /// The same, with what it leaves of the logs.
-    pub(crate) fn commit_staged(&mut self) -> Result<u64, WriteFault>
-        requires { IsTrue D.told → (IsBroken self.old → ⊥) → ∥ ((h : History) × HasHistory D.Disk self.old h) ∥₁ }
-
-        ensures syncs { IsTrue D.told → (h : History) → HasHistory D.Disk self.old h
-            → Syncs D.Disk h result self.old self.new }
-        ensures numbers { SyncsNumbers result self.old self.new }
-        ensures appends { IsTrue D.told → (h : History) (file : OpenLog) → HasHistory D.Disk self.old h
-            → log_of self.old ≡ Some file
-            → AppendsTo file.name.number (files_of D.Disk self.old) (files_of D.Disk self.new) }
-        ensures order { OnOk result (AreInOrder (numbers_of self.old)) }
-        ensures breaks { Breaks D.Disk (IsErr result) self.old self.new }
     {
         let Some(log) = &mut self.log else {
             return Err(WriteFault);

@@ -69,7 +69,7 @@ fn take_region<
     sure(rt, here);
     let met = meet_all(&mut locked, passes, place as usize);
     sure(rt, met);
-    let (base, lines, pass) = locked.into_part().into_parts();
+    let (base, lines, pass) = locked.into_parts();
     places.put_back(pass);
     Taken { base, lines }
 }

@@ -4,7 +4,7 @@ use Rattle.std.specs.List.{AllPass}
 use mathlib.Core.List.{IsPrefix}
 use Rattle.region_model.specs.Journal.{Outcome, Follows, is_completed}
 use Rattle.region_model.specs.Lines.{Line, edits_in, ended, with_outcome, IsPending, is_completed_line}
-use Rattle.region_versions.specs.Histories.{Beginning}
+use Rattle.region_versions.specs.Histories.{Beginning, beginning}
 use Rattle.region_versions.proofs.Fronts.{prefix_self, prefix_trans}
 use Rattle.region_lock.specs.Histories.{HasShown}
 use Rattle.region_lock.proofs.Ties.{above_last}
@@ -36,6 +36,22 @@ shown_ended r last n o xs history seen h f p =
     let pending : IsPending (history.lines ++ rest) n = subst (λ (l : List Line). IsPending l n) (sym whole) p in
     let behind = pending_behind r last n history.lines rest follows h.completed pending in
     record { region = h.region; of = h.of; front = (with_outcome n o rest, sym (front_stays r last n o history.lines rest follows behind) ∙ ap (with_outcome n o) whole); completed = h.completed; shown = h.shown }
+
+-- lines are added behind
+pub shown_begun : (r : ℕ) (xs ys : List Line) (history seen : Beginning) → HasShown r xs history seen → HasShown r (xs ++ ys) history seen
+shown_begun r xs ys history seen h = record { region = h.region; of = h.of; front = prefix_trans history.lines xs (xs ++ ys) h.front (ys, refl); completed = h.completed; shown = h.shown }
+
+-- there is no line, and nothing is shown
+pub shown_none : (r : ℕ) (xs : List Line) (history seen : Beginning) → xs ≡ [] → history ≡ beginning r [] → seen ≡ history → HasShown r xs history seen
+shown_none r xs history seen none new same =
+    let empty : history.lines ≡ [] = ap (λ (b : Beginning). b.lines) new in
+    record {
+      region = ap (λ (b : Beginning). b.region) new;
+      of = ap (λ (b : Beginning). b.region) (same ∙ new);
+      front = (xs, ap (λ (l : List Line). l ++ xs) empty);
+      completed = subst (AllPass is_completed_line) (sym empty) (λ k d lt. absurd (omega (arith, lt)));
+      shown = subst (λ (b : Beginning). IsPrefix b.lines history.lines) (sym same) (prefix_self history.lines);
+    }
 
 -- ---- the history catches up
 

@@ -55,6 +55,16 @@ handled_here h x xs e = ap (λ (b : Bool). cond b (x ∷ handled_lines h xs) (ha
 pub handled_else : (h : ℕ) (x : Line) (xs : List Line) → x.caller.handler ≢ h → handled_lines h (x ∷ xs) ≡ handled_lines h xs
 handled_else h x xs e = ap (λ (b : Bool). cond b (x ∷ handled_lines h xs) (handled_lines h xs)) (ne_eqb x.caller.handler h e)
 
+-- the list of the hand with this number is its handler's lines
+pub own_of : (records : List (Record Line)) (xs : List Line) (h h' : ℕ) (r r' : Record Line) → AreOwn records xs → 1 ≤ h → slice_get records (h - 1) ≡ Some r → r' ≡ r → h' ≡ h → r'.list ≡ handled_lines h' xs
+own_of records xs h h' r r' own given at same number =
+    let k : h - 1 + 1 ≡ h' = omega (arith, given, number) in
+    ap (λ (q : Record Line). q.list) same ∙ own (h - 1) r at ∙ ap (λ (i : ℕ). handled_lines i xs) k
+
+-- what the hand with this number was told as spent is at most the last number
+pub told_of : (records : List (Record ℕ)) (last k : ℕ) (r r' : Record ℕ) → AreTold records last → slice_get records k ≡ Some r → r' ≡ r → (n : ℕ) → Contains r'.list n → n ≤ last
+told_of records last k r r' told at same n has = told k r n at (subst (λ (q : Record ℕ). Contains q.list n) same has)
+
 -- a line is added
 pub own_begun : (records : List (Record Line)) (xs : List Line) (k : ℕ) (r : Record Line) (x : Line) → AreOwn records xs → slice_get records k ≡ Some r → x.caller.handler ≡ k + 1
     → AreOwn (set records k (with_value r x)) (xs ++ x ∷ [])

@@ -2,8 +2,8 @@
 use Rattle.std.specs.Prelude.{◌≡◌, ℕ, ◌-◌, ◌^◌, ◌<◌, List, [], ◌∷◌, ◌++◌}
 use Rattle.region_model.specs.Lines.{Line}
 use Rattle.region_lock.specs.declared.job.Job.{Job}
-use Rattle.region_lock.specs.declared.locked.Tried.{Tried}
-use Rattle.region_lock.specs.declared.locked.Tried.TheVariants as tries
+use Rattle.region_lock.specs.declared.editing.Tried.{Tried}
+use Rattle.region_lock.specs.declared.editing.Tried.TheVariants as tries
 use Rattle.region_lock.specs.Jobs.{IsJobBack, line_of}
 use Rattle.region_lock.specs.Parts.{AreBelow}
 

@@ -3,16 +3,17 @@
 ghost use Rattle.std.specs.Prelude.{◌≡◌, ◌+◌, ◌<◌, ◌≤◌, ◌^◌};
 ghost use Rattle.hand_register.specs.Desks.{with_value};
 ghost use Rattle.log_model.specs.Entry.{Entry, entry_frame};
-ghost use Rattle.region_model.specs.Lines.{IsPending, with_outcome};
+ghost use Rattle.region_model.specs.Lines.{with_outcome};
 ghost use Rattle.region_state.specs.States.{write_point, IsReadPoint};
 ghost use Rattle.region_state.specs.Outcomes.{outcome_at_end};
 ghost use Rattle.region_lock.specs.Hands.{SameHand};
 ghost use Rattle.region_lock.specs.Jobs.{IsJob, IsBegun};
 ghost use Rattle.region_lock.specs.Parts.{EndsPending, WasEnded, AreCalledBelow, with_lines};
+ghost use Rattle.region_lock.specs.Tries.{IsTried};
 
 use crate::job::Job;
+use crate::locked::Locked;
 use crate::naming::LockNaming;
-use crate::part::RegionPart;
 use append_ring::Full;
 use disk_images::Disk;
 use hand_register::Hand;
@@ -22,12 +23,61 @@ use region_state::{Ended, Line};
 use std::sync::Wait;
 use write_queue::WriteEntry;
 
-impl<N: LockNaming + log_service::ServiceNaming + region_versions::VersionsNaming> RegionPart<N> {
+/// What came of a try to begin an edit. The number that was begun has to be ended.
+pub(crate) enum Tried {
+    Begun(WriteEntry),
+    Spent { last: u64 },
+    Memory,
+    Again(Job),
+}
+
+impl<
+    N: LockNaming + log_service::ServiceNaming + region_versions::VersionsNaming,
+    R: Wait + Drop,
+> Locked<N, R> {
+    /// Tries to begin an edit of this region, whose pass has seen this point.
+    pub(crate) fn draw<D: Disk, S: Wait>(
+        &mut self,
+        rt: &S,
+        service: &LogService<D, N>,
+        region: u32,
+        seen: u64,
+        hand: &mut Hand<Line>,
+        told: &mut Hand<u64>,
+        job: Job,
+    ) -> Tried
+        requires ring { service.now.ring ≡ N.ring }
+        requires hand { hand.old.desk ≡ N.desk region }
+        requires told { told.old.desk ≡ N.spent region }
+        requires job { IsJob region job }
+        requires caller { (job.caller.handler ≡ hand.old.number) × AreCalledBelow job.caller.call hand.old.record.list }
+        ensures tried { IsTried region seen job hand.old.record.list told.old.record.list result hand.new.record.list told.new.record.list }
+        ensures mark { hand.new.record.mark ≡ hand.old.record.mark }
+        ensures hand { SameHand hand.old hand.new }
+        ensures told { SameHand told.old told.new }
+    {
+        if self.region() != region || self.write_point() < seen {
+            return Tried::Again(job);
+        }
+        if self.write_point() + 1 >= 1 << 48 {
+            return Tried::Spent {
+                last: self.tell_spent(told),
+            };
+        }
+        if self.state.ready().is_err() {
+            return Tried::Memory;
+        }
+        match self.begin(rt, service, hand, job) {
+            Ok(entry) => Tried::Begun(entry),
+            Err(back) => Tried::Again(back),
+        }
+    }
+
     /// Draws the next number for an edit, pushes its entry, and puts its pending line behind the journal and the handler's own list. Where
     /// the ring is full nothing changes, and the job comes back.
-    pub(crate) fn begin<D: Disk, R: Wait>(
+    fn begin<D: Disk, S: Wait>(
         &mut self,
-        rt: &R,
+        rt: &S,
         service: &LogService<D, N>,
         hand: &mut Hand<Line>,
         job: Job,
@@ -55,7 +105,7 @@ impl<N: LockNaming + log_service::ServiceNaming + region_versions::VersionsNamin
         match service.push(rt, &mut self.pass, Item::Append(truck)) {
             Ok(()) => {
                 let entry = self.state.begin_edit(caller, time, batch, draft);
-                let RegionPart { state, desk, .. } = self;
+                let Locked { state, desk, .. } = self;
                 let lines = state.journal();
                 desk.add(hand, &lines[lines.len() - 1]);
                 Ok(entry)
@@ -81,17 +131,21 @@ impl<N: LockNaming + log_service::ServiceNaming + region_versions::VersionsNamin
         }
     }
 
-    /// Pushes the wish that the region's entries up to the number be durable. False where the ring was full.
-    pub(crate) fn ask<D: Disk, R: Wait>(
+    /// Asks that the region's entries up to the number be durable. False where the ring was full, or where it is another region's lock,
+    /// which no run shows.
+    pub(crate) fn ask<D: Disk, S: Wait>(
         &mut self,
-        rt: &R,
+        rt: &S,
         service: &LogService<D, N>,
+        region: u32,
         number: u64,
     ) -> bool
         requires ring { service.now.ring ≡ N.ring }
         ensures same { self.new ≡ self.old }
     {
-        let region = self.state.region();
+        if self.state.region() != region {
+            return false;
+        }
         service
             .push(rt, &mut self.pass, Item::Sync { region, number })
             .is_ok()
@@ -101,7 +155,6 @@ impl<N: LockNaming + log_service::ServiceNaming + region_versions::VersionsNamin
     pub(crate) fn end(&mut self, hand: &mut Hand<Line>, entry: WriteEntry, ended: Ended) -> u64
         requires hand { hand.old.desk ≡ N.desk self.old.state.region }
         requires last { EndsPending hand.old.record.list entry }
-        ensures was { IsPending self.old.state.lines entry }
         ensures own { WasEnded (outcome_at_end ended) hand.old.record.list hand.new.record.list }
         ensures mark { hand.new.record.mark ≡ hand.old.record.mark }
         ensures lines { self.new ≡ with_lines self.old (with_outcome entry (outcome_at_end ended) self.old.state.lines) self.new.state.room }
@@ -114,13 +167,13 @@ impl<N: LockNaming + log_service::ServiceNaming + region_versions::VersionsNamin
         let _all = self.state.journal();
         let number = entry.number();
         let point = self.state.end_edit(entry, ended);
-        let RegionPart { state, desk, .. } = self;
+        let Locked { state, desk, .. } = self;
         desk.amend(hand, state.line(number));
         point
     }
 
     /// Tells a hand that numbers are spent, and which one was the last.
-    pub(crate) fn tell_spent(&mut self, told: &mut Hand<u64>) -> u64
+    fn tell_spent(&mut self, told: &mut Hand<u64>) -> u64
         requires { told.old.desk ≡ N.spent self.old.state.region }
         ensures last { result ≡ write_point self.old.state }
         ensures told { told.new.record ≡ with_value told.old.record result }

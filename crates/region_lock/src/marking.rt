@@ -5,12 +5,16 @@ ghost use Rattle.hand_register.specs.Desks.{with_mark};
 ghost use Rattle.region_lock.specs.Hands.{SameHand};
 ghost use Rattle.region_lock.specs.Marks.{IsLooked};
 
+use crate::locked::Locked;
 use crate::naming::LockNaming;
-use crate::part::RegionPart;
 use hand_register::Hand;
 use region_state::{Caller, Line};
+use std::sync::Wait;
 
-impl<N: LockNaming + log_service::ServiceNaming + region_versions::VersionsNaming> RegionPart<N> {
+impl<
+    N: LockNaming + log_service::ServiceNaming + region_versions::VersionsNaming,
+    R: Wait + Drop,
+> Locked<N, R> {
     /// The look of a flush. Where a flush is under way it answers its caller, and changes nothing. Else it sets the mark of `by`, in the
     /// state and in the desk, changes nothing else, and gives the write point, which none of the handler's own edits is above. It takes no
     /// memory.

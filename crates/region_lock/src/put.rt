@@ -16,9 +16,10 @@ ghost use Rattle.region_lock.specs.Passes.{IsAtService, SameView, SamePass, know
 ghost use Rattle.region_lock.specs.Puts.{IsAttempted, IsDrawn, IsLogged, IsFaultExact, IsWatched};
 
 use crate::answers::PutRefusal;
+use crate::editing::Tried;
 use crate::gate::Gate;
 use crate::job::Job;
-use crate::locked::{Locked, Tried};
+use crate::locked::Locked;
 use crate::naming::LockNaming;
 use crate::pass::RegionPass;
 use crate::waiting::help;

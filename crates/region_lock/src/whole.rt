@@ -8,13 +8,11 @@ ghost use Rattle.region_versions.specs.Histories.{beginning};
 
 use crate::locked::Locked;
 use crate::naming::LockNaming;
-use crate::part::RegionPart;
 use append_ring::RingKey;
 use hand_register::Desk;
 use log_service::Item;
 use region_state::{Line, RegionState};
 use region_versions::{History, Shower};
-use std::marker::PhantomData;
 use std::sync::Wait;
 
 impl<
@@ -42,16 +40,12 @@ impl<
         ensures state { result.state ≡ state }
         ensures mark { result.mark ≡ None }
     {
-        let part = RegionPart {
+        Locked {
             state,
             pass,
             desk,
             spent,
             mark: None,
-            of: PhantomData,
-        };
-        Locked {
-            part,
             shower,
             history,
         }

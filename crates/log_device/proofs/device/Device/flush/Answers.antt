@@ -13,10 +13,10 @@ use Rattle.log_device.proofs.Syncing.{at_rest}
 use Rattle.log_device.proofs.device.Device.flush.Goals as goal
 
 -- the commit failed
-pub returns-in_err-commit_staged-clause-flushes : goal.returns-in_err-commit_staged-clause-flushes
-returns-in_err-commit_staged-clause-flushes g c told h whole =
-    let mid = c.commit_staged.new.self in
-    let sync = c.commit_staged.ensures.syncs told h whole in
+pub returns-in_err-sync-clause-flushes : goal.returns-in_err-sync-clause-flushes
+returns-in_err-sync-clause-flushes g c told h whole =
+    let mid = c.sync.new.self in
+    let sync = c.sync.ensures.syncs told h whole in
     let failed = c.from_residual.ensures in record {
       any_moment = (4, sync.any_moment);
       names = λ file is. (4, sync.names file is);
@@ -25,43 +25,43 @@ returns-in_err-commit_staged-clause-flushes g c told h whole =
       store = none_of c.from_residual.result (λ n. HasStore (g.D.Disk.view mid.disk) c.args.region (family_in (option_copied c.args.family)) (get_or c.args.self.now.ledger.value.next_store c.args.region 0)
           (h.kept.flushed c.args.region (family_in (option_copied c.args.family)) + 1) n) failed.0;
       nothing = λ n is. absurd (not_nothing c.from_residual.result refusals.WriteFault (λ m is. absurd (cc is)) failed.1 n is);
-      refused = on_any {P = (IsBroken mid → ⊥) → HasHistory g.D.Disk mid (committed_in h)} c.from_residual.result (λ unbroken. absurd (unbroken (c.in_err-commit_staged.ensures.breaks.broken.0 refl)));
+      refused = on_any {P = (IsBroken mid → ⊥) → HasHistory g.D.Disk mid (committed_in h)} c.from_residual.result (λ unbroken. absurd (unbroken (c.in_err-sync.ensures.broken.0 refl)));
       lower = sync.lower;
     }
 
-pub returns-in_err-commit_staged-clause-chronicle : goal.returns-in_err-commit_staged-clause-chronicle
-returns-in_err-commit_staged-clause-chronicle g c told h whole =
-    prolonged whole.file.name.number (g.D.Disk.view c.args.self.now.disk).files (g.D.Disk.view c.commit_staged.new.self.disk).files (c.commit_staged.ensures.appends told h whole.file whole whole.is)
+pub returns-in_err-sync-clause-chronicle : goal.returns-in_err-sync-clause-chronicle
+returns-in_err-sync-clause-chronicle g c told h whole =
+    prolonged whole.file.name.number (g.D.Disk.view c.args.self.now.disk).files (g.D.Disk.view c.sync.new.self.disk).files (c.sync.ensures.appends told h whole.file whole whole.is)
 
 pub flush_committed-requires-clause-rest : goal.flush_committed-requires-clause-rest
 flush_committed-requires-clause-rest g c =
-    at_rest g.D.Disk _ c.args.self.now c.commit_staged.new.self c.requires.whole (λ told h whole. (c.in_ok-commit_staged.ensures.syncs told h whole).committed) c.in_ok-commit_staged.ensures.order
-    c.in_ok-commit_staged.ensures.numbers c.in_ok-commit_staged.ensures.breaks
+    at_rest g.D.Disk _ c.args.self.now c.sync.new.self c.requires.whole (λ told h whole. (c.in_ok-sync.ensures.syncs told h whole).committed) c.in_ok-sync.ensures.order
+    c.in_ok-sync.ensures.numbers (record { stays = c.in_ok-sync.ensures.stays; broken = c.in_ok-sync.ensures.broken; cause = c.in_ok-sync.ensures.cause })
 
 pub returns-clause-flushes : goal.returns-clause-flushes
 returns-clause-flushes g c told h whole =
-    let sync = c.in_ok-commit_staged.ensures.syncs told h whole in
-    flushes_behind g.D.Disk h c.args.region (option_copied c.args.family) _ c.flush_committed.result c.args.self.now c.commit_staged.new.self c.flush_committed.new.self (g.met.D.Disk.is_true c.args.self.now.disk told)
-    (g.met.D.Disk.is_true c.commit_staged.new.self.disk told) whole sync.committed c.in_ok-commit_staged.ensures.numbers.synced c.in_ok-commit_staged.ensures.numbers.file sync
+    let sync = c.in_ok-sync.ensures.syncs told h whole in
+    flushes_behind g.D.Disk h c.args.region (option_copied c.args.family) _ c.flush_committed.result c.args.self.now c.sync.new.self c.flush_committed.new.self (g.met.D.Disk.is_true c.args.self.now.disk told)
+    (g.met.D.Disk.is_true c.sync.new.self.disk told) whole sync.committed c.in_ok-sync.ensures.numbers.synced c.in_ok-sync.ensures.numbers.file sync
     (c.flush_committed.ensures.flushes told (committed_in h) sync.committed refl)
 
 pub returns-clause-chronicle : goal.returns-clause-chronicle
 returns-clause-chronicle g c told h whole =
     let u = g.D.Disk.view c.args.self.now.disk in
-    let v = g.D.Disk.view c.commit_staged.new.self.disk in
+    let v = g.D.Disk.view c.sync.new.self.disk in
     let w = g.D.Disk.view c.flush_committed.new.self.disk in
     let n = whole.file.name.number in
-    prolonged n u.files w.files (appends_and_stays n u.files v.files w.files (c.commit_staged.ensures.appends told h whole.file whole whole.is) (λ k low. c.flush_committed.ensures.logs told k))
+    prolonged n u.files w.files (appends_and_stays n u.files v.files w.files (c.sync.ensures.appends told h whole.file whole whole.is) (λ k low. c.flush_committed.ensures.logs told k))
 
 pub returns-clause-numbers : goal.returns-clause-numbers
 returns-clause-numbers g c =
-    numbers_behind c.args.region (option_copied c.args.family) c.flush_committed.result c.args.self.now c.commit_staged.new.self c.flush_committed.new.self c.in_ok-commit_staged.ensures.numbers.synced c.commit_staged.ensures.numbers.never_falls c.commit_staged.ensures.numbers.few
-    c.in_ok-commit_staged.ensures.numbers.file c.flush_committed.ensures.numbers
+    numbers_behind c.args.region (option_copied c.args.family) c.flush_committed.result c.args.self.now c.sync.new.self c.flush_committed.new.self c.in_ok-sync.ensures.numbers.synced c.sync.ensures.numbers.never_falls c.sync.ensures.numbers.few
+    c.in_ok-sync.ensures.numbers.file c.flush_committed.ensures.numbers
 
 pub returns-clause-memory : goal.returns-clause-memory
 returns-clause-memory g c memory =
     let same = c.flush_committed.ensures.memory memory in record {
       calls = λ told h whole.
-          subst (λ d. Elapses 4 (g.D.Disk.view c.args.self.now.disk) (g.D.Disk.view d)) (sym same) (c.commit_staged.ensures.syncs told h whole).any_moment.time;
-      idle = λ file is none. same ∙ (c.commit_staged.ensures.numbers.idle file is none).0;
+          subst (λ d. Elapses 4 (g.D.Disk.view c.args.self.now.disk) (g.D.Disk.view d)) (sym same) (c.sync.ensures.syncs told h whole).any_moment.time;
+      idle = λ file is none. same ∙ (c.sync.ensures.numbers.idle file is none).0;
     }

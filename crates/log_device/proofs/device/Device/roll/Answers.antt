@@ -10,24 +10,24 @@ use Rattle.log_device.proofs.Syncing.{at_rest}
 use Rattle.log_device.proofs.device.Device.roll.Goals as goal
 
 -- the commit failed
-pub returns-in_err-commit_staged-clause-rolls : goal.returns-in_err-commit_staged-clause-rolls
-returns-in_err-commit_staged-clause-rolls g c told h whole =
-    failed_rolls g.D.Disk h _ c.args.self.now c.commit_staged.new.self (c.commit_staged.ensures.syncs told h whole) c.from_residual.result c.from_residual.ensures.0 (c.in_err-commit_staged.ensures.breaks.broken.0 refl)
+pub returns-in_err-sync-clause-rolls : goal.returns-in_err-sync-clause-rolls
+returns-in_err-sync-clause-rolls g c told h whole =
+    failed_rolls g.D.Disk h _ c.args.self.now c.sync.new.self (c.sync.ensures.syncs told h whole) c.from_residual.result c.from_residual.ensures.0 (c.in_err-sync.ensures.broken.0 refl)
 
-pub returns-in_err-commit_staged-clause-chronicle : goal.returns-in_err-commit_staged-clause-chronicle
-returns-in_err-commit_staged-clause-chronicle g c told h whole =
-    prolonged whole.file.name.number (g.D.Disk.view c.args.self.now.disk).files (g.D.Disk.view c.commit_staged.new.self.disk).files (c.commit_staged.ensures.appends told h whole.file whole whole.is)
+pub returns-in_err-sync-clause-chronicle : goal.returns-in_err-sync-clause-chronicle
+returns-in_err-sync-clause-chronicle g c told h whole =
+    prolonged whole.file.name.number (g.D.Disk.view c.args.self.now.disk).files (g.D.Disk.view c.sync.new.self.disk).files (c.sync.ensures.appends told h whole.file whole whole.is)
 
 pub roll_committed-requires : goal.roll_committed-requires
 roll_committed-requires g c =
-    at_rest g.D.Disk _ c.args.self.now c.commit_staged.new.self c.requires (λ told h whole. (c.in_ok-commit_staged.ensures.syncs told h whole).committed) c.in_ok-commit_staged.ensures.order
-    c.in_ok-commit_staged.ensures.numbers c.in_ok-commit_staged.ensures.breaks
+    at_rest g.D.Disk _ c.args.self.now c.sync.new.self c.requires (λ told h whole. (c.in_ok-sync.ensures.syncs told h whole).committed) c.in_ok-sync.ensures.order
+    c.in_ok-sync.ensures.numbers (record { stays = c.in_ok-sync.ensures.stays; broken = c.in_ok-sync.ensures.broken; cause = c.in_ok-sync.ensures.cause })
 
 pub returns-clause-rolls : goal.returns-clause-rolls
 returns-clause-rolls g c told h whole =
-    let sync = c.in_ok-commit_staged.ensures.syncs told h whole in
-    rolls_behind g.D.Disk h _ c.args.self.now c.commit_staged.new.self sync c.roll_committed.result c.roll_committed.new.self (g.met.D.Disk.is_true c.args.self.now.disk told)
-    (g.met.D.Disk.is_true c.commit_staged.new.self.disk told) whole sync.committed c.in_ok-commit_staged.ensures.numbers.synced c.in_ok-commit_staged.ensures.numbers.file
+    let sync = c.in_ok-sync.ensures.syncs told h whole in
+    rolls_behind g.D.Disk h _ c.args.self.now c.sync.new.self sync c.roll_committed.result c.roll_committed.new.self (g.met.D.Disk.is_true c.args.self.now.disk told)
+    (g.met.D.Disk.is_true c.sync.new.self.disk told) whole sync.committed c.in_ok-sync.ensures.numbers.synced c.in_ok-sync.ensures.numbers.file
     (c.roll_committed.ensures.rolls told (committed_in h) sync.committed refl)
 
 -- the commit and the rest append to one log
@@ -37,23 +37,23 @@ both_append n m u v w same first second = appends_twice n u v w first (subst (λ
 pub returns-clause-chronicle : goal.returns-clause-chronicle
 returns-clause-chronicle g c told h whole =
     let u = g.D.Disk.view c.args.self.now.disk in
-    let v = g.D.Disk.view c.commit_staged.new.self.disk in
+    let v = g.D.Disk.view c.sync.new.self.disk in
     let w = g.D.Disk.view c.roll_committed.new.self.disk in
-    let now = c.in_ok-commit_staged.ensures.numbers.file whole.file whole.is in
-    let kept = (c.in_ok-commit_staged.ensures.syncs told h whole).committed in
+    let now = c.in_ok-sync.ensures.numbers.file whole.file whole.is in
+    let kept = (c.in_ok-sync.ensures.syncs told h whole).committed in
     prolonged whole.file.name.number u.files w.files
-    (both_append whole.file.name.number now.0.name.number u.files v.files w.files (ap (λ (n : Name). n.number) now.2) (c.commit_staged.ensures.appends told h whole.file whole whole.is)
+    (both_append whole.file.name.number now.0.name.number u.files v.files w.files (ap (λ (n : Name). n.number) now.2) (c.sync.ensures.appends told h whole.file whole whole.is)
     (c.roll_committed.ensures.appends told (committed_in h) now.0 kept now.1 refl))
 
 pub returns-clause-numbers : goal.returns-clause-numbers
 returns-clause-numbers g c =
-    numbers_behind c.roll_committed.result c.args.self.now c.commit_staged.new.self c.roll_committed.new.self c.in_ok-commit_staged.ensures.numbers.synced c.commit_staged.ensures.numbers.never_falls c.commit_staged.ensures.numbers.few
-    c.in_ok-commit_staged.ensures.numbers.file c.roll_committed.ensures.numbers
+    numbers_behind c.roll_committed.result c.args.self.now c.sync.new.self c.roll_committed.new.self c.in_ok-sync.ensures.numbers.synced c.sync.ensures.numbers.never_falls c.sync.ensures.numbers.few
+    c.in_ok-sync.ensures.numbers.file c.roll_committed.ensures.numbers
 
 pub returns-clause-memory : goal.returns-clause-memory
 returns-clause-memory g c memory =
     let same = c.roll_committed.ensures.memory memory in record {
       calls = λ told h whole.
-          subst (λ d. Elapses 4 (g.D.Disk.view c.args.self.now.disk) (g.D.Disk.view d)) (sym same) (c.commit_staged.ensures.syncs told h whole).any_moment.time;
-      idle = λ file is none. same ∙ (c.commit_staged.ensures.numbers.idle file is none).0;
+          subst (λ d. Elapses 4 (g.D.Disk.view c.args.self.now.disk) (g.D.Disk.view d)) (sym same) (c.sync.ensures.syncs told h whole).any_moment.time;
+      idle = λ file is none. same ∙ (c.sync.ensures.numbers.idle file is none).0;
     }

@@ -3,7 +3,7 @@ use Rattle.hand_register.specs.Desks.{with_mark}
 use Rattle.region_model.specs.Journal.{Caller}
 use Rattle.region_state.specs.States.{State}
 use Rattle.region_lock.proofs.Ties.{own_upto}
-use Rattle.region_lock.proofs.part.RegionPart.look.Goals as goal
+use Rattle.region_lock.proofs.locked.Locked.look.Goals as goal
 
 pub returns-in-None-clause-looked : goal.returns-in-None-clause-looked
 returns-in-None-clause-looked g c =

@@ -10,7 +10,8 @@ use Rattle.region_lock.specs.Jobs.{IsJob, line_of, entry_under}
 use Rattle.region_lock.proofs.Lists.{length_set}
 use Rattle.region_lock.proofs.Ties.{next_call, own_upto, follows_front}
 use Rattle.region_lock.proofs.Parts.{part_begun, spelled, kept, came_back, last_is}
-use Rattle.region_lock.proofs.part.RegionPart.begin.Goals as goal
+use Rattle.region_lock.proofs.Shows.{shown_begun}
+use Rattle.region_lock.proofs.locked.Locked.begin.Goals as goal
 
 pub push-requires-clause-whole : goal.push-requires-clause-whole
 push-requires-clause-whole g c =
@@ -55,6 +56,7 @@ invariant_of-self g c =
         known = i.1.known;
         hands = length_set c.self.inside.desk.records (h - 1) (with_value c.args.hand.now.record x) ∙ i.1.hands;
       },
+      shown_begun s.region s.lines (x ∷ []) _ _ i.2,
     )
 
 pub returns-in-Ok-clause-begun : goal.returns-in-Ok-clause-begun
