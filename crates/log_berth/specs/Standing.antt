@@ -1,5 +1,5 @@
 -- What contracts see of a seat, of the seats that are not handed out, and of a berth.
-use Rattle.std.specs.Prelude.{◌≡◌, ℕ, Bool, true, false, List, [], ◌∷◌}
+use Rattle.std.specs.Prelude.{◌≡◌, ℕ, ◌+◌, ◌<◌, ◌≤◌, Bool, true, false, List, [], ◌∷◌}
 use Rattle.atomic_table.specs.Seated.{TableId}
 use Rattle.log_berth.specs.declared.known.Known.{Known}
 use Rattle.log_berth.specs.Words.{known, nobody, idle, NoMore, Same, Informs}
@@ -18,6 +18,15 @@ pub record BerthId : Type 0 where
   pub id : TableId
   pub regions : ℕ
   pub seats : ℕ
+
+-- the table of a berth of so many regions and seats: a word for each region and two more, one slot, and room for the regions' words at its close
+pub record IsBerth (table : TableId) (key_regions key_seats regions seats : ℕ) (room : List ℕ) (capacity : ℕ) : Type 0 where
+  pub words : table.words ≡ regions + 2
+  pub slots : table.slots ≡ 1
+  pub key : ◌≡◌ {A = ℕ × ℕ} (key_regions, key_seats) (regions, seats)
+  pub none_yet : room ≡ []
+  pub room_there : regions ≤ capacity
+  pub some_seat : 0 < seats
 
 -- seats that are not handed out, and how many there is room for
 pub record Bundle : Type 0 where

@@ -21,19 +21,14 @@ pub struct Berth<W: Ware> {
 }
 
 impl<W: Ware> Model for Berth<W> {
-    ghost use Rattle.std.specs.Prelude.{◌≡◌, ℕ, ◌+◌, ◌<◌, ◌≤◌, [], vec_capacity};
-    ghost use Rattle.log_berth.specs.Standing.{BerthId};
+    ghost use Rattle.std.specs.Prelude.{vec_capacity};
+    ghost use Rattle.log_berth.specs.Standing.{BerthId, IsBerth};
 
     ghost Value = { BerthId };
 
     ghost view = { λ b. record { id = b.table.shared.table_id; regions = b.regions; seats = b.seats } };
 
-    ghost invariant = { λ b. (b.table.shared.table_id.words ≡ b.regions + 2)
-        × (b.table.shared.table_id.slots ≡ 1)
-        × (◌≡◌ {A = ℕ × ℕ} (b.table.shared.key.regions, b.table.shared.key.seats) (b.regions, b.seats))
-        × (b.room.items ≡ [])
-        × (b.regions ≤ vec_capacity b.room)
-        × (0 < b.seats) };
+    ghost invariant = { λ b. IsBerth b.table.shared.table_id b.table.shared.key.regions b.table.shared.key.seats b.regions b.seats b.room.items (vec_capacity b.room) };
 }
 
 /// The ware, out of the berth. It has to be given back.

@@ -1,10 +1,10 @@
 //! The replay of one region of a store that was split.
 
-ghost use Rattle.std.specs.Prelude.{◌≡◌, ◌≢◌, ◌≤◌, ◌<◌, ◌^◌, ℕ, List, Contains, IsTrue, IfOk, OnOk, IsErrOf};
+ghost use Rattle.std.specs.Prelude.{◌≡◌, ◌≢◌, ◌≤◌, ◌<◌, ◌^◌, Contains, IsTrue, IfOk, OnOk, IsErrOf};
 ghost use Rattle.log_model.specs.declared.name.Name.{Name as TheName};
 ghost use Rattle.log_model.specs.declared.name.NameKind.TheVariants as kinds;
 ghost use Rattle.log_model.specs.declared.damage.Damage.{Damage as TheDamage};
-ghost use Rattle.log_model.specs.Files.{Files, Reads, IsAbsent, IsPresent, content};
+ghost use Rattle.log_model.specs.Files.{Files, IsAbsent, IsPresent, content};
 ghost use Rattle.disk_images.specs.Crash.{IsImageNow};
 ghost use Rattle.disk_images.specs.Calls.{HasCause};
 ghost use Rattle.recovery_laws.specs.Alike.{AllAlike};
@@ -15,7 +15,7 @@ ghost use Rattle.found_files.specs.Refusal.{IfDamage};
 ghost use Rattle.wal_split.specs.Held.{IsHeld, IsSplit};
 ghost use Rattle.wal_split.specs.Moments.{During};
 ghost use Rattle.region_replay.specs.Alone.{IsPinned};
-ghost use Rattle.region_replay.specs.Names.{store_name, IsElsewhere};
+ghost use Rattle.region_replay.specs.Names.{AreThere, store_name, IsElsewhere};
 ghost use Rattle.region_replay.specs.Opened.{AtMostOneHigher};
 ghost use Rattle.region_replay.specs.Ready.{IsOf};
 ghost use Rattle.region_replay.specs.Regions.{IsInOrder, IsFound};
@@ -116,8 +116,7 @@ fn replay_and_clear<D: Disk>(
     requires order { IsInOrder (IsTrue D.told) found }
     requires absent { IsTrue D.told → IsAbsent (D.view disk.old).files (store_name found.region found.next_store)
         × (¬ (D.view disk.old).gone (store_name found.region found.next_store)) }
-    requires there { IsTrue D.told → (m : TheName) → Contains found.edits.items m → ∥ ((c : List ℕ)
-        × Reads (D.view disk.old).files m c) ∥₁ }
+    requires there { IsTrue D.told → AreThere (D.view disk.old).files found.edits.items }
 
     ensures any_moment { IsTrue D.told → (base : Files) → IsHeld base (D.view disk.old)
         → IsFound (D.view disk.old).files found → During (AllAlike base) (D.view disk.old) (D.view disk.new) }

@@ -1,14 +1,14 @@
 //! The replay of one region whose files were read.
 
-ghost use Rattle.std.specs.Prelude.{◌≡◌, ◌≢◌, ◌<◌, ℕ, List, Contains, IsTrue, IfOk, OnOk, IsErrOf};
+ghost use Rattle.std.specs.Prelude.{◌≡◌, ◌≢◌, ◌<◌, Contains, IsTrue, IfOk, OnOk, IsErrOf};
 ghost use Rattle.log_model.specs.declared.name.Name.{Name as TheName};
 ghost use Rattle.log_model.specs.declared.name.NameKind.TheVariants as kinds;
-ghost use Rattle.log_model.specs.Files.{Files, Reads, IsAbsent, content};
+ghost use Rattle.log_model.specs.Files.{Files, IsAbsent, content};
 ghost use Rattle.disk_images.specs.Calls.{HasCause};
 ghost use Rattle.recovery_laws.specs.Alike.{AllAlike};
 ghost use Rattle.wal_split.specs.Held.{IsHeld};
 ghost use Rattle.wal_split.specs.Moments.{During};
-ghost use Rattle.region_replay.specs.Names.{store_name};
+ghost use Rattle.region_replay.specs.Names.{AreThere, store_name};
 ghost use Rattle.region_replay.specs.Ready.{IsOf};
 ghost use Rattle.region_replay.specs.Regions.{IsInOrder, IsFound, IsTop};
 
@@ -33,8 +33,7 @@ pub(crate) fn replay_region<D: Disk>(
     requires order { IsInOrder (IsTrue D.told) found }
     requires absent { IsTrue D.told → IsAbsent (D.view disk.old).files (store_name found.region found.next_store)
         × (¬ (D.view disk.old).gone (store_name found.region found.next_store)) }
-    requires there { IsTrue D.told → (m : TheName) → Contains found.edits.items m → ∥ ((c : List ℕ)
-        × Reads (D.view disk.old).files m c) ∥₁ }
+    requires there { IsTrue D.told → AreThere (D.view disk.old).files found.edits.items }
 
     ensures any_moment { IsTrue D.told → (base : Files) → IsHeld base (D.view disk.old)
         → IsFound (D.view disk.old).files found → During (AllAlike base) (D.view disk.old) (D.view disk.new) }
@@ -65,8 +64,7 @@ fn drop_edits<D: Disk>(
 ) -> Result<Replayed, FileRefusal>
     requires order { IsInOrder (IsTrue D.told) found }
     requires over { IsTop found.unflushed.items found.flushed.last found.flushed.whole }
-    requires there { IsTrue D.told → (m : TheName) → Contains found.edits.items m → ∥ ((c : List ℕ)
-        × Reads (D.view disk.old).files m c) ∥₁ }
+    requires there { IsTrue D.told → AreThere (D.view disk.old).files found.edits.items }
 
     ensures any_moment { IsTrue D.told → (base : Files) → IsHeld base (D.view disk.old)
         → IsFound (D.view disk.old).files found → During (AllAlike base) (D.view disk.old) (D.view disk.new) }
@@ -107,8 +105,7 @@ fn store_region<D: Disk>(
     requires more { found.flushed.whole < last }
     requires absent { IsTrue D.told → IsAbsent (D.view disk.old).files (store_name found.region found.next_store)
         × (¬ (D.view disk.old).gone (store_name found.region found.next_store)) }
-    requires there { IsTrue D.told → (m : TheName) → Contains found.edits.items m → ∥ ((c : List ℕ)
-        × Reads (D.view disk.old).files m c) ∥₁ }
+    requires there { IsTrue D.told → AreThere (D.view disk.old).files found.edits.items }
 
     ensures any_moment { IsTrue D.told → (base : Files) → IsHeld base (D.view disk.old)
         → IsFound (D.view disk.old).files found → During (AllAlike base) (D.view disk.old) (D.view disk.new) }

@@ -5,7 +5,7 @@ ghost use Rattle.std.specs.FinMap.{empty};
 ghost use Rattle.cell_model.specs.Merge.{put_numbered};
 ghost use Rattle.log_model.specs.declared.name.Name.{Name as TheName};
 ghost use Rattle.log_model.specs.declared.name.NameKind.TheVariants as kinds;
-ghost use Rattle.log_model.specs.Files.{Files, Reads, IsAbsent, content};
+ghost use Rattle.log_model.specs.Files.{Files, IsAbsent, content};
 ghost use Rattle.log_model.specs.Recovered.{FlushesTo};
 ghost use Rattle.disk_images.specs.Crash.{Throughout};
 ghost use Rattle.disk_images.specs.Calls.{HasCause};
@@ -14,6 +14,7 @@ ghost use Rattle.recovery_laws.specs.Alike.{AllAlike};
 ghost use Rattle.recovery_laws.specs.Kept.{IsNotReplaced};
 ghost use Rattle.wal_split.specs.Held.{IsHeld};
 ghost use Rattle.region_replay.specs.Cuts.{IsUnflushedCut, AreEdits, EditsUpTo};
+ghost use Rattle.region_replay.specs.Names.{AreThere};
 
 use crate::removing::remove_all;
 use crate::storing::store_unflushed;
@@ -38,8 +39,7 @@ pub(crate) fn replay_found<D: Disk>(
     requires range { (1 ≤ from) × (from ≤ to) × (to < 2 ^ 48) }
     requires within { IsWithin from to cut }
     requires edits { AreEdits (IsTrue D.told) names.now }
-    requires there { IsTrue D.told → (m : TheName) → Contains names.now m → ∥ ((c : List ℕ)
-        × Reads (D.view disk.old).files m c) ∥₁ }
+    requires there { IsTrue D.told → AreThere (D.view disk.old).files names.now }
 
     ensures any_moment { IsTrue D.told → (base : Files) → IsHeld base (D.view disk.old)
         → IsUnflushedCut (D.view disk.old).files name to cut

@@ -1,6 +1,6 @@
 //! One that views.
 
-ghost use Rattle.std.specs.Prelude.{◌≡◌, ◌≤◌, [], ◌∷◌, IfOk, IfSome, IfNone, OnErr, length};
+ghost use Rattle.std.specs.Prelude.{◌≡◌, ◌≤◌, ◌<◌, [], ◌∷◌, IfOk, IfSome, IfNone, OnErr, MatchBool, length};
 ghost use Rattle.std.specs.Arc.{arc_value};
 ghost use mathlib.Core.List.{IsPrefix};
 ghost use Rattle.region_model.specs.Lines.{last_in};
@@ -157,8 +157,6 @@ impl<N: VersionsNaming> Viewer<N> {
         self.last.front().len() <= front.len()
     }
 }
-
-ghost use Rattle.std.specs.Prelude.{◌<◌, MatchBool};
 
 /// The viewers that are not handed out yet.
 #[derive(Drop)]

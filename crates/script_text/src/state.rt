@@ -52,9 +52,21 @@ impl Model for State {
     ghost use Rattle.script_calls.specs.Calls.{is_sync};
     ghost use Rattle.script_text.specs.State.{IsBehindHead, IsDue, IsHead, IsOpen, handler_call};
 
-    ghost view = { λ s. record { time = s.time; regions = s.regions; handlers = s.handlers; table = s.filling.table; calls = map handler_call s.calls.items; open_put = (s.handler, s.region, is_sync s.durability); cells = s.filling.cells; due = s.due } };
+    ghost view = { λ s. record {
+      time = s.time;
+      regions = s.regions;
+      handlers = s.handlers;
+      table = s.filling.table;
+      calls = map handler_call s.calls.items;
+      open_put = (s.handler, s.region, is_sync s.durability);
+      cells = s.filling.cells;
+      due = s.due;
+    } };
 
-    ghost invariant = { λ s. (IsHead s.time s.regions s.handlers) × ((IsBehindHead s.regions s.handlers (map handler_call s.calls.items) s.due) × ((IsOpen s.handlers s.regions s.handler s.region s.due) × (IsDue s.filling.cells s.due))) };
+    ghost invariant = { λ s. IsHead s.time s.regions s.handlers
+        × IsBehindHead s.regions s.handlers (map handler_call s.calls.items) s.due
+        × IsOpen s.handlers s.regions s.handler s.region s.due
+        × IsDue s.filling.cells s.due };
 }
 
 impl State {

@@ -36,6 +36,10 @@ pub record HasNoted (a : Accounts) (notes : List Note) : Type 0 where
   pub oldest : (r : ℕ) (f : List ℕ) → IsFirstAbove notes r f (flushed_at a r f) (oldest_at a r f)
   pub since : (r : ℕ) (f : List ℕ) → 0 < get_or a.flushing r 0 → IsFirstAbove notes r f (get_or a.flushing r 0) (since_at a r f)
 
+-- what it has of noted numbers stays
+abbrev pub KeepsNoted : (old new : Accounts) → Type 0
+KeepsNoted old new = (notes : List Note) → HasNoted old notes → HasNoted new notes
+
 -- the note is of this number of the region, and of these families, whatever their order
 pub record AreNotedAs (fs : List (List ℕ)) (r n : ℕ) (x : Note) : Type 0 where
   pub region : x.region ≡ r

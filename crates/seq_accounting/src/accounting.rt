@@ -3,7 +3,7 @@
 ghost use Rattle.std.specs.Prelude.{◌≡◌, ℕ, ◌+◌, ◌-◌, ◌<◌, ◌≤◌, ◌↔◌, List, [], ◌∷◌, ◌++◌, length, replicate, slice_set, get_or, All, AllPairs, Contains, IsTrue, IfOk, IfSome, OnOk, OnErr, MatchOption};
 ghost use Rattle.seq_accounting.specs.Accounts.{ClosedFile, flushed_at, AreLower, are_lower, IsClosed, unflushed, NoneClosedAbove, IsNextClosed, AreApart, AreFlushed};
 ghost use Rattle.seq_accounting.specs.Steps.{IsNoted, IsStarted, IsCompleted, IsAborted, IsFlushed, SameNumbers};
-ghost use Rattle.seq_accounting.specs.Noted.{Note, NoneAbove, IsLeastAbove, HasNoted, AreNotedAs};
+ghost use Rattle.seq_accounting.specs.Noted.{Note, NoneAbove, IsLeastAbove, HasNoted, KeepsNoted, AreNotedAs};
 ghost use Rattle.seq_accounting.specs.Order.{IsInOrder};
 
 use crate::closed::{FileMark, place_above, place_of};
@@ -113,7 +113,7 @@ impl Accounting {
         ensures err { OnErr result (self.old.room ≡ 0) }
         ensures same { self.new ≡ record self.old { room = self.new.room } }
         ensures room { self.old.room ≤ self.new.room }
-        ensures history { (notes : List Note) → HasNoted self.old notes → HasNoted self.new notes }
+        ensures history { KeepsNoted self.old self.new }
         ensures order { IsInOrder self.new }
     {
         Ok(self.closed.reserve(1)?)
@@ -129,7 +129,7 @@ impl Accounting {
         ensures last { self.new.last ≡ file }
         ensures room { self.new.room + 1 ≡ self.old.room }
         ensures numbers { SameNumbers self.old self.new }
-        ensures history { (notes : List Note) → HasNoted self.old notes → HasNoted self.new notes }
+        ensures history { KeepsNoted self.old self.new }
         ensures order { IsInOrder self.new }
     {
         let highest = self.current.take();
@@ -155,7 +155,7 @@ impl Accounting {
             (λ f. flushing ≡ record { region = region; family = f.now; number = number })) }
         ensures started { OnOk result (IsStarted self.old self.new region number) }
         ensures err { OnErr result (self.new ≡ self.old) }
-        ensures history { (notes : List Note) → HasNoted self.old notes → HasNoted self.new notes }
+        ensures history { KeepsNoted self.old self.new }
         ensures order { IsInOrder self.new }
     {
         let _ = &self.flushing;
@@ -174,7 +174,7 @@ impl Accounting {
         requires given { 1 ≤ number }
         requires above { get_or self.old.noted region 0 ≤ number }
         ensures started { IsStarted self.old self.new region number }
-        ensures history { (notes : List Note) → HasNoted self.old notes → HasNoted self.new notes }
+        ensures history { KeepsNoted self.old self.new }
         ensures order { IsInOrder self.new }
     {
         let place = region as usize;
@@ -187,7 +187,7 @@ impl Accounting {
     pub fn complete_flush(&mut self, flushing: Flushing)
         requires { get_or self.old.flushing flushing.region 0 ≡ flushing.number }
         ensures completed { IsCompleted self.old self.new flushing }
-        ensures history { (notes : List Note) → HasNoted self.old notes → HasNoted self.new notes }
+        ensures history { KeepsNoted self.old self.new }
         ensures order { IsInOrder self.new }
     {
         let Spent {
@@ -221,7 +221,7 @@ impl Accounting {
         requires given { 1 ≤ number }
         requires above { get_or self.old.noted region 0 ≤ number }
         ensures flushed { IsFlushed self.old self.new (record { region = region; family = room; number = number }) }
-        ensures history { (notes : List Note) → HasNoted self.old notes → HasNoted self.new notes }
+        ensures history { KeepsNoted self.old self.new }
         ensures order { IsInOrder self.new }
     {
         let flushing = room.begin(region, number);
@@ -233,7 +233,7 @@ impl Accounting {
     pub fn abort_flush(&mut self, flushing: Flushing)
         requires { get_or self.old.flushing flushing.region 0 ≡ flushing.number }
         ensures aborted { IsAborted self.old self.new flushing }
-        ensures history { (notes : List Note) → HasNoted self.old notes → HasNoted self.new notes }
+        ensures history { KeepsNoted self.old self.new }
         ensures order { IsInOrder self.new }
     {
         let Spent { region, .. } = flushing.spend();
@@ -303,7 +303,7 @@ impl Accounting {
         ensures last { self.new.last ≡ self.old.last }
         ensures room { self.old.room ≤ self.new.room }
         ensures numbers { SameNumbers self.old self.new }
-        ensures history { (notes : List Note) → HasNoted self.old notes → HasNoted self.new notes }
+        ensures history { KeepsNoted self.old self.new }
         ensures order { IsInOrder self.new }
     {
         let before = self.closed.len();

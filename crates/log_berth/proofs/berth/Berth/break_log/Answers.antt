@@ -10,4 +10,4 @@ store-requires g c =
     let same = c.sit-me.ensures.0 ∙ (ap (λ (s : Standing). s.berth) c.seat.view_is ∙ (c.requires.seat ∙ sym (ap (λ (p : BerthId). p.id) c.self.view_is))) in
     let knows : c.sit-me.result.me.0 ≡ c.args.seat.now.knows = ap first_of (sym c.sit-me.ensures.1) ∙ ap (λ (s : Standing). s.knows) c.seat.view_is in
     let k : ℕ × ℕ = (c.self.inside.regions, c.self.inside.seats) in
-    (same, omega (arith, is.0), rw is.2 (breaks g.W.Ware.numbers g.W.Ware.is_broken k _ _ _ (ap (λ (v : Known). v.turn) knows ∙ c.requires.turn.0)))
+    (same, omega (arith, is.words), rw is.key (breaks g.W.Ware.numbers g.W.Ware.is_broken k _ _ _ (ap (λ (v : Known). v.turn) knows ∙ c.requires.turn.0)))

@@ -8,4 +8,4 @@ load-found-requires g c =
     let is = c.self.invariant in
     let same = c.sit-me.ensures.0 ∙ (ap (λ (s : Standing). s.berth) c.seat.view_is ∙ (c.requires ∙ sym (ap (λ (p : BerthId). p.id) c.self.view_is))) in
     let k : ℕ × ℕ = (c.self.inside.regions, c.self.inside.seats) in
-    (same, omega (arith, is.0), rw is.2 (sees_set g.W.Ware.numbers g.W.Ware.is_broken k _ _ _))
+    (same, omega (arith, is.words), rw is.key (sees_set g.W.Ware.numbers g.W.Ware.is_broken k _ _ _))

@@ -17,7 +17,7 @@ joined-me-requires-clause-me g c =
     let all : AreBack id c.seats.inside.seats.items = rw (same, items) c.requires.back in
     let back = (are_back-front id c.pop.new.self.items c.in-Some.first (subst (AreBack id) c.in-Some.ensures.items all)).1.0 in
     let s = c.into_seat.ensures.seat in
-    (s.0 ∙ back.0, ap (λ m. m.1) s.1, ap (λ m. m.0.turn) s.1 ∙ back.1, omega (arith, c.self.invariant.0))
+    (s.0 ∙ back.0, ap (λ m. m.1) s.1, ap (λ m. m.0.turn) s.1 ∙ back.1, omega (arith, c.self.invariant.words))
 
 pub joined-me-requires-clause-back : goal.joined-me-requires-clause-back
 joined-me-requires-clause-back g c =
@@ -37,7 +37,7 @@ finish-requires-clause-ware g c =
     let mine : c.into_seat.result.me.0 ≡ first.knows = ap (λ m. m.0) c.into_seat.ensures.seat.1 in
     let v : Known = c.joined-me.result.me.0 in
     let ws : List ℕ = slots_items c.close_with.result.words in
-    let parts : v.parts ≡ key.1 = omega (arith, c.joined-me.ensures.seat.3, ap (λ (u : Known). u.parts) mine, c.into_seat.ensures.part, ap length popped, length-append left (first ∷ []), ap length items, c.requires.all, ap (λ (p : BerthId). p.seats) c.self.view_is, ap (λ (k : ℕ × ℕ). k.1) c.self.invariant.2) in
+    let parts : v.parts ≡ key.1 = omega (arith, c.joined-me.ensures.seat.3, ap (λ (u : Known). u.parts) mine, c.into_seat.ensures.part, ap length popped, length-append left (first ∷ []), ap length items, c.requires.all, ap (λ (p : BerthId). p.seats) c.self.view_is, ap (λ (k : ℕ × ℕ). k.1) c.self.invariant.key) in
     let e = ends g.W.Ware.numbers g.W.Ware.is_broken key _ v ws (slots_items c.close_with.result.slots) parts c.joined-me.ensures.seat.2 c.close_with.ensures.values.2 in
     (e.0, e.1)
 
@@ -51,9 +51,9 @@ returns-clause-ware g c =
     let mine : c.into_seat.result.me.0 ≡ first.knows = ap (λ m. m.0) c.into_seat.ensures.seat.1 in
     let v : Known = c.joined-me.result.me.0 in
     let ws : List ℕ = slots_items c.close_with.result.words in
-    let parts : v.parts ≡ key.1 = omega (arith, c.joined-me.ensures.seat.3, ap (λ (u : Known). u.parts) mine, c.into_seat.ensures.part, ap length popped, length-append left (first ∷ []), ap length items, c.requires.all, ap (λ (p : BerthId). p.seats) c.self.view_is, ap (λ (k : ℕ × ℕ). k.1) c.self.invariant.2) in
+    let parts : v.parts ≡ key.1 = omega (arith, c.joined-me.ensures.seat.3, ap (λ (u : Known). u.parts) mine, c.into_seat.ensures.part, ap length popped, length-append left (first ∷ []), ap length items, c.requires.all, ap (λ (p : BerthId). p.seats) c.self.view_is, ap (λ (k : ℕ × ℕ). k.1) c.self.invariant.key) in
     let e = ends g.W.Ware.numbers g.W.Ware.is_broken key _ v ws (slots_items c.close_with.result.slots) parts c.joined-me.ensures.seat.2 c.close_with.ensures.values.2 in
-    let n : key.0 ≡ c.self.inside.regions = ap (λ (k : ℕ × ℕ). k.0) c.self.invariant.2 in
+    let n : key.0 ≡ c.self.inside.regions = ap (λ (k : ℕ × ℕ). k.0) c.self.invariant.key in
     let f = c.finish.ensures in
     let ware : e.0 ≡ c.finish.result.ware = same_Some e.0 c.finish.result.ware (some-injective _ _ (sym e.1 ∙ f.ware)) in
     let synced : take key.0 ws ≡ c.finish.result.synced = ap (λ (k : ℕ). take k ws) n ∙ sym f.synced.0 in
@@ -72,9 +72,9 @@ returns-clause-saw g c =
     let mine : c.into_seat.result.me.0 ≡ first.knows = ap (λ m. m.0) c.into_seat.ensures.seat.1 in
     let v : Known = c.joined-me.result.me.0 in
     let ws : List ℕ = slots_items c.close_with.result.words in
-    let parts : v.parts ≡ key.1 = omega (arith, c.joined-me.ensures.seat.3, ap (λ (u : Known). u.parts) mine, c.into_seat.ensures.part, ap length popped, length-append left (first ∷ []), ap length items, c.requires.all, ap (λ (p : BerthId). p.seats) c.self.view_is, ap (λ (k : ℕ × ℕ). k.1) c.self.invariant.2) in
+    let parts : v.parts ≡ key.1 = omega (arith, c.joined-me.ensures.seat.3, ap (λ (u : Known). u.parts) mine, c.into_seat.ensures.part, ap length popped, length-append left (first ∷ []), ap length items, c.requires.all, ap (λ (p : BerthId). p.seats) c.self.view_is, ap (λ (k : ℕ × ℕ). k.1) c.self.invariant.key) in
     let e = ends g.W.Ware.numbers g.W.Ware.is_broken key _ v ws (slots_items c.close_with.result.slots) parts c.joined-me.ensures.seat.2 c.close_with.ensures.values.2 in
-    let n : key.0 ≡ c.self.inside.regions = ap (λ (k : ℕ × ℕ). k.0) c.self.invariant.2 in
+    let n : key.0 ≡ c.self.inside.regions = ap (λ (k : ℕ × ℕ). k.0) c.self.invariant.key in
     let synced : take key.0 ws ≡ c.finish.result.synced = ap (λ (k : ℕ). take k ws) n ∙ sym c.finish.ensures.synced.0 in
     let fault : (get_or ws key.0 0 == 1) ≡ c.finish.result.broken = ap (λ (k : ℕ). get_or ws k 0 == 1) n ∙ sym c.finish.ensures.broken in
     let low : NoMore v.seen c.finish.result.synced = subst (NoMore v.seen) synced e.3 in

@@ -12,7 +12,7 @@ join_seat-requires g c =
     let id = sym (ap (λ (p : BerthId). p.id) c.self.view_is) in
     let same = c.sit-knows.ensures.0 ∙ (ap (λ (s : Standing). s.berth) c.seat.view_is ∙ (c.requires.seat ∙ id)) in
     let mine = c.exchange.ensures.0 ∙ (c.requires.turn.1 ∙ id) in
-    (mine, same, c.sit-knows.ensures.2, omega (arith, is.0), regains g.W.Ware.numbers g.W.Ware.is_broken _ _ _ _ _ (ap (λ m. m.0) c.exchange.ensures.3 ∙ ap (λ m. m.0) c.args.turn.out))
+    (mine, same, c.sit-knows.ensures.2, omega (arith, is.words), regains g.W.Ware.numbers g.W.Ware.is_broken _ _ _ _ _ (ap (λ m. m.0) c.exchange.ensures.3 ∙ ap (λ m. m.0) c.args.turn.out))
 
 pub store-requires : goal.store-requires
 store-requires g c =
@@ -25,8 +25,8 @@ store-requires g c =
     let slot = ap (λ m. m.1) j.2 ∙ (ap (λ m. m.1) c.exchange.ensures.3 ∙ ap (λ l. (0, Some c.args.turn.ware) ∷ rest l) (ap (λ m. m.1) c.args.turn.out)) in
     let k : ℕ × ℕ = (c.self.inside.regions, c.self.inside.seats) in (
       j.0 ∙ mine,
-      omega (arith, is.0),
-      rw is.2 (gives_turn g.W.Ware.numbers g.W.Ware.is_broken k _ _ _ c.args.turn.ware (omega (arith, is.1)) slot
+      omega (arith, is.words),
+      rw is.key (gives_turn g.W.Ware.numbers g.W.Ware.is_broken k _ _ _ c.args.turn.ware (omega (arith, is.slots)) slot
           (ap (λ (v : Known). v.turn) view ∙ c.requires.turn.0)
           (subst (λ (v : Known). NoMore v.seen (g.W.Ware.numbers c.args.turn.ware)) (sym view) c.requires.durable)
           (c.requires.broken ∙ ap (λ (v : Known). v.broken) (sym view))),

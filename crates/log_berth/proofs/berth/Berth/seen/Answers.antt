@@ -8,5 +8,5 @@ load-found-requires g c =
     let is = c.self.invariant in
     let same = c.sit-me.ensures.0 ∙ (ap (λ (s : Standing). s.berth) c.seat.view_is ∙ (c.requires.seat ∙ sym (ap (λ (p : BerthId). p.id) c.self.view_is))) in
     let regions = ap (λ (p : BerthId). p.regions) c.self.view_is in
-    let key = ap (λ (k : ℕ × ℕ). k.0) is.2 in
-    (same, omega (arith, is.0, c.requires.region, regions), sees g.W.Ware.numbers g.W.Ware.is_broken _ _ _ _ _ (omega (arith, key, c.requires.region, regions)))
+    let key = ap (λ (k : ℕ × ℕ). k.0) is.key in
+    (same, omega (arith, is.words, c.requires.region, regions), sees g.W.Ware.numbers g.W.Ware.is_broken _ _ _ _ _ (omega (arith, key, c.requires.region, regions)))

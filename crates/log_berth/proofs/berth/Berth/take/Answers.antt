@@ -10,7 +10,7 @@ compare_exchange-requires g c =
     let is = c.self.invariant in
     let same = c.sit-me.ensures.0 ∙ (ap (λ (s : Standing). s.berth) c.seat.view_is ∙ (c.requires ∙ sym (ap (λ (p : BerthId). p.id) c.self.view_is))) in
     let k : ℕ × ℕ = (c.self.inside.regions, c.self.inside.seats) in
-    (same, omega (arith, is.0), rw is.2 (takes_turn g.W.Ware.numbers g.W.Ware.is_broken k _ _ _ (omega (arith, ap (λ (v : Known). v.parts) (ap first_of (sym c.sit-me.ensures.1)), c.seat.invariant.1))))
+    (same, omega (arith, is.words), rw is.key (takes_turn g.W.Ware.numbers g.W.Ware.is_broken k _ _ _ (omega (arith, ap (λ (v : Known). v.parts) (ap first_of (sym c.sit-me.ensures.1)), c.seat.invariant.1))))
 
 pub exchange-requires : goal.exchange-requires
 exchange-requires g c =
@@ -23,4 +23,4 @@ pub split_seat-knows-requires : goal.split_seat-knows-requires
 split_seat-knows-requires g c =
     let is = c.self.invariant in
     let same = c.sit-me.ensures.0 ∙ (ap (λ (s : Standing). s.berth) c.seat.view_is ∙ (c.requires ∙ sym (ap (λ (p : BerthId). p.id) c.self.view_is))) in
-    (c.exchange.ensures.0 ∙ (c.compare_exchange.ensures.0 ∙ same), omega (arith, is.0), hands g.W.Ware.numbers g.W.Ware.is_broken _ _ _)
+    (c.exchange.ensures.0 ∙ (c.compare_exchange.ensures.0 ∙ same), omega (arith, is.words), hands g.W.Ware.numbers g.W.Ware.is_broken _ _ _)
