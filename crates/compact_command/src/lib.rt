@@ -7,4 +7,5 @@ mod compaction;
 mod text;
 
 pub use command::compact_region;
+pub use recover_command;
 pub use store_compact::CompactKind;

@@ -1,7 +1,7 @@
 -- Sessions on a server, as contracts see them.
 use Rattle.server_model.specs.Pass.{Naming, Pass}
-use Rattle.region_lock.specs.declared.naming.LockNaming.{Ghosts}
-use Rattle.region_calls.specs.Passes.{knows, IsPassOf}
+use Rattle.handler_threads.specs.region_lock.declared.naming.LockNaming.{Ghosts}
+use Rattle.handler_threads.specs.region_calls.Passes.{knows, IsPassOf}
 use Rattle.embedded.specs.Settings.{Setting, setting_of, IsSetFor}
 use Rattle.embedded.specs.declared.sitting.ServerSession.{ServerSession}
 

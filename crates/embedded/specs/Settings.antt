@@ -3,9 +3,9 @@ use Rattle.std.specs.Prelude.{◌≡◌, ℕ, ◌+◌, ◌<◌, ◌≤◌, ◌^�
 use Rattle.kv_cell.specs.declared.error.NoMemory.{NoMemory}
 use Rattle.mask_model.specs.Masked.{masked}
 use Rattle.region_model.specs.Journal.{Caller}
-use Rattle.region_lock.specs.declared.scan.ScanReply.{ScanReply}
+use Rattle.handler_threads.specs.region_lock.declared.scan.ScanReply.{ScanReply}
 use Rattle.server_model.specs.Pass.{Naming, Pass, IsLater}
-use Rattle.log_service.specs.Places.{ServiceId}
+use Rattle.handler_threads.specs.log_service.Places.{ServiceId}
 use Rattle.embedded.specs.Flushers.{MayAllFlush}
 
 -- Where a session stands.

@@ -6,13 +6,13 @@ ghost use Rattle.server_model.specs.Pass.{IsFresh, IsLater};
 use crate::sitting::ServerSession;
 use disk_images::Disk;
 use handler_threads::ServerName;
-use region_calls::{Pass, Server};
+use handler_threads::region_calls::{Pass, Server};
 use std::alloc::Global;
 use std::snapshot::Snapshot;
 use std::sync::Wait;
 
 impl<'a, 'b, D: Disk, N: ServerName, R: Wait> ServerSession<'a, 'b, D, N, R> {
-    ghost use Rattle.region_calls.specs.Passes.{knows, IsPassOf};
+    ghost use Rattle.handler_threads.specs.region_calls.Passes.{knows, IsPassOf};
     ghost use Rattle.embedded.specs.Flushers.{MayAllFlush};
     ghost use Rattle.embedded.specs.Sessions.{is_open_in, setting_in, knows_in};
     ghost use Rattle.embedded.specs.Settings.{setting_of};

@@ -7,5 +7,7 @@ mod session;
 mod sitting;
 mod talking;
 
+pub use handler_threads;
+pub use handler_threads::{region_calls, region_lock};
 pub use session::Session;
 pub use sitting::ServerSession;

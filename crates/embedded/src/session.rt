@@ -5,11 +5,13 @@ ghost use Rattle.std.specs.Option.{option_map};
 ghost use Rattle.region_model.specs.Calls.{Raw, Newest};
 ghost use Rattle.server_model.specs.Pass.{IsLater};
 ghost use Rattle.server_model.specs.Steps.{Puts, Scans, Flushes, Rolls, IsQuietPass};
-ghost use Rattle.region_calls.specs.Answers.{is_sync, put_answer, scan_answer, begun_answer, point_seen, flush_answer, roll_answer};
+ghost use Rattle.handler_threads.specs.region_calls.Answers.{is_sync, put_answer, scan_answer, begun_answer, point_seen, flush_answer, roll_answer};
 ghost use Rattle.embedded.specs.Settings.{next_call};
 
+use handler_threads::region_calls::{
+    FlushRefusal, PutRefusal, RollRefusal, Rolled, ScanReply, Scanner,
+};
 use kv_cell::{Batch, Durability, NoMemory};
-use region_calls::{FlushRefusal, PutRefusal, RollRefusal, Rolled, ScanReply, Scanner};
 use std::alloc::Global;
 
 /// A handler's session with its server: its pass, the time of its puts and the number of its next call. Puts and flushes are numbered, from

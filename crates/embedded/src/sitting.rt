@@ -2,7 +2,7 @@
 
 use disk_images::Disk;
 use handler_threads::ServerName;
-use region_calls::{Pass, Server};
+use handler_threads::region_calls::{Pass, Server};
 use std::alloc::Global;
 use std::snapshot::Snapshot;
 use std::sync::Wait;

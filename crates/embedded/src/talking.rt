@@ -9,8 +9,10 @@ use crate::session::Session;
 use crate::sitting::ServerSession;
 use disk_images::Disk;
 use handler_threads::ServerName;
+use handler_threads::region_calls::{
+    FlushRefusal, FreeGate, PutRefusal, RollRefusal, Rolled, ScanReply, Scanner,
+};
 use kv_cell::{Batch, Durability, NoMemory};
-use region_calls::{FlushRefusal, FreeGate, PutRefusal, RollRefusal, Rolled, ScanReply, Scanner};
 use row_reader::mask;
 use std::alloc::Global;
 use std::sync::Wait;
@@ -41,17 +43,17 @@ fn masked(
 }
 
 impl<'a, 'b, D: Disk, N: ServerName, R: Wait> Session for ServerSession<'a, 'b, D, N, R> {
-    ghost use Rattle.region_calls.specs.Passes.{knows, IsPassOf};
+    ghost use Rattle.handler_threads.specs.region_calls.Passes.{knows, IsPassOf};
     ghost use Rattle.embedded.specs.Settings.{IsSetFor, setting_of};
 
-    ghost name = { ⟦<N as region_calls::ServerNaming>⟧.name };
+    ghost name = { ⟦<N as handler_threads::region_calls::ServerNaming>⟧.name };
 
     ghost setting = { λ s. setting_of s.server.now s.time (knows s.first.value) };
 
     ghost knows = { λ s. knows s.pass };
 
     ghost is_open = { λ s. IsPassOf s.server.now s.pass
-        × IsSetFor ⟦<N as region_calls::ServerNaming>⟧.name s.time s.regions s.calls (knows s.first.value) (knows s.pass) };
+        × IsSetFor ⟦<N as handler_threads::region_calls::ServerNaming>⟧.name s.time s.regions s.calls (knows s.first.value) (knows s.pass) };
 
     fn regions(&self) -> u32 {
         self.regions

@@ -1,9 +1,9 @@
 -- Handlers once they have worked.
 use Rattle.std.proofs.Common.{◌≡◌, ℕ, zero, suc, ◌+◌, List, [], ◌∷◌, map, Contains, subst, refl, arith}
 use Rattle.server_model.specs.Pass.{Pass as ThePass, Naming}
-use Rattle.log_service.specs.Places.{ServiceId}
-use Rattle.region_lock.specs.declared.naming.LockNaming.{Ghosts}
-use Rattle.region_calls.specs.declared.pass.Pass.{Pass}
+use Rattle.embedded.specs.log_service.Places.{ServiceId}
+use Rattle.embedded.specs.region_lock.declared.naming.LockNaming.{Ghosts}
+use Rattle.embedded.specs.region_calls.declared.pass.Pass.{Pass}
 use Rattle.embedded_run.specs.Seats.{AllAt, AreTaken, HasWorked, HaveAllWorked, pass_in, handler_in}
 use Rattle.embedded_run.specs.Deeds.{Deed, IsDone, AreDone, lasts_in}
 use Rattle.embedded_run.specs.declared.seated.Seated.{Seated}

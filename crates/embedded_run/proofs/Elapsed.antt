@@ -4,14 +4,14 @@ use Rattle.std.specs.List.{range_with_len}
 use Rattle.std.proofs.Math.Logic.{∥∥₁_map, ∥∥₁_elim, ∥∥₁_prop}
 use Rattle.log_model.specs.Files.{Files}
 use Rattle.disk_images.specs.Crash.{DiskView, IsImageNow}
-use Rattle.wal_split.specs.Moments.{During, WasOrAlike}
+use Rattle.embedded.specs.wal_split.Moments.{During, WasOrAlike}
 use Rattle.region_model.specs.Crash.{Fits}
 use Rattle.server_model.specs.Pass.{Naming, Pass}
 use Rattle.server_model.specs.Closing.{Region, IsClosedRegion, Survives}
-use Rattle.log_service.specs.Moments.{GoesOnFrom}
-use Rattle.region_calls.specs.Closes.{HasElapsed, HasSurvived, IsLeft}
-use Rattle.region_calls.specs.Wordings.{region_of}
-use Rattle.region_calls.specs.declared.closed.ClosedRegion.{ClosedRegion}
+use Rattle.embedded.specs.log_service.Moments.{GoesOnFrom}
+use Rattle.embedded.specs.region_calls.Closes.{HasElapsed, HasSurvived, IsLeft}
+use Rattle.embedded.specs.region_calls.Wordings.{region_of}
+use Rattle.embedded.specs.region_calls.declared.closed.ClosedRegion.{ClosedRegion}
 use Rattle.run_model.specs.Closed.{ClosedAt, IsFound, FitsFrom}
 use Rattle.run_model.specs.Headline.{KeepsIn, KeepsThroughout}
 use Rattle.run_model.proofs.KeepsFound.{alike_keeps}

@@ -9,13 +9,13 @@ use Rattle.log_model.specs.declared.damage.Damage.{Damage}
 use Rattle.region_model.specs.Journal.{Base}
 use Rattle.server_model.specs.Pass.{Naming}
 use Rattle.run_model.specs.Closed.{IsFound}
-use Rattle.region_calls.specs.Bases.{AreBasesOf}
-use Rattle.region_calls.specs.Seeds.{base_of, base_at, lasts_of}
-use Rattle.region_calls.specs.Store.{IsStore, bases_of, regions_of}
-use Rattle.region_calls.specs.declared.refusal.StartWhy.{StartWhy}
-use Rattle.region_calls.specs.declared.refusal.StartWhy.TheVariants as whys
-use Rattle.region_calls.specs.declared.store.OpenedStore.{OpenedStore}
-use Rattle.region_calls.proofs.NamedSeeds.{base_of_region}
+use Rattle.embedded.specs.region_calls.Bases.{AreBasesOf}
+use Rattle.embedded.specs.region_calls.Seeds.{base_of, base_at, lasts_of}
+use Rattle.embedded.specs.region_calls.Store.{IsStore, bases_of, regions_of}
+use Rattle.embedded.specs.region_calls.declared.refusal.StartWhy.{StartWhy}
+use Rattle.embedded.specs.region_calls.declared.refusal.StartWhy.TheVariants as whys
+use Rattle.embedded.specs.region_calls.declared.store.OpenedStore.{OpenedStore}
+use Rattle.embedded.proofs.region_calls.NamedSeeds.{base_of_region}
 use Rattle.embedded_run.specs.Ends.{IfDamaged}
 
 -- the regions of a server's name are those that its store was opened with

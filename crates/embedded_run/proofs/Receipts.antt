@@ -17,8 +17,8 @@ use Rattle.server_model.proofs.JournalLaws.{filter_kept}
 use Rattle.server_model.specs.Closing.{Region, IsClosedRegion, Survives}
 use Rattle.run_model.proofs.KeepsFound.{later_edits}
 use Rattle.run_model.proofs.Lists.{mapped, range_has}
-use Rattle.region_calls.specs.Wordings.{region_of}
-use Rattle.region_calls.specs.declared.closed.ClosedRegion.{ClosedRegion}
+use Rattle.embedded.specs.region_calls.Wordings.{region_of}
+use Rattle.embedded.specs.region_calls.declared.closed.ClosedRegion.{ClosedRegion}
 use Rattle.embedded_run.specs.Receipts.{KeepsReceipts}
 
 -- the numbers of a journal's edits are above its base's last one

@@ -1,9 +1,9 @@
 -- Handlers as they take their passes.
 use Rattle.std.proofs.Common.{◌≡◌, ℕ, zero, suc, ◌+◌, ◌≤◌, List, [], ◌∷◌, ◌++◌, length, sym, subst, arith}
 use Rattle.server_model.specs.Pass.{Naming, IsFresh}
-use Rattle.log_service.specs.Places.{ServiceId}
-use Rattle.region_lock.specs.declared.naming.LockNaming.{Ghosts}
-use Rattle.region_calls.specs.declared.pass.Pass.{Pass}
+use Rattle.embedded.specs.log_service.Places.{ServiceId}
+use Rattle.embedded.specs.region_lock.declared.naming.LockNaming.{Ghosts}
+use Rattle.embedded.specs.region_calls.declared.pass.Pass.{Pass}
 use Rattle.embedded_run.specs.Seats.{IsServer, IsAt, AllAt, IsTaken, AreTaken, AreSeated, pass_in}
 use Rattle.embedded_run.specs.declared.seated.Seated.{Seated}
 

@@ -11,10 +11,10 @@ use Rattle.server_model.specs.Pass.{Pass, Naming}
 use Rattle.server_model.specs.Closing.{Region, IsClosedRegion, Survives, Leaves}
 use Rattle.run_model.specs.Closed.{IsFound, FitsFrom}
 use Rattle.run_model.specs.Headline.{IsHalfOpened}
-use Rattle.region_calls.specs.Wordings.{region_of}
-use Rattle.region_calls.specs.declared.closed.ClosedRegion.{ClosedRegion}
-use Rattle.region_calls.specs.declared.refusal.StartWhy.{StartWhy}
-use Rattle.region_calls.specs.declared.refusal.StartWhy.TheVariants as whys
+use Rattle.embedded.specs.region_calls.Wordings.{region_of}
+use Rattle.embedded.specs.region_calls.declared.closed.ClosedRegion.{ClosedRegion}
+use Rattle.embedded.specs.region_calls.declared.refusal.StartWhy.{StartWhy}
+use Rattle.embedded.specs.region_calls.declared.refusal.StartWhy.TheVariants as whys
 use Rattle.embedded_run.specs.Deeds.{Deed, lasts_in, HaveDone}
 use Rattle.embedded_run.specs.Receipts.{KeepsReceipts}
 use Rattle.embedded_run.specs.declared.outcome.Outcome.{Outcome}

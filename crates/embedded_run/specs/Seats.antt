@@ -1,12 +1,12 @@
 -- Handlers with their passes, before and after their work.
 use Rattle.std.specs.Prelude.{◌≡◌, ℕ, ◌+◌, ◌<◌, ◌≤◌, ◌^◌, false, List, [], ◌∷◌, Option, Some, None}
 use Rattle.server_model.specs.Pass.{Pass as ThePass, Naming, IsFresh, IsLater}
-use Rattle.log_service.specs.Places.{ServiceId}
-use Rattle.region_lock.specs.declared.naming.LockNaming.{Ghosts}
-use Rattle.region_calls.specs.declared.pass.Pass.{Pass}
-use Rattle.region_calls.specs.Passes.{knows, IsPassOf, nothing_known}
+use Rattle.embedded.specs.log_service.Places.{ServiceId}
+use Rattle.embedded.specs.region_lock.declared.naming.LockNaming.{Ghosts}
+use Rattle.embedded.specs.region_calls.declared.pass.Pass.{Pass}
+use Rattle.embedded.specs.region_calls.Passes.{knows, IsPassOf, nothing_known}
 use Rattle.embedded.specs.Flushers.{MayAllFlush}
-use Rattle.handler_threads.specs.Working.{AreReady, HaveWorked}
+use Rattle.embedded.specs.handler_threads.Working.{AreReady, HaveWorked}
 use Rattle.embedded_run.specs.declared.seated.Seated.{Seated}
 
 -- a server on which sessions are opened

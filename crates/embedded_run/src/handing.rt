@@ -1,19 +1,18 @@
 //! Passes are handed to handlers, and come back.
 
 ghost use Rattle.std.specs.Prelude.{◌≡◌, ◌≤◌, [], map, vec_len, vec_capacity};
-ghost use Rattle.log_service.specs.Places.{ServiceId};
-ghost use Rattle.region_calls.specs.Deals.{passes_out, passes_back, ArePassesOf};
+ghost use Rattle.embedded.specs.log_service.Places.{ServiceId};
+ghost use Rattle.embedded.specs.region_calls.Deals.{passes_out, passes_back, ArePassesOf};
 ghost use Rattle.embedded_run.specs.Seats.{AreTaken, AllAt, pass_in, handler_in};
 
 use crate::seated::Seated;
-use region_calls::{Pass, Passes};
+use embedded::region_calls::{Pass, Passes};
 
 /// Gives each handler its pass, the first one that of number 1. There is room for them, and it takes no memory.
-pub(crate) fn seat_all<N: region_lock::LockNaming + region_versions::VersionsNaming, H: Drop>(
-    handlers: Vec<H>,
-    passes: &mut Passes<N>,
-    seated: &mut Vec<Seated<Pass<N>, H>>,
-)
+pub(crate) fn seat_all<
+    N: embedded::region_lock::LockNaming + region_versions::VersionsNaming,
+    H: Drop,
+>(handlers: Vec<H>, passes: &mut Passes<N>, seated: &mut Vec<Seated<Pass<N>, H>>)
     requires none { (seated.old.items ≡ []) × (vec_len handlers ≤ vec_capacity seated.old) }
     requires of { (place : ServiceId) × ArePassesOf place N.handlers passes.old }
     requires passes { (passes_out passes.old ≡ 0) × (vec_len handlers ≡ N.handlers) }
@@ -34,11 +33,10 @@ pub(crate) fn seat_all<N: region_lock::LockNaming + region_versions::VersionsNam
 }
 
 /// Gives the passes back, and keeps the handlers. There is room for them, and it takes no memory.
-pub(crate) fn give_back<N: region_lock::LockNaming + region_versions::VersionsNaming, H: Drop>(
-    seated: Vec<Seated<Pass<N>, H>>,
-    passes: &mut Passes<N>,
-    handlers: &mut Vec<H>,
-)
+pub(crate) fn give_back<
+    N: embedded::region_lock::LockNaming + region_versions::VersionsNaming,
+    H: Drop,
+>(seated: Vec<Seated<Pass<N>, H>>, passes: &mut Passes<N>, handlers: &mut Vec<H>)
     requires none { (handlers.old.items ≡ []) × (vec_len seated ≤ vec_capacity handlers.old) }
     requires of { (place : ServiceId) × ArePassesOf place N.handlers passes.old × AllAt place seated.items }
     requires passes { (passes_out passes.old ≡ N.handlers) × (passes_back passes.old ≡ []) × (vec_len seated ≡ N.handlers) }

@@ -4,8 +4,8 @@ use crate::handler::Handler;
 use crate::seated::Seated;
 use disk_images::Disk;
 use embedded::ServerSession;
-use handler_threads::{Job, ServerName};
-use region_calls::{Helped, LogSeat, Pass, Server};
+use embedded::handler_threads::{Job, ServerName};
+use embedded::region_calls::{Helped, LogSeat, Pass, Server};
 use std::alloc::Global;
 use std::marker::PhantomData;
 use std::sync::Wait;
@@ -23,16 +23,16 @@ pub struct SessionJob<'a, S, R, H> {
 
 impl<'a, 'b, D: Disk, N: ServerName, R: Wait, H: Handler> Job
     for SessionJob<'a, Server<'b, D, N, R>, R, H> {
-    ghost use Rattle.log_service.specs.Places.{IsSeatOf};
+    ghost use Rattle.embedded.specs.log_service.Places.{IsSeatOf};
     ghost use Rattle.embedded_run.specs.Seats.{IsSeated, HasWorked};
 
     type Handler = Seated<Pass<N>, H>;
 
     type Seat = LogSeat;
 
-    ghost is_ready = { λ j h. IsSeated ⟦<N as region_calls::ServerNaming>⟧.name j.server.now j.time j.regions h };
+    ghost is_ready = { λ j h. IsSeated ⟦<N as embedded::region_calls::ServerNaming>⟧.name j.server.now j.time j.regions h };
 
-    ghost has_worked = { λ j old new. HasWorked H.did ⟦<N as region_calls::ServerNaming>⟧.name j.server.now j.time old new };
+    ghost has_worked = { λ j old new. HasWorked H.did ⟦<N as embedded::region_calls::ServerNaming>⟧.name j.server.now j.time old new };
 
     ghost is_seat = { λ j q. IsSeatOf j.server.now q };
 

@@ -1,15 +1,15 @@
 //! All handlers on one server.
 
 ghost use Rattle.std.specs.Prelude.{◌≡◌, length};
-ghost use Rattle.region_calls.specs.Deals.{AreSeatsOf};
+ghost use Rattle.embedded.specs.region_calls.Deals.{AreSeatsOf};
 ghost use Rattle.embedded_run.specs.Seats.{AreSeated, HaveAllWorked};
 
 use crate::handler::Handler;
 use crate::job::SessionJob;
 use crate::seated::Seated;
 use disk_images::Disk;
-use handler_threads::{ServerName, run_all};
-use region_calls::{Helpers, Pass, Server};
+use embedded::handler_threads::{ServerName, run_all};
+use embedded::region_calls::{Helpers, Pass, Server};
 use std::alloc::Global;
 use std::marker::PhantomData;
 use std::sync::Wait;

@@ -12,9 +12,9 @@ mod seated;
 mod serving;
 
 pub use embedded::Session;
-pub use handler::Handler;
-pub use outcome::Outcome;
-pub use region_calls::{
+pub use embedded::region_calls::{
     ClosedRegion, FlushRefusal, PutRefusal, RollRefusal, Rolled, ScanReply, Scanner, StartWhy,
 };
+pub use handler::Handler;
+pub use outcome::Outcome;
 pub use running::run_handlers;

@@ -2,7 +2,7 @@
 
 ghost use Rattle.std.specs.Prelude.{◌≡◌};
 
-use region_calls::{ClosedRegion, StartWhy};
+use embedded::region_calls::{ClosedRegion, StartWhy};
 
 /// How `run_handlers` ended. The disk and the handlers come back each time, the handlers in the order in which they were given.
 #[derive(Drop)]

@@ -8,7 +8,7 @@ use crate::handler::Handler;
 use crate::outcome::Outcome;
 use crate::serving::serve;
 use disk_images::Disk;
-use region_calls::{StartRefusal, open};
+use embedded::region_calls::{StartRefusal, open};
 use std::alloc::Global;
 use std::marker::Brand;
 use std::sync::Wait;

@@ -3,9 +3,9 @@
 ghost use Rattle.std.specs.Prelude.{◌≡◌, ◌<◌, ◌^◌, IsTrue, vec_len};
 ghost use Rattle.log_model.specs.Files.{IsSound};
 ghost use Rattle.run_model.specs.Headline.{KeepsThroughout};
-ghost use Rattle.region_calls.specs.Names.{IsNameOf};
-ghost use Rattle.region_calls.specs.Store.{IsStore, disk_now, disk_found, regions_of, handlers_of};
-ghost use Rattle.wal_split.specs.Moments.{During, WasOrAlike};
+ghost use Rattle.embedded.specs.region_calls.Names.{IsNameOf};
+ghost use Rattle.embedded.specs.region_calls.Store.{IsStore, disk_now, disk_found, regions_of, handlers_of};
+ghost use Rattle.embedded.specs.wal_split.Moments.{During, WasOrAlike};
 ghost use Rattle.embedded.specs.Flushers.{MayAllFlush};
 ghost use Rattle.embedded_run.specs.Ends.{HasEnded, HasCount, disk_of};
 
@@ -15,8 +15,8 @@ use crate::joining::run_on;
 use crate::outcome::{Outcome, not_started};
 use crate::seated::make_room;
 use disk_images::Disk;
-use handler_threads::ServerName;
-use region_calls::{ClosedServer, OpenedStore, StartRefusal, Started};
+use embedded::handler_threads::ServerName;
+use embedded::region_calls::{ClosedServer, OpenedStore, StartRefusal, Started};
 use std::alloc::Global;
 use std::sync::Wait;
 use std::thread::Threads;

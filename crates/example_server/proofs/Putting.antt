@@ -6,8 +6,8 @@ use Rattle.cell_model.specs.Batch.{Batch}
 use Rattle.region_model.specs.Journal.{Edit, Caller, Done}
 use Rattle.server_model.specs.Pass.{Naming, Pass, IsLater}
 use Rattle.server_model.specs.Steps.{Puts, IsQuietPass, edit_of}
-use Rattle.region_calls.specs.Answers.{put_answer}
-use Rattle.region_lock.specs.declared.answers.PutRefusal.{PutRefusal}
+use Rattle.embedded_run.specs.region_calls.Answers.{put_answer}
+use Rattle.embedded_run.specs.region_lock.declared.answers.PutRefusal.{PutRefusal}
 use Rattle.example_server.specs.Persons.{person, KnowsPerson}
 
 abbrev number_in : Option ℕ → ℕ

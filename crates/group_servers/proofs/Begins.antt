@@ -3,8 +3,8 @@ use Rattle.std.proofs.Common.{◌≡◌, ◌≤◌, Option, Some, None, option_m
 use Rattle.disk_images.specs.declared.disk.Disk.{Ghosts}
 use Rattle.disk_images.specs.Calls.{Rose}
 use Rattle.log_model.specs.declared.damage.Damage.{Damage}
-use Rattle.region_calls.specs.declared.refusal.StartWhy.{StartWhy}
-use Rattle.region_calls.specs.declared.refusal.StartWhy.TheVariants as starts
+use Rattle.handler_threads.specs.region_calls.declared.refusal.StartWhy.{StartWhy}
+use Rattle.handler_threads.specs.region_calls.declared.refusal.StartWhy.TheVariants as starts
 use Rattle.group_stores.specs.Lists.{AtBoth, OfBoth}
 use Rattle.group_stores.specs.Refusals.{GoesOn, IsNotWrong, Tells}
 use Rattle.group_stores.proofs.Disks.{rose_since}

@@ -1,11 +1,11 @@
 -- A server that isn't there has no end.
 use Rattle.std.proofs.Common.{ℕ, List, Option, Some, None}
 use Rattle.disk_images.specs.declared.disk.Disk.{Ghosts}
-use Rattle.log_service.specs.declared.name.ServiceNaming.{Ghosts as LogGhosts}
-use Rattle.log_service.specs.declared.seats.LogSeat.{LogSeat}
-use Rattle.region_calls.specs.declared.naming.ServerNaming.{Ghosts as NameGhosts}
-use Rattle.region_calls.specs.declared.passes.Passes.{Passes}
-use Rattle.region_lock.specs.declared.naming.LockNaming.{Ghosts as LockGhosts}
+use Rattle.handler_threads.specs.log_service.declared.name.ServiceNaming.{Ghosts as LogGhosts}
+use Rattle.handler_threads.specs.log_service.declared.seats.LogSeat.{LogSeat}
+use Rattle.handler_threads.specs.region_calls.declared.naming.ServerNaming.{Ghosts as NameGhosts}
+use Rattle.handler_threads.specs.region_calls.declared.passes.Passes.{Passes}
+use Rattle.handler_threads.specs.region_lock.declared.naming.LockNaming.{Ghosts as LockGhosts}
 use Rattle.region_versions.specs.declared.naming.VersionsNaming.{Ghosts as VersionGhosts}
 use Rattle.group_servers.specs.Closing.{HasEndedAt}
 use Rattle.group_servers.specs.Dealing.{AreBackAt}

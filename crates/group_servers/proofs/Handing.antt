@@ -1,12 +1,12 @@
 -- Passes and seats of groups' servers are handed out, and come back.
 use Rattle.std.proofs.Common.{◌≡◌, ℕ, ◌+◌, ◌<◌, List, Option, Some, None, IfSome, IfNone, arith}
-use Rattle.log_service.specs.declared.seats.LogSeat.{LogSeat}
-use Rattle.log_service.specs.Places.{ServiceId, IsSeatOf}
-use Rattle.region_calls.specs.Deals.{AreSeatsOf, passes_out, passes_back, ArePassesOf}
-use Rattle.region_calls.specs.Passes.{knows, IsPassOf}
-use Rattle.region_calls.specs.declared.pass.Pass.{Pass}
-use Rattle.region_calls.specs.declared.passes.Passes.{Passes}
-use Rattle.region_lock.specs.declared.naming.LockNaming.{Ghosts}
+use Rattle.handler_threads.specs.log_service.declared.seats.LogSeat.{LogSeat}
+use Rattle.handler_threads.specs.log_service.Places.{ServiceId, IsSeatOf}
+use Rattle.handler_threads.specs.region_calls.Deals.{AreSeatsOf, passes_out, passes_back, ArePassesOf}
+use Rattle.handler_threads.specs.region_calls.Passes.{knows, IsPassOf}
+use Rattle.handler_threads.specs.region_calls.declared.pass.Pass.{Pass}
+use Rattle.handler_threads.specs.region_calls.declared.passes.Passes.{Passes}
+use Rattle.handler_threads.specs.region_lock.declared.naming.LockNaming.{Ghosts}
 use Rattle.server_model.specs.Pass.{IsFresh}
 use Rattle.group_servers.specs.Dealing.{ArePassesAt, IsNextAt}
 use Rattle.group_servers.specs.Helping.{AreSeatsAt, IsSeatAt}

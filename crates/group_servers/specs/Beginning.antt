@@ -2,10 +2,10 @@
 use Rattle.std.specs.Prelude.{◌≡◌, ℕ, IsTrue, Result, Ok, Err}
 use Rattle.log_model.specs.Files.{IsSound}
 use Rattle.disk_images.specs.declared.disk.Disk.{Ghosts}
-use Rattle.region_calls.specs.declared.refusal.StartWhy.{StartWhy}
-use Rattle.region_calls.specs.declared.refusal.StartWhy.TheVariants as starts
-use Rattle.region_calls.specs.declared.store.OpenedStore.{OpenedStore}
-use Rattle.region_calls.specs.Store.{IsStore, disk_now, disk_found, regions_of, handlers_of}
+use Rattle.handler_threads.specs.region_calls.declared.refusal.StartWhy.{StartWhy}
+use Rattle.handler_threads.specs.region_calls.declared.refusal.StartWhy.TheVariants as starts
+use Rattle.handler_threads.specs.region_calls.declared.store.OpenedStore.{OpenedStore}
+use Rattle.handler_threads.specs.region_calls.Store.{IsStore, disk_now, disk_found, regions_of, handlers_of}
 use Rattle.group_servers.specs.declared.beginning.Unbegun.{Unbegun}
 use Rattle.group_stores.specs.declared.recovering.FoundStore.{FoundStore}
 use Rattle.group_stores.specs.declared.lists.GroupList.{GroupList}

@@ -4,14 +4,14 @@ use Rattle.std.specs.List.{range_with_len}
 use Rattle.std.specs.Global.{Vec}
 use Rattle.disk_images.specs.declared.disk.Disk.{Ghosts}
 use Rattle.disk_images.specs.Calls.{Rose}
-use Rattle.log_service.specs.declared.name.ServiceNaming.{Ghosts as LogGhosts}
-use Rattle.region_calls.specs.declared.closed.ClosedRegion.{ClosedRegion}
-use Rattle.region_calls.specs.declared.naming.ServerNaming.{Ghosts as NameGhosts}
-use Rattle.region_calls.specs.declared.passes.Passes.{Passes}
-use Rattle.region_calls.specs.Closes.{HasElapsed, HasSurvived}
-use Rattle.region_calls.specs.Deals.{passes_back}
-use Rattle.region_calls.specs.Wordings.{region_of}
-use Rattle.region_lock.specs.declared.naming.LockNaming.{Ghosts as LockGhosts}
+use Rattle.handler_threads.specs.log_service.declared.name.ServiceNaming.{Ghosts as LogGhosts}
+use Rattle.handler_threads.specs.region_calls.declared.closed.ClosedRegion.{ClosedRegion}
+use Rattle.handler_threads.specs.region_calls.declared.naming.ServerNaming.{Ghosts as NameGhosts}
+use Rattle.handler_threads.specs.region_calls.declared.passes.Passes.{Passes}
+use Rattle.handler_threads.specs.region_calls.Closes.{HasElapsed, HasSurvived}
+use Rattle.handler_threads.specs.region_calls.Deals.{passes_back}
+use Rattle.handler_threads.specs.region_calls.Wordings.{region_of}
+use Rattle.handler_threads.specs.region_lock.declared.naming.LockNaming.{Ghosts as LockGhosts}
 use Rattle.region_versions.specs.declared.naming.VersionsNaming.{Ghosts as VersionGhosts}
 use Rattle.server_model.specs.Closing.{IsClosedRegion, Survives, Leaves}
 use Rattle.server_model.specs.Pass.{Pass as ThePass}

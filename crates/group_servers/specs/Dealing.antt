@@ -1,14 +1,14 @@
 -- The passes of one group's server that no handler has.
 use Rattle.std.specs.Prelude.{◌≡◌, ℕ, ◌+◌, ◌<◌, List, [], ◌∷◌, ◌++◌, length, Option, Some, None}
-use Rattle.log_service.specs.declared.seats.LogSeat.{LogSeat}
-use Rattle.log_service.specs.Places.{ServiceId}
-use Rattle.region_lock.specs.declared.naming.LockNaming.{Ghosts}
+use Rattle.handler_threads.specs.log_service.declared.seats.LogSeat.{LogSeat}
+use Rattle.handler_threads.specs.log_service.Places.{ServiceId}
+use Rattle.handler_threads.specs.region_lock.declared.naming.LockNaming.{Ghosts}
 use Rattle.server_model.specs.Pass.{IsFresh}
-use Rattle.region_calls.specs.Backs.{AllBack}
-use Rattle.region_calls.specs.Deals.{passes_out, passes_back, ArePassesOf}
-use Rattle.region_calls.specs.Passes.{knows}
-use Rattle.region_calls.specs.declared.pass.Pass.{Pass}
-use Rattle.region_calls.specs.declared.passes.Passes.{Passes}
+use Rattle.handler_threads.specs.region_calls.Backs.{AllBack}
+use Rattle.handler_threads.specs.region_calls.Deals.{passes_out, passes_back, ArePassesOf}
+use Rattle.handler_threads.specs.region_calls.Passes.{knows}
+use Rattle.handler_threads.specs.region_calls.declared.pass.Pass.{Pass}
+use Rattle.handler_threads.specs.region_calls.declared.passes.Passes.{Passes}
 
 module _ {N : Type 0} {g : Ghosts N} where
   -- those of the server at this place, where there is one

@@ -1,10 +1,10 @@
 -- The seats of the threads that help one group's log.
 use Rattle.std.specs.Prelude.{◌≡◌, ◌⊎◌, ℕ, true, List, length, Option, Some, None}
-use Rattle.log_service.specs.declared.seats.LogSeat.{LogSeat}
-use Rattle.log_service.specs.declared.helping.Helped.{Helped}
-use Rattle.log_service.specs.declared.helping.Helped.TheVariants as helped
-use Rattle.log_service.specs.Places.{ServiceId, IsSeatOf, IsLaterSeat, FoundTaken, HadTurn, LastFoundTaken, LastHadTurn}
-use Rattle.region_calls.specs.Deals.{AreSeatsOf}
+use Rattle.handler_threads.specs.log_service.declared.seats.LogSeat.{LogSeat}
+use Rattle.handler_threads.specs.log_service.declared.helping.Helped.{Helped}
+use Rattle.handler_threads.specs.log_service.declared.helping.Helped.TheVariants as helped
+use Rattle.handler_threads.specs.log_service.Places.{ServiceId, IsSeatOf, IsLaterSeat, FoundTaken, HadTurn, LastFoundTaken, LastHadTurn}
+use Rattle.handler_threads.specs.region_calls.Deals.{AreSeatsOf}
 
 -- there is such a server, and the seat is of its
 abbrev pub IsSeatAt : Option ServiceId → LogSeat → Type 0

@@ -1,15 +1,15 @@
 -- What a handler's pass of one group's server knows.
 use Rattle.std.specs.Prelude.{◌≡◌, ℕ, Bool, false, Result, Option, Some, None}
 use Rattle.region_model.specs.Journal.{Caller}
-use Rattle.region_lock.specs.declared.answers.PutRefusal.{PutRefusal}
-use Rattle.region_lock.specs.declared.naming.LockNaming.{Ghosts}
-use Rattle.region_lock.specs.Puts.{IsFaultExact}
-use Rattle.log_service.specs.Places.{ServiceId}
+use Rattle.handler_threads.specs.region_lock.declared.answers.PutRefusal.{PutRefusal}
+use Rattle.handler_threads.specs.region_lock.declared.naming.LockNaming.{Ghosts}
+use Rattle.handler_threads.specs.region_lock.Puts.{IsFaultExact}
+use Rattle.handler_threads.specs.log_service.Places.{ServiceId}
 use Rattle.server_model.specs.Pass.{Pass as ThePass, Naming, IsLater}
 use Rattle.server_model.specs.Steps.{IsQuietPass}
-use Rattle.region_calls.specs.Answers.{point_seen}
-use Rattle.region_calls.specs.Passes.{knows, nothing_known, IsPassOf}
-use Rattle.region_calls.specs.declared.pass.Pass.{Pass}
+use Rattle.handler_threads.specs.region_calls.Answers.{point_seen}
+use Rattle.handler_threads.specs.region_calls.Passes.{knows, nothing_known, IsPassOf}
+use Rattle.handler_threads.specs.region_calls.declared.pass.Pass.{Pass}
 
 -- what a pass that isn't there knows
 abbrev pub nobody : ThePass

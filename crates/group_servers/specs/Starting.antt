@@ -1,17 +1,17 @@
 -- A server of an opened store.
 use Rattle.std.specs.Prelude.{◌≡◌, ℕ, ◌≤◌, true, List, [], length, IsTrue, Option, Some, None, Contains}
 use Rattle.disk_images.specs.declared.disk.Disk.{Ghosts}
-use Rattle.log_service.specs.declared.name.ServiceNaming.{Ghosts as LogGhosts}
-use Rattle.log_service.specs.declared.seats.LogSeat.{LogSeat}
-use Rattle.log_service.specs.Places.{ServiceId}
-use Rattle.region_calls.specs.declared.naming.ServerNaming.{Ghosts as NameGhosts}
-use Rattle.region_calls.specs.declared.passes.Passes.{Passes}
-use Rattle.region_calls.specs.declared.store.OpenedStore.{OpenedStore}
-use Rattle.region_calls.specs.Closes.{HasElapsed, IsLeft}
-use Rattle.region_calls.specs.Deals.{passes_out, passes_back, ArePassesOf, AreSeatsOf}
-use Rattle.region_calls.specs.Names.{IsNameOf}
-use Rattle.region_calls.specs.Store.{IsStore, regions_of}
-use Rattle.region_lock.specs.declared.naming.LockNaming.{Ghosts as LockGhosts}
+use Rattle.handler_threads.specs.log_service.declared.name.ServiceNaming.{Ghosts as LogGhosts}
+use Rattle.handler_threads.specs.log_service.declared.seats.LogSeat.{LogSeat}
+use Rattle.handler_threads.specs.log_service.Places.{ServiceId}
+use Rattle.handler_threads.specs.region_calls.declared.naming.ServerNaming.{Ghosts as NameGhosts}
+use Rattle.handler_threads.specs.region_calls.declared.passes.Passes.{Passes}
+use Rattle.handler_threads.specs.region_calls.declared.store.OpenedStore.{OpenedStore}
+use Rattle.handler_threads.specs.region_calls.Closes.{HasElapsed, IsLeft}
+use Rattle.handler_threads.specs.region_calls.Deals.{passes_out, passes_back, ArePassesOf, AreSeatsOf}
+use Rattle.handler_threads.specs.region_calls.Names.{IsNameOf}
+use Rattle.handler_threads.specs.region_calls.Store.{IsStore, regions_of}
+use Rattle.handler_threads.specs.region_lock.declared.naming.LockNaming.{Ghosts as LockGhosts}
 use Rattle.region_versions.specs.declared.naming.VersionsNaming.{Ghosts as VersionGhosts}
 use Rattle.server_model.specs.Closing.{Leaves}
 use Rattle.server_model.specs.Pass.{Pass as ThePass, IsFresh}

@@ -4,19 +4,19 @@ ghost use Rattle.std.specs.Prelude.{◌≢◌, ◌≤◌, ◌<◌, ◌^◌, None
 ghost use Rattle.std.specs.Option.{option_map};
 ghost use Rattle.region_model.specs.Calls.{Raw};
 ghost use Rattle.server_model.specs.Steps.{Puts, Scans, Flushes, Rolls};
-ghost use Rattle.region_calls.specs.Answers.{is_sync, put_answer, scan_answer, flush_answer, roll_answer};
-ghost use Rattle.log_service.specs.Places.{IsSeatOf};
-ghost use Rattle.region_lock.specs.Puts.{IsFaultExact};
-ghost use Rattle.region_calls.specs.Passes.{knows, IsPassOf};
+ghost use Rattle.handler_threads.specs.region_calls.Answers.{is_sync, put_answer, scan_answer, flush_answer, roll_answer};
+ghost use Rattle.handler_threads.specs.log_service.Places.{IsSeatOf};
+ghost use Rattle.handler_threads.specs.region_lock.Puts.{IsFaultExact};
+ghost use Rattle.handler_threads.specs.region_calls.Passes.{knows, IsPassOf};
 ghost use Rattle.group_servers.specs.Passes.{known_by, call_by, IsPassAt, IsExactAt, Looks};
 ghost use Rattle.group_servers.specs.Helping.{IsSeatAt, HasHelped};
 
 use disk_images::Disk;
 use handler_threads::ServerName;
-use kv_cell::{Batch, Durability, NoMemory};
-use region_calls::{
+use handler_threads::region_calls::{
     FlushRefusal, Gate, Helped, LogSeat, Pass, PutRefusal, RollRefusal, Rolled, ScanReply, Server,
 };
+use kv_cell::{Batch, Durability, NoMemory};
 use std::alloc::Global;
 use std::sync::Wait;
 

@@ -2,7 +2,7 @@
 
 ghost use Rattle.std.specs.Prelude.{◌≡◌, ◌≤◌, Some, IfOk, IfErr};
 ghost use Rattle.std.specs.Option.{option_map};
-ghost use Rattle.region_calls.specs.Store.{disk_now};
+ghost use Rattle.handler_threads.specs.region_calls.Store.{disk_now};
 ghost use Rattle.group_servers.specs.Beginning.{IsOpenedFrom, IsUnbegunFrom, HasGoneOn, TellsFrom, disks_left, why_start};
 ghost use Rattle.group_stores.specs.Lists.{AtBoth, AtEach, OfBoth, at_group};
 ghost use Rattle.group_stores.specs.Recovering.{IsRecovered};
@@ -10,7 +10,7 @@ ghost use Rattle.group_stores.specs.Refusals.{IsNotWrong};
 
 use disk_images::Disk;
 use group_stores::{FoundStore, GroupList, GroupsRefusal, GroupsWhy};
-use region_calls::{OpenedStore, StartRefusal, StartWhy, begin_recovered};
+use handler_threads::region_calls::{OpenedStore, StartRefusal, StartWhy, begin_recovered};
 use std::alloc::Global;
 
 /// A disk on which no log was begun, and why.

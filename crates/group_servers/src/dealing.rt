@@ -1,13 +1,13 @@
 //! Passes and seats of a group's server are handed out and taken back, where there is one.
 
 ghost use Rattle.std.specs.Prelude.{◌≡◌, ◌≢◌, ◌<◌, ◌+◌, Option, None, IfSome, IfNone};
-ghost use Rattle.log_service.specs.Places.{ServiceId};
+ghost use Rattle.handler_threads.specs.log_service.Places.{ServiceId};
 ghost use Rattle.group_servers.specs.Dealing.{ArePassesAt, IsLeftAt, IsNextAt, IsBackAt, IsRoomAt};
 ghost use Rattle.group_servers.specs.Helping.{AreSeatsAt, IsSeatAt, seats_at};
 ghost use Rattle.group_servers.specs.Passes.{IsPassAt};
 
 use handler_threads::ServerName;
-use region_calls::{Helpers, LogSeat, Pass, Passes};
+use handler_threads::region_calls::{Helpers, LogSeat, Pass, Passes};
 
 /// The next handler's pass.
 pub fn next_at<N: ServerName>(passes: &mut Option<Passes<N>>) -> Option<Pass<N>>

@@ -1,14 +1,14 @@
 //! A group's server that was started is let go again.
 
 ghost use Rattle.std.specs.Prelude.{◌≡◌, [], length, IfSome};
-ghost use Rattle.log_service.specs.Places.{ServiceId};
-ghost use Rattle.region_calls.specs.Deals.{passes_out, passes_back, ArePassesOf};
+ghost use Rattle.handler_threads.specs.log_service.Places.{ServiceId};
+ghost use Rattle.handler_threads.specs.region_calls.Deals.{passes_out, passes_back, ArePassesOf};
 ghost use Rattle.group_stores.specs.Lists.{AtBoth};
 ghost use Rattle.group_servers.specs.Starting.{AreUnused, HasLetGo, IsNew};
 
 use disk_images::Disk;
 use handler_threads::ServerName;
-use region_calls::{CloseRefusal, Passes, Started};
+use handler_threads::region_calls::{CloseRefusal, Passes, Started};
 use std::sync::Wait;
 
 /// Hands all passes out, and takes them back.

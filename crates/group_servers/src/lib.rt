@@ -15,6 +15,8 @@ pub use at::{
 };
 pub use beginning::{begin_each, disk_at};
 pub use dealing::{next_at, next_seat_at, put_back_at, put_seat_back_at};
+pub use handler_threads;
+pub use handler_threads::region_calls;
 pub use letting::{let_go, let_go_at};
 pub use shutting::{ServerEnd, close_at, close_one};
 pub use starting::start_at;

@@ -1,13 +1,13 @@
 //! A group's server is closed.
 
-ghost use Rattle.region_calls.specs.Backs.{AllBack};
-ghost use Rattle.region_calls.specs.Deals.{passes_back};
+ghost use Rattle.handler_threads.specs.region_calls.Backs.{AllBack};
+ghost use Rattle.handler_threads.specs.region_calls.Deals.{passes_back};
 ghost use Rattle.group_servers.specs.Dealing.{AreBackAt};
 ghost use Rattle.group_servers.specs.Closing.{HasEnded, HasEndedAt};
 
 use disk_images::Disk;
 use handler_threads::ServerName;
-use region_calls::{ClosedRegion, ClosedServer, Helpers, Passes, Server};
+use handler_threads::region_calls::{ClosedRegion, ClosedServer, Helpers, Passes, Server};
 use std::alloc::Global;
 use std::sync::Wait;
 

@@ -2,13 +2,13 @@
 
 ghost use Rattle.std.specs.Prelude.{◌≡◌, Some, IfOk, IfErr, IfSome};
 ghost use Rattle.std.specs.Option.{option_map};
-ghost use Rattle.region_calls.specs.Store.{disk_now};
+ghost use Rattle.handler_threads.specs.region_calls.Store.{disk_now};
 ghost use Rattle.group_stores.specs.Lists.{AtBoth};
 ghost use Rattle.group_servers.specs.Starting.{IsNamedAt, IsNew, HasRegionsOf};
 
 use disk_images::Disk;
 use handler_threads::ServerName;
-use region_calls::{OpenedStore, StartRefusal, Started};
+use handler_threads::region_calls::{OpenedStore, StartRefusal, Started};
 use std::alloc::Global;
 use std::sync::Wait;
 

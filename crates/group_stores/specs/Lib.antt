@@ -1,3 +1,4 @@
+pub use Rattle.wal_split.specs as wal_split
 pub mod Lists
 pub mod Choosing
 pub mod Refusals

@@ -4,14 +4,14 @@ use Rattle.disk_images.specs.Calls.{Rose}
 use Rattle.disk_images.specs.Crash.{DiskView}
 use Rattle.disk_images.specs.declared.disk.Disk.{Ghosts}
 use Rattle.log_model.specs.Files.{IsSound}
-use Rattle.wal_split.specs.Moments.{During, WasOrAlike}
+use Rattle.group_stores.specs.wal_split.Moments.{During, WasOrAlike}
 use Rattle.region_model.specs.Journal.{Caller}
-use Rattle.region_calls.specs.declared.closed.ClosedRegion.{ClosedRegion}
-use Rattle.region_calls.specs.declared.store.OpenedStore.{OpenedStore}
-use Rattle.region_calls.specs.Names.{name_of}
-use Rattle.region_calls.specs.Seeds.{base_at, lasts_of}
-use Rattle.region_calls.specs.Store.{IsStore, bases_of, disk_now, handlers_of, regions_of}
-use Rattle.region_calls.proofs.OwnNames.{server_named, locks_named, service_named, versions_named, own_name}
+use Rattle.groups_run.specs.region_calls.declared.closed.ClosedRegion.{ClosedRegion}
+use Rattle.groups_run.specs.region_calls.declared.store.OpenedStore.{OpenedStore}
+use Rattle.groups_run.specs.region_calls.Names.{name_of}
+use Rattle.groups_run.specs.region_calls.Seeds.{base_at, lasts_of}
+use Rattle.groups_run.specs.region_calls.Store.{IsStore, bases_of, disk_now, handlers_of, regions_of}
+use Rattle.groups_run.proofs.region_calls.OwnNames.{server_named, locks_named, service_named, versions_named, own_name}
 use Rattle.script_model.specs.Calls.{Script}
 use Rattle.script_model.specs.Report.{ReplyLine}
 use Rattle.server_model.specs.Pass.{Naming}
@@ -20,7 +20,7 @@ use Rattle.run_model.specs.Headline.{KeepsThroughout}
 use Rattle.run_model.specs.declared.spent.Spent.{Spent}
 use Rattle.command_base.proofs.Endings.{rose_from}
 use Rattle.run_command.proofs.Leaving.{all_named}
-use Rattle.script_run.proofs.Elapsed.{opened_throughout}
+use Rattle.groups_run.proofs.script_run.Elapsed.{opened_throughout}
 use Rattle.groups_model.specs.Groups.{IsGroup}
 use Rattle.group_stores.specs.declared.lists.GroupList.{GroupList}
 use Rattle.group_stores.specs.declared.refusal.GroupsWhy.{GroupsWhy}
@@ -28,10 +28,10 @@ use Rattle.group_stores.specs.declared.refusal.GroupsWhy.TheVariants as whys
 use Rattle.group_stores.specs.Lists.{at_group, count_of, AtBoth, AtEach}
 use Rattle.group_stores.proofs.Each.{partner}
 use Rattle.group_stores.specs.Refusals.{AreRefused, GoesOn, HaveNoOthers as NoneHasOthers, IsWrong, Tells}
-use Rattle.group_servers.specs.Beginning.{IsOpened}
-use Rattle.group_servers.specs.Starting.{IsNamedBy, IsNamedAt}
-use Rattle.log_groups.specs.Passes.{named}
-use Rattle.log_groups.specs.Starting.{AreAlike, IsAlike}
+use Rattle.groups_run.specs.group_servers.Beginning.{IsOpened}
+use Rattle.groups_run.specs.group_servers.Starting.{IsNamedBy, IsNamedAt}
+use Rattle.groups_run.specs.log_groups.Passes.{named}
+use Rattle.groups_run.specs.log_groups.Starting.{AreAlike, IsAlike}
 use Rattle.groups_run.specs.Found.{AreFound, IsFoundSo, found_views, or_that, value_of, views}
 use Rattle.groups_run.specs.Ends.{HaveClosed}
 use Rattle.groups_command.specs.Carried.{AreNotOpened}

@@ -4,11 +4,11 @@ use Rattle.std.proofs.Math.Logic.{∥∥₁_map}
 use Rattle.std.proofs.lemmas.List.{map-append}
 use Rattle.disk_images.specs.Crash.{DiskView}
 use Rattle.region_model.specs.Calls.{Reply}
-use Rattle.region_calls.specs.declared.closed.ClosedRegion.{ClosedRegion}
+use Rattle.groups_run.specs.region_calls.declared.closed.ClosedRegion.{ClosedRegion}
 use Rattle.script_model.specs.Calls.{Script}
 use Rattle.script_model.specs.Report.{ReplyLine, report_text}
 use Rattle.script_model.specs.Outputs.{refused_memory, refused_disk}
-use Rattle.script_run.specs.Ends.{closed_at}
+use Rattle.groups_run.specs.script_run.Ends.{closed_at}
 use Rattle.server_model.specs.Steps.{IsFault}
 use Rattle.run_model.specs.Headline.{reply_line, report_of, FitsStatus, KeepsFound}
 use Rattle.run_model.specs.Spent.{IsFirstSpent}

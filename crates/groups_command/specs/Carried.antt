@@ -5,7 +5,7 @@ use Rattle.log_model.specs.declared.damage.Damage.{Damage}
 use Rattle.log_model.specs.Files.{IsSound}
 use Rattle.script_model.specs.Calls.{Script}
 use Rattle.run_model.specs.Headline.{KeepsFound, IsHalfOpened}
-use Rattle.recover_command.specs.Recovered.{IsStoreDamage}
+use Rattle.run_command.specs.recover_command.Recovered.{IsStoreDamage}
 use Rattle.groups_model.specs.Groups.{IsGroup}
 use Rattle.group_stores.specs.declared.lists.GroupList.{GroupList}
 use Rattle.group_stores.specs.declared.refusal.GroupsWhy.{GroupsWhy}

@@ -1,7 +1,7 @@
 //! What a script leaves that was run on several stores.
 
 use group_stores::{GroupList, GroupsWhy};
-use region_calls::ClosedRegion;
+use groups_run::region_calls::ClosedRegion;
 use run_model::Spent;
 use script_calls::ReplyLines;
 

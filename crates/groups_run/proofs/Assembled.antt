@@ -10,12 +10,12 @@ use Rattle.server_model.specs.Pass.{Pass, Naming}
 use Rattle.server_model.specs.Closing.{passes_of, replies_of}
 use Rattle.run_model.specs.Closed.{ClosedOn, IsNameFor, FitsThroughout}
 use Rattle.run_model.specs.Headline.{KeepsFound, KeepsThroughout}
-use Rattle.log_service.specs.declared.name.ServiceNaming.{Ghosts as LogGhosts}
-use Rattle.region_calls.specs.declared.naming.ServerNaming.{Ghosts as NameGhosts}
-use Rattle.region_calls.specs.declared.store.OpenedStore.{OpenedStore}
-use Rattle.region_calls.specs.declared.closed.ClosedRegion.{ClosedRegion}
-use Rattle.region_calls.specs.Store.{disk_now, disk_found, regions_of}
-use Rattle.region_lock.specs.declared.naming.LockNaming.{Ghosts as LockGhosts}
+use Rattle.log_groups.specs.log_service.declared.name.ServiceNaming.{Ghosts as LogGhosts}
+use Rattle.log_groups.specs.region_calls.declared.naming.ServerNaming.{Ghosts as NameGhosts}
+use Rattle.log_groups.specs.region_calls.declared.store.OpenedStore.{OpenedStore}
+use Rattle.log_groups.specs.region_calls.declared.closed.ClosedRegion.{ClosedRegion}
+use Rattle.log_groups.specs.region_calls.Store.{disk_now, disk_found, regions_of}
+use Rattle.log_groups.specs.region_lock.declared.naming.LockNaming.{Ghosts as LockGhosts}
 use Rattle.region_versions.specs.declared.naming.VersionsNaming.{Ghosts as VersionGhosts}
 use Rattle.groups_model.specs.Groups.{IsGroup, asked_on}
 use Rattle.groups_model.specs.Closed.{GroupHandled, all_replies, handled_on, AreClosed}
@@ -23,8 +23,8 @@ use Rattle.groups_model.proofs.Parts.{calls_on, replies_joined}
 use Rattle.group_stores.specs.declared.lists.GroupList.{GroupList}
 use Rattle.group_stores.specs.Choosing.{AreChosen as AreChosenOf}
 use Rattle.group_stores.specs.Lists.{AtEach, at_group, count_of, counted, mapped}
-use Rattle.group_servers.specs.declared.shutting.ServerEnd.{ServerEnd}
-use Rattle.group_servers.specs.Starting.{HasRegionsOf, IsNamedAt, IsNamedBy}
+use Rattle.log_groups.specs.group_servers.declared.shutting.ServerEnd.{ServerEnd}
+use Rattle.log_groups.specs.group_servers.Starting.{HasRegionsOf, IsNamedAt, IsNamedBy}
 use Rattle.log_groups.specs.Closing.{is_broken, regions_in}
 use Rattle.log_groups.specs.Passes.{named}
 use Rattle.log_groups.specs.Servers.{Servers}

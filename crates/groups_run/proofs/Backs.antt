@@ -2,23 +2,23 @@
 use Rattle.std.proofs.Common.{◌≡◌, ℕ, ◌+◌, ◌<◌, ◌≤◌, List, [], ◌∷◌, ◌++◌, length, map, Option, Some, None, IfSome, refl, sym, ap, subst, ◌∙◌, arith}
 use Rattle.std.proofs.lemmas.List.{map-append, length-map}
 use Rattle.disk_images.specs.declared.disk.Disk.{Ghosts as Disks}
-use Rattle.log_service.specs.declared.name.ServiceNaming.{Ghosts as LogGhosts}
-use Rattle.log_service.specs.declared.seats.LogSeat.{LogSeat}
-use Rattle.log_service.specs.Places.{ServiceId}
+use Rattle.log_groups.specs.log_service.declared.name.ServiceNaming.{Ghosts as LogGhosts}
+use Rattle.log_groups.specs.log_service.declared.seats.LogSeat.{LogSeat}
+use Rattle.log_groups.specs.log_service.Places.{ServiceId}
 use Rattle.server_model.specs.Pass.{Pass as ThePass, IsFresh}
-use Rattle.region_lock.specs.declared.naming.LockNaming.{Ghosts}
+use Rattle.log_groups.specs.region_lock.declared.naming.LockNaming.{Ghosts}
 use Rattle.region_versions.specs.declared.naming.VersionsNaming.{Ghosts as VersionGhosts}
-use Rattle.region_calls.specs.declared.naming.ServerNaming.{Ghosts as NameGhosts}
-use Rattle.region_calls.specs.declared.pass.Pass.{Pass}
-use Rattle.region_calls.specs.declared.passes.Passes.{Passes}
-use Rattle.region_calls.specs.Deals.{passes_out, passes_back}
-use Rattle.region_calls.specs.Passes.{knows}
-use Rattle.script_handlers.specs.declared.handler.Handler.{Handler}
-use Rattle.group_servers.specs.declared.shutting.ServerEnd.{ServerEnd}
-use Rattle.group_servers.specs.Closing.{HasEnded, HasEndedAt}
-use Rattle.group_servers.specs.Dealing.{ArePassesAt, AreBackAt, IsBackAt, IsEvenAt, IsNextAt, IsRoomAt}
-use Rattle.group_servers.specs.Helping.{AreSeatsAt}
-use Rattle.group_servers.specs.Passes.{known_by}
+use Rattle.log_groups.specs.region_calls.declared.naming.ServerNaming.{Ghosts as NameGhosts}
+use Rattle.log_groups.specs.region_calls.declared.pass.Pass.{Pass}
+use Rattle.log_groups.specs.region_calls.declared.passes.Passes.{Passes}
+use Rattle.log_groups.specs.region_calls.Deals.{passes_out, passes_back}
+use Rattle.log_groups.specs.region_calls.Passes.{knows}
+use Rattle.log_groups.specs.script_handlers.declared.handler.Handler.{Handler}
+use Rattle.log_groups.specs.group_servers.declared.shutting.ServerEnd.{ServerEnd}
+use Rattle.log_groups.specs.group_servers.Closing.{HasEnded, HasEndedAt}
+use Rattle.log_groups.specs.group_servers.Dealing.{ArePassesAt, AreBackAt, IsBackAt, IsEvenAt, IsNextAt, IsRoomAt}
+use Rattle.log_groups.specs.group_servers.Helping.{AreSeatsAt}
+use Rattle.log_groups.specs.group_servers.Passes.{known_by}
 use Rattle.log_groups.specs.declared.groups.GroupPass.{GroupPass}
 use Rattle.log_groups.specs.declared.helpers.GroupHelpers.{GroupHelpers}
 use Rattle.log_groups.specs.declared.passes.GroupPasses.{GroupPasses}

@@ -11,19 +11,19 @@ use Rattle.server_model.specs.Closing.{Handled, AllRun, IsClosedRegion, Survives
 use Rattle.run_model.specs.Closed.{ClosedAt, ClosedOn, IsNameFor, FitsThroughout}
 use Rattle.run_model.proofs.Lists.{mapped}
 use Rattle.run_model.proofs.Moments.{fits_throughout}
-use Rattle.log_service.specs.declared.name.ServiceNaming.{Ghosts as LogGhosts}
-use Rattle.log_service.specs.Moments.{GoesOnFrom}
-use Rattle.region_calls.specs.declared.naming.ServerNaming.{Ghosts as NameGhosts}
-use Rattle.region_calls.specs.declared.store.OpenedStore.{OpenedStore}
-use Rattle.region_calls.specs.declared.closed.ClosedRegion.{ClosedRegion}
-use Rattle.region_calls.specs.Closes.{HasElapsed, HasSurvived}
-use Rattle.region_calls.specs.Store.{disk_now, disk_found, regions_of}
-use Rattle.region_calls.specs.Wordings.{region_of}
-use Rattle.region_lock.specs.declared.naming.LockNaming.{Ghosts as LockGhosts}
+use Rattle.log_groups.specs.log_service.declared.name.ServiceNaming.{Ghosts as LogGhosts}
+use Rattle.log_groups.specs.log_service.Moments.{GoesOnFrom}
+use Rattle.log_groups.specs.region_calls.declared.naming.ServerNaming.{Ghosts as NameGhosts}
+use Rattle.log_groups.specs.region_calls.declared.store.OpenedStore.{OpenedStore}
+use Rattle.log_groups.specs.region_calls.declared.closed.ClosedRegion.{ClosedRegion}
+use Rattle.log_groups.specs.region_calls.Closes.{HasElapsed, HasSurvived}
+use Rattle.log_groups.specs.region_calls.Store.{disk_now, disk_found, regions_of}
+use Rattle.log_groups.specs.region_calls.Wordings.{region_of}
+use Rattle.log_groups.specs.region_lock.declared.naming.LockNaming.{Ghosts as LockGhosts}
 use Rattle.region_versions.specs.declared.naming.VersionsNaming.{Ghosts as VersionGhosts}
 use Rattle.script_run.specs.Ends.{closed_at}
-use Rattle.group_servers.specs.Starting.{IsNamedBy}
-use Rattle.group_servers.specs.Closing.{HasClosed}
+use Rattle.log_groups.specs.group_servers.Starting.{IsNamedBy}
+use Rattle.log_groups.specs.group_servers.Closing.{HasClosed}
 use Rattle.groups_run.specs.Found.{IsFoundSo}
 use Rattle.groups_run.proofs.Kept.{bases}
 

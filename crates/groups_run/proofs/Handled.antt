@@ -14,18 +14,18 @@ use Rattle.run_model.specs.Spent.{first_spent, first_of}
 use Rattle.run_model.specs.declared.spent.Spent.{Spent}
 use Rattle.run_model.proofs.AskedLaws.{flush_listed}
 use Rattle.run_model.proofs.SpentLaws.{first_append}
-use Rattle.log_service.specs.Places.{ServiceId}
-use Rattle.region_lock.specs.declared.naming.LockNaming.{Ghosts}
-use Rattle.region_calls.specs.declared.pass.Pass.{Pass}
-use Rattle.region_calls.specs.Passes.{knows}
-use Rattle.script_handlers.specs.Handled.{MayCallAll}
-use Rattle.script_handlers.specs.declared.handler.Handler.{Handler}
+use Rattle.log_groups.specs.log_service.Places.{ServiceId}
+use Rattle.log_groups.specs.region_lock.declared.naming.LockNaming.{Ghosts}
+use Rattle.log_groups.specs.region_calls.declared.pass.Pass.{Pass}
+use Rattle.log_groups.specs.region_calls.Passes.{knows}
+use Rattle.log_groups.specs.script_handlers.Handled.{MayCallAll}
+use Rattle.log_groups.specs.script_handlers.declared.handler.Handler.{Handler}
 use Rattle.script_run.specs.declared.room.CallRoom.{CallRoom}
 use Rattle.script_run.specs.Rooms.{calls_in, AreRooms, script_in}
 use Rattle.script_run.specs.Ends.{first_of_all}
 use Rattle.groups_model.specs.Groups.{IsGroup, replies_on}
 use Rattle.groups_model.specs.Closed.{GroupHandled, all_replies, handled_on}
-use Rattle.group_servers.specs.Passes.{known_by, HasHandlerAt, IsPassAt}
+use Rattle.log_groups.specs.group_servers.Passes.{known_by, HasHandlerAt, IsPassAt}
 use Rattle.log_groups.specs.declared.groups.GroupPass.{GroupPass}
 use Rattle.log_groups.specs.Passes.{known, IsGroupPassOf}
 use Rattle.log_groups.specs.Servers.{Servers}

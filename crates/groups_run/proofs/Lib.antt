@@ -1,3 +1,5 @@
+pub use Rattle.script_run.proofs as script_run
+pub use Rattle.log_groups.proofs.region_calls as region_calls
 pub mod Runs
 pub mod Handled
 pub mod Kept

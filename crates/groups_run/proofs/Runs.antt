@@ -5,7 +5,7 @@ use Rattle.server_model.specs.Pass.{Pass, Naming}
 use Rattle.server_model.specs.Steps.{Runs}
 use Rattle.groups_model.specs.Groups.{IsGroup, replies_on, GroupRuns}
 use Rattle.groups_model.proofs.Projected.{projected}
-use Rattle.script_handlers.specs.Handled.{RunsBy}
+use Rattle.log_groups.specs.script_handlers.Handled.{RunsBy}
 use Rattle.log_groups.specs.Serving.{GroupDoes}
 
 -- the passes of all groups are this handler's

@@ -3,10 +3,10 @@ use Rattle.std.proofs.Common.{◌≡◌, ◌≢◌, ℕ, zero, suc, ◌+◌, ◌
 use Rattle.std.proofs.lemmas.Bool.{eq-eqb, ne_eqb, cases_eq}
 use Rattle.std.proofs.lemmas.List.{map-append}
 use Rattle.std.specs.List.{slice_index_or}
-use Rattle.log_service.specs.declared.seats.LogSeat.{LogSeat}
-use Rattle.log_service.specs.Places.{ServiceId}
-use Rattle.handler_threads.specs.Working.{HaveHelped}
-use Rattle.group_servers.specs.Helping.{AreSeatsAt, seats_at}
+use Rattle.log_groups.specs.log_service.declared.seats.LogSeat.{LogSeat}
+use Rattle.log_groups.specs.log_service.Places.{ServiceId}
+use Rattle.log_groups.specs.handler_threads.Working.{HaveHelped}
+use Rattle.log_groups.specs.group_servers.Helping.{AreSeatsAt, seats_at}
 use Rattle.log_groups.specs.declared.helpers.GroupHelper.{GroupHelper}
 use Rattle.log_groups.specs.declared.helpers.GroupHelpers.{GroupHelpers}
 use Rattle.log_groups.specs.Helpers.{held, AreHelpersOf, AreTwoEach, IsHelperOf}

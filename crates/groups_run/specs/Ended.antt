@@ -3,15 +3,15 @@ use Rattle.std.specs.Prelude.{◌≡◌, ℕ, List, map, Option, Some, None}
 use Rattle.disk_images.specs.declared.disk.Disk.{Ghosts}
 use Rattle.script_model.specs.Calls.{Script}
 use Rattle.server_model.specs.Pass.{Pass, Naming}
-use Rattle.log_service.specs.declared.name.ServiceNaming.{Ghosts as LogGhosts}
-use Rattle.region_calls.specs.declared.naming.ServerNaming.{Ghosts as NameGhosts}
-use Rattle.region_lock.specs.declared.naming.LockNaming.{Ghosts as LockGhosts}
+use Rattle.log_groups.specs.log_service.declared.name.ServiceNaming.{Ghosts as LogGhosts}
+use Rattle.log_groups.specs.region_calls.declared.naming.ServerNaming.{Ghosts as NameGhosts}
+use Rattle.log_groups.specs.region_lock.declared.naming.LockNaming.{Ghosts as LockGhosts}
 use Rattle.region_versions.specs.declared.naming.VersionsNaming.{Ghosts as VersionGhosts}
 use Rattle.run_model.specs.Spent.{first_spent}
 use Rattle.groups_model.specs.Closed.{GroupHandled, all_replies}
 use Rattle.group_stores.specs.declared.lists.GroupList.{GroupList}
-use Rattle.group_servers.specs.declared.shutting.ServerEnd.{ServerEnd}
-use Rattle.group_servers.specs.Closing.{HasEnded}
+use Rattle.log_groups.specs.group_servers.declared.shutting.ServerEnd.{ServerEnd}
+use Rattle.log_groups.specs.group_servers.Closing.{HasEnded}
 use Rattle.log_groups.specs.Closing.{IsJoined}
 use Rattle.log_groups.specs.Servers.{Servers}
 use Rattle.groups_run.specs.Ends.{lines_of}

@@ -9,9 +9,9 @@ use Rattle.run_model.specs.Closed.{ClosedAt}
 use Rattle.run_model.specs.declared.spent.Spent.{Spent}
 use Rattle.run_model.specs.Spent.{first_spent}
 use Rattle.run_model.specs.Headline.{reply_line, KeepsFound}
-use Rattle.region_calls.specs.declared.closed.ClosedRegion.{ClosedRegion}
-use Rattle.region_calls.specs.declared.store.OpenedStore.{OpenedStore}
-use Rattle.region_calls.specs.Store.{disk_now}
+use Rattle.log_groups.specs.region_calls.declared.closed.ClosedRegion.{ClosedRegion}
+use Rattle.log_groups.specs.region_calls.declared.store.OpenedStore.{OpenedStore}
+use Rattle.log_groups.specs.region_calls.Store.{disk_now}
 use Rattle.script_run.specs.Ends.{closed_at}
 use Rattle.groups_model.specs.Groups.{IsGroup}
 use Rattle.groups_model.specs.Closed.{GroupHandled, all_replies, AreClosed, AreChosen}

@@ -3,9 +3,9 @@ use Rattle.std.specs.Prelude.{ℕ, Option, Some, None, IfSome}
 use Rattle.log_model.specs.Files.{IsSound}
 use Rattle.disk_images.specs.Crash.{DiskView}
 use Rattle.disk_images.specs.declared.disk.Disk.{Ghosts}
-use Rattle.wal_split.specs.Moments.{During, WasOrAlike}
-use Rattle.region_calls.specs.declared.store.OpenedStore.{OpenedStore}
-use Rattle.region_calls.specs.Store.{disk_now, disk_found}
+use Rattle.group_stores.specs.wal_split.Moments.{During, WasOrAlike}
+use Rattle.log_groups.specs.region_calls.declared.store.OpenedStore.{OpenedStore}
+use Rattle.log_groups.specs.region_calls.Store.{disk_now, disk_found}
 use Rattle.group_stores.specs.declared.lists.GroupList.{GroupList}
 use Rattle.group_stores.specs.Lists.{at_group}
 

@@ -3,11 +3,11 @@ use Rattle.std.specs.Prelude.{◌≡◌, ℕ, ◌+◌, List, [], ◌∷◌, map,
 use Rattle.script_model.specs.Report.{ReplyLine}
 use Rattle.server_model.specs.Pass.{Pass as ThePass, IsFresh}
 use Rattle.run_model.specs.declared.spent.Spent.{Spent}
-use Rattle.region_lock.specs.declared.naming.LockNaming.{Ghosts}
-use Rattle.region_calls.specs.declared.pass.Pass.{Pass}
-use Rattle.region_calls.specs.Deals.{passes_back}
-use Rattle.region_calls.specs.Passes.{knows}
-use Rattle.script_handlers.specs.declared.handler.Handler.{Handler}
+use Rattle.log_groups.specs.region_lock.declared.naming.LockNaming.{Ghosts}
+use Rattle.log_groups.specs.region_calls.declared.pass.Pass.{Pass}
+use Rattle.log_groups.specs.region_calls.Deals.{passes_back}
+use Rattle.log_groups.specs.region_calls.Passes.{knows}
+use Rattle.log_groups.specs.script_handlers.declared.handler.Handler.{Handler}
 use Rattle.script_run.specs.declared.room.CallRoom.{CallRoom}
 use Rattle.log_groups.specs.declared.groups.GroupPass.{GroupPass}
 use Rattle.log_groups.specs.declared.passes.GroupPasses.{GroupPasses}

@@ -1,12 +1,12 @@
 -- Handlers of several servers before and after they have run.
 use Rattle.std.specs.Prelude.{◌≡◌, ◌≢◌, ℕ, ◌≤◌, List, map, None}
-use Rattle.region_lock.specs.declared.naming.LockNaming.{Ghosts}
+use Rattle.log_groups.specs.region_lock.declared.naming.LockNaming.{Ghosts}
 use Rattle.script_model.specs.Calls.{Script, asked, asked_by}
 use Rattle.server_model.specs.Pass.{Pass as ThePass, Naming}
 use Rattle.server_model.specs.Closing.{AllRun}
-use Rattle.handler_threads.specs.Working.{AreReady as AllReady, HaveWorked}
-use Rattle.script_handlers.specs.Handled.{IsReady as IsReadyFor, HasRun as HasRunFor}
-use Rattle.script_handlers.specs.declared.handler.Handler.{Handler}
+use Rattle.log_groups.specs.handler_threads.Working.{AreReady as AllReady, HaveWorked}
+use Rattle.log_groups.specs.script_handlers.Handled.{IsReady as IsReadyFor, HasRun as HasRunFor}
+use Rattle.log_groups.specs.script_handlers.declared.handler.Handler.{Handler}
 use Rattle.groups_model.specs.Groups.{IsGroup}
 use Rattle.groups_model.specs.Closed.{GroupHandled, all_replies, handled_on}
 use Rattle.log_groups.specs.declared.groups.GroupPass.{GroupPass}

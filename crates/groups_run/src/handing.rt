@@ -7,11 +7,11 @@ ghost use Rattle.log_groups.specs.Servers.{Servers};
 ghost use Rattle.groups_run.specs.Handing.{AreTaken, AllOfServers, NoneIsBack, HaveBack, lines_in, spent_in};
 
 use crate::spending::first_of;
-use handler_threads::ServerName;
+use log_groups::handler_threads::ServerName;
+use log_groups::script_handlers::Handler;
 use log_groups::{GroupPass, GroupPasses};
 use run_model::Spent;
 use script_calls::ReplyLines;
-use script_handlers::Handler;
 use script_run::CallRoom;
 
 /// Makes a handler for each room. There is room for them, and it takes no memory.

@@ -10,5 +10,8 @@ mod serving;
 mod spending;
 mod started;
 
+pub use log_groups;
+pub use log_groups::region_calls;
+pub use script_run;
 pub use served::GroupsServed;
 pub use serving::serve_groups;

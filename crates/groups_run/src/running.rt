@@ -2,16 +2,16 @@
 
 ghost use Rattle.std.specs.Prelude.{◌≡◌, ◌<◌, ◌^◌};
 ghost use Rattle.log_groups.specs.Passes.{named};
-ghost use Rattle.handler_threads.specs.Working.{AreReady as AllReady, AreSeats, HaveHelped, HaveWorked};
-ghost use Rattle.script_handlers.specs.Handled.{IsReady as IsReadyFor, HasRun as HasRunFor};
+ghost use Rattle.log_groups.specs.handler_threads.Working.{AreReady as AllReady, AreSeats, HaveHelped, HaveWorked};
+ghost use Rattle.log_groups.specs.script_handlers.Handled.{IsReady as IsReadyFor, HasRun as HasRunFor};
 ghost use Rattle.groups_run.specs.Ran.{AreReady, HaveRun};
 ghost use Rattle.groups_run.specs.Seating.{AllHelp, groups_of};
 
 use disk_images::Disk;
-use handler_threads::{ServerName, run_all};
+use log_groups::handler_threads::{ServerName, run_all};
+use log_groups::region_calls::Gate;
+use log_groups::script_handlers::{Calling, Handler, Serves};
 use log_groups::{GroupHelper, GroupPass, Groups};
-use region_calls::Gate;
-use script_handlers::{Calling, Handler, Serves};
 use std::alloc::Global;
 use std::sync::Wait;
 use std::thread::Threads;

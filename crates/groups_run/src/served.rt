@@ -1,7 +1,7 @@
 //! What a run on several servers leaves.
 
 use group_stores::GroupList;
-use region_calls::ClosedRegion;
+use log_groups::region_calls::ClosedRegion;
 use run_model::Spent;
 use script_calls::ReplyLines;
 

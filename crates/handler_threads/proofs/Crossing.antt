@@ -10,17 +10,17 @@ use Rattle.hand_register.proofs.hand.Hand.TheSendSync as hand
 use Rattle.hand_register.specs.contracts.desk.Desk as desks
 use Rattle.hand_register.specs.contracts.hand.Hand as hands
 use Rattle.log_berth.proofs.seats.LogSeat.TheSendSync as berth_seat
-use Rattle.log_service.proofs.Crossing.{item_send, service_sync}
-use Rattle.log_service.specs.contracts.item.Item as item
-use Rattle.log_service.specs.contracts.seats.LogSeat as seats
-use Rattle.log_service.specs.contracts.service.LogService as service
-use Rattle.log_service.specs.declared.name.ServiceNaming.{Ghosts as LogGhosts}
+use Rattle.region_calls.proofs.log_service.Crossing.{item_send, service_sync}
+use Rattle.region_calls.specs.log_service.contracts.item.Item as item
+use Rattle.region_calls.specs.log_service.contracts.seats.LogSeat as seats
+use Rattle.region_calls.specs.log_service.contracts.service.LogService as service
+use Rattle.region_calls.specs.log_service.declared.name.ServiceNaming.{Ghosts as LogGhosts}
 use Rattle.region_calls.specs.contracts.pass.Pass as pass
 use Rattle.region_calls.specs.contracts.server.Server as server
 use Rattle.region_calls.specs.declared.naming.ServerNaming.{Ghosts}
-use Rattle.region_lock.specs.contracts.locked.Locked as locked
-use Rattle.region_lock.specs.contracts.pass.RegionPass as region_pass
-use Rattle.region_lock.specs.declared.naming.LockNaming.{Ghosts as LockGhosts}
+use Rattle.region_calls.specs.region_lock.contracts.locked.Locked as locked
+use Rattle.region_calls.specs.region_lock.contracts.pass.RegionPass as region_pass
+use Rattle.region_calls.specs.region_lock.declared.naming.LockNaming.{Ghosts as LockGhosts}
 use Rattle.region_state.proofs.state.RegionState.TheSendSync as state
 use Rattle.region_state.proofs.line.Line.TheSendSync as lines
 use Rattle.region_state.specs.contracts.line.Line as line

@@ -8,4 +8,6 @@ mod threads;
 
 pub use job::Job;
 pub use naming::ServerName;
+pub use region_calls;
+pub use region_calls::region_lock;
 pub use threads::run_all;

@@ -8,9 +8,9 @@
 ghost use Rattle.groups_command.specs.Disks.{AreInARow};
 
 use disk_folder::{Access, FolderDisk, ReaderSource, WriterSink};
-use group_stores::GroupList;
+use groups_command::group_stores::GroupList;
+use groups_command::region_calls::FreeGate;
 use groups_command::{GroupsStatus, disks_in, refuse, run_groups};
-use region_calls::FreeGate;
 use std::alloc::{AllocError, Global};
 use std::fs::File;
 use std::process::ExitCode;

@@ -6,8 +6,8 @@ use Rattle.std.proofs.lemmas.List.Sums.{sum_by-cons, sum_by_more}
 use Rattle.cell_model.specs.Order.{Content}
 use Rattle.log_model.specs.Files.{Files}
 use Rattle.log_model.specs.Recovered.{IsRecovered, IsContent}
-use Rattle.region_replay.specs.Ready.{Found}
-use Rattle.region_replay.specs.Opened.{AreOf}
+use Rattle.run_command.specs.region_replay.Ready.{Found}
+use Rattle.run_command.specs.region_replay.Opened.{AreOf}
 use Rattle.load_model.specs.Loaded.{sum_over}
 use Rattle.load_model.proofs.Cells.{one_content}
 use Rattle.load_model.proofs.Leaves.{CountsCells}

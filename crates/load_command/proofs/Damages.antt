@@ -3,17 +3,17 @@ use Rattle.std.proofs.Common.{Err, ◌≡◌, List, sym, subst, inl, inr}
 use Rattle.log_model.specs.Files.{Files, IsSound}
 use Rattle.log_model.specs.Damage.{IsDamage}
 use Rattle.log_model.specs.declared.damage.Damage.{Damage}
-use Rattle.found_files.specs.Refusal.{IfDamage}
-use Rattle.found_files.specs.declared.refusal.SplitRefusal.{SplitRefusal}
-use Rattle.found_files.specs.declared.refusal.SplitRefusal.TheVariants as refusals
-use Rattle.region_replay.specs.Ready.{Found}
-use Rattle.region_calls.specs.declared.refusal.StartWhy.{StartWhy}
-use Rattle.region_calls.specs.declared.refusal.StartWhy.TheVariants as whys
+use Rattle.run_command.specs.found_files.Refusal.{IfDamage}
+use Rattle.run_command.specs.found_files.declared.refusal.SplitRefusal.{SplitRefusal}
+use Rattle.run_command.specs.found_files.declared.refusal.SplitRefusal.TheVariants as refusals
+use Rattle.run_command.specs.region_replay.Ready.{Found}
+use Rattle.run_command.specs.region_calls.declared.refusal.StartWhy.{StartWhy}
+use Rattle.run_command.specs.region_calls.declared.refusal.StartWhy.TheVariants as whys
 use Rattle.command_base.specs.Status.{IsDamageOf, IsPrintEnd}
 use Rattle.command_base.specs.declared.status.Status.{Status}
 use Rattle.command_base.specs.declared.status.Status.TheVariants as ends
-use Rattle.recover_command.specs.Recovered.{IsStoreDamage}
-use Rattle.recover_command.specs.Refusals.{refused_as}
+use Rattle.run_command.specs.recover_command.Recovered.{IsStoreDamage}
+use Rattle.run_command.specs.recover_command.Refusals.{refused_as}
 use Rattle.run_command.specs.Carried.{IfFoundDamaged}
 use Rattle.run_command.specs.Ends.{status_for}
 use Rattle.load_command.specs.Statuses.{IsDecided, IsPrintedAs, IsStoreRefusal}

@@ -5,7 +5,7 @@ use Rattle.log_model.specs.Files.{Files}
 use Rattle.disk_images.specs.Crash.{DiskView, IsImageNow}
 use Rattle.disk_images.proofs.Moments.{at_end}
 use Rattle.recovery_laws.specs.Alike.{AllAlike}
-use Rattle.wal_split.specs.Moments.{During, WasOrAlike}
+use Rattle.run_command.specs.wal_split.Moments.{During, WasOrAlike}
 use Rattle.run_model.specs.Headline.{AllKeep, KeepsFound, KeepsIn, MayKeep}
 use Rattle.command_base.specs.Invocation.{AtEachMoment}
 use Rattle.command_base.proofs.Endings.{each_then, no_moment}

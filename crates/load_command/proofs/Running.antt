@@ -5,7 +5,7 @@ use Rattle.std.proofs.Math.Logic.{∥∥₁_map, ∥∥₁_map₂, ∥∥₁_eli
 use Rattle.std.proofs.lemmas.Bool.{cases_lt}
 use Rattle.std.proofs.lemmas.List.{map-append}
 use Rattle.log_model.specs.declared.name.Name.{Name}
-use Rattle.recover_command.specs.Recovered.{IsStoreDamage}
+use Rattle.run_command.specs.recover_command.Recovered.{IsStoreDamage}
 use Rattle.log_model.specs.Files.{Files, IsSound, IsPresent}
 use Rattle.log_model.specs.Recovered.{RecoversAlike}
 use Rattle.recovery_laws.specs.Alike.{AllAlike}
@@ -25,10 +25,10 @@ use Rattle.run_model.specs.Headline.{reply_line, FitsStatus, History, IsHeadline
 use Rattle.run_model.proofs.FromClose.{fault_is_told}
 use Rattle.run_model.proofs.Headlines.{headline}
 use Rattle.run_model.proofs.KeepsFound.{closed_keeps, half_keeps}
-use Rattle.region_calls.specs.declared.refusal.StartWhy.{StartWhy}
-use Rattle.region_calls.specs.declared.refusal.StartWhy.TheVariants as whys
-use Rattle.region_calls.specs.declared.closed.ClosedRegion.{ClosedRegion}
-use Rattle.script_run.specs.Ends.{closed_at, lines_of, HasClosed}
+use Rattle.run_command.specs.region_calls.declared.refusal.StartWhy.{StartWhy}
+use Rattle.run_command.specs.region_calls.declared.refusal.StartWhy.TheVariants as whys
+use Rattle.run_command.specs.region_calls.declared.closed.ClosedRegion.{ClosedRegion}
+use Rattle.run_command.specs.script_run.Ends.{closed_at, lines_of, HasClosed}
 use Rattle.load_model.specs.Loaded.{HasBroken, HasStopped}
 use Rattle.load_model.proofs.Empty.{empty_is_sound}
 use Rattle.command_base.specs.Invocation.{invocation, AtEachMoment, GoesOn}

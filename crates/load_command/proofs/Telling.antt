@@ -5,13 +5,13 @@ use Rattle.log_model.specs.Files.{Files, IsSound}
 use Rattle.log_model.specs.declared.damage.Damage.{Damage}
 use Rattle.disk_images.specs.Crash.{DiskView, IsImageNow}
 use Rattle.recovery_laws.specs.Alike.{AllAlike}
-use Rattle.found_files.specs.Refusal.{IfDamage}
-use Rattle.found_files.specs.declared.refusal.SplitRefusal.{SplitRefusal}
-use Rattle.found_files.specs.declared.refusal.SplitRefusal.TheVariants as refusals
+use Rattle.run_command.specs.found_files.Refusal.{IfDamage}
+use Rattle.run_command.specs.found_files.declared.refusal.SplitRefusal.{SplitRefusal}
+use Rattle.run_command.specs.found_files.declared.refusal.SplitRefusal.TheVariants as refusals
 use Rattle.script_model.specs.Outputs.{refused_memory, refused_disk}
-use Rattle.region_replay.specs.Ready.{Found}
-use Rattle.region_replay.specs.Opened.{AreOf}
-use Rattle.region_replay.specs.Cleared.{IsReady}
+use Rattle.run_command.specs.region_replay.Ready.{Found}
+use Rattle.run_command.specs.region_replay.Opened.{AreOf}
+use Rattle.run_command.specs.region_replay.Cleared.{IsReady}
 use Rattle.made_script.specs.Made.{made_script}
 use Rattle.made_script.specs.Counts.{counts_of}
 use Rattle.made_script.specs.declared.options.LoadOptions.{LoadOptions}
@@ -28,9 +28,9 @@ use Rattle.command_base.specs.Status.{refusal_line, exit_status, IsPrintEnd, IsR
 use Rattle.command_base.specs.declared.status.Status.{Status}
 use Rattle.command_base.specs.declared.status.Status.TheVariants as ends
 use Rattle.command_base.proofs.Endings.{taken_whole, taken_begins, refused_so}
-use Rattle.recover_command.specs.Recovered.{IsStoreDamage}
-use Rattle.recover_command.specs.Refusals.{refused_as}
-use Rattle.recover_command.proofs.Leaving.{recovered}
+use Rattle.run_command.specs.recover_command.Recovered.{IsStoreDamage}
+use Rattle.run_command.specs.recover_command.Refusals.{refused_as}
+use Rattle.run_command.proofs.recover_command.Leaving.{recovered}
 use Rattle.load_command.specs.Counted.{cells_of}
 use Rattle.load_command.specs.Statuses.{IsDecided, IsClosedEnd, IsPrintedAs}
 use Rattle.load_command.specs.Ends.{EndsLoad, HasEnded}

@@ -11,7 +11,7 @@ ghost use Rattle.run_model.specs.Headline.{MayKeep};
 ghost use Rattle.command_base.specs.Invocation.{invocation, IsUnchanged, AtEachMoment};
 ghost use Rattle.command_base.specs.Prints.{Prints};
 ghost use Rattle.command_base.specs.Status.{refusal_line, IsComplete, IsDamageOf, IsNotEmpty, IsOrEarlier, IsRefusal};
-ghost use Rattle.recover_command.specs.Recovered.{IsStoreDamage};
+ghost use Rattle.run_command.specs.recover_command.Recovered.{IsStoreDamage};
 ghost use Rattle.load_command.specs.Ends.{EndsLoad};
 ghost use Rattle.load_command.specs.Statuses.{IsClosedEnd, IsDecided, IsLoadEnd, LeavesStore};
 
@@ -21,7 +21,7 @@ use command_base::{Outcome, Status, refuse};
 use disk_images::{Disk, Sink};
 use kv_cell::NoMemory;
 use made_script::{LoadOptions, count_calls, make_script};
-use region_calls::{Gate, StartWhy};
+use run_command::region_calls::{Gate, StartWhy};
 use run_command::{Ran, carry_out, decide, join_replies};
 use run_model::Spent;
 use script_calls::ReplyLines;

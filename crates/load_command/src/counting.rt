@@ -3,7 +3,7 @@
 ghost use Rattle.std.specs.Prelude.{◌≡◌, ◌-◌, ◌^◌, min, sum_by};
 ghost use Rattle.load_command.specs.Counted.{cells_of};
 
-use region_replay::Replayed;
+use run_command::region_replay::Replayed;
 
 /// The cells of all regions; at 2^64-1 it stands.
 pub fn count_cells(regions: &[Replayed]) -> u64

@@ -11,8 +11,8 @@ ghost use Rattle.run_model.specs.Headline.{MayKeep};
 ghost use Rattle.command_base.specs.Invocation.{invocation, AtEachMoment};
 ghost use Rattle.command_base.specs.Prints.{Prints};
 ghost use Rattle.command_base.specs.Status.{refusal_line, exit_status, IsComplete, IsDamageOf, IsRefusal, IsPrintEnd, IsReadingEnd};
-ghost use Rattle.recover_command.specs.Recovered.{IsStoreDamage};
-ghost use Rattle.recover_command.specs.Refusals.{refused_as};
+ghost use Rattle.run_command.specs.recover_command.Recovered.{IsStoreDamage};
+ghost use Rattle.run_command.specs.recover_command.Refusals.{refused_as};
 ghost use Rattle.load_command.specs.Ends.{EndsLoad, HasEnded};
 ghost use Rattle.load_command.specs.Statuses.{IsDecided, IsClosedEnd, IsPrintedAs};
 
@@ -20,10 +20,10 @@ use crate::counting::count_cells;
 use crate::text::{ended_text, whole_text};
 use command_base::{Status, emit, refuse};
 use disk_images::{Disk, Sink};
-use found_files::SplitRefusal;
 use kv_cell::NoMemory;
 use made_script::CallCounts;
-use region_replay::recover_all;
+use run_command::found_files::SplitRefusal;
+use run_command::region_replay::recover_all;
 use std::alloc::Global;
 
 /// Ends a load whose run ended with this status. Only where it is done the store is recovered.

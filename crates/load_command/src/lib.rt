@@ -10,3 +10,5 @@ mod text;
 
 pub use command::load;
 pub use made_script::LoadOptions;
+pub use run_command;
+pub use run_command::region_calls;

@@ -21,9 +21,9 @@ use Rattle.command_base.specs.declared.status.Status.{Status}
 use Rattle.command_base.specs.declared.status.Status.TheVariants as ends
 use Rattle.script_model.specs.Script.{script_fault}
 use Rattle.script_model.specs.declared.command.Command.TheVariants.{Run}
-use Rattle.recover_command.specs.Recovered.{IsStoreDamage}
+use Rattle.compact_command.specs.recover_command.Recovered.{IsStoreDamage}
 use Rattle.store_compact.specs.declared.kind.CompactKind.{CompactKind}
-use Rattle.run_command.specs.Ends.{IsRunComplete}
+use Rattle.load_command.specs.run_command.Ends.{IsRunComplete}
 
 abbrev some_or : {A : Type 0} → A → Option A → A
 some_or a None = a

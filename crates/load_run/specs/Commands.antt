@@ -6,7 +6,7 @@ use Rattle.log_model.specs.Files.{IsSound}
 use Rattle.chronicle_model.specs.Chronicle.{Position}
 use Rattle.script_model.specs.Script.{script_fault}
 use Rattle.script_model.specs.declared.command.Command.TheVariants.{Log, Run}
-use Rattle.wal_split.specs.Moments.{WasOrAlike}
+use Rattle.compact_command.specs.wal_split.Moments.{WasOrAlike}
 use Rattle.store_compact.specs.declared.kind.CompactKind.{CompactKind}
 use Rattle.made_script.specs.declared.options.LoadOptions.{LoadOptions}
 use Rattle.run_model.specs.Headline.{MayKeep}
@@ -19,9 +19,9 @@ use Rattle.log_command.specs.Parts.{IsLogEnd}
 use Rattle.show_command.specs.Shown.{EndsShow}
 use Rattle.dump_command.specs.Dumped.{EndsDump, IsDumped, IsDumpDamage}
 use Rattle.ship_command.specs.Shipped.{EndsShip, IsShipDamage, IsShipEnd, IsShipComplete, LacksPosition}
-use Rattle.recover_command.specs.Recovered.{EndsRecover, IsStoreDamage}
+use Rattle.compact_command.specs.recover_command.Recovered.{EndsRecover, IsStoreDamage}
 use Rattle.compact_command.specs.Compacted.{EndsCompact, CompactMayLeave}
-use Rattle.run_command.specs.Ends.{RunEnds, IsRunEnd, IsRunRefusal, LeavesStore, IsRunComplete}
+use Rattle.load_command.specs.run_command.Ends.{RunEnds, IsRunEnd, IsRunRefusal, LeavesStore, IsRunComplete}
 use Rattle.load_command.specs.Ends.{EndsLoad}
 use Rattle.load_command.specs.Statuses.{IsLoadEnd, LeavesStore as LeavesFullStore}
 use Rattle.load_run.specs.Words.{Word, To_log, To_show, To_dump, To_ship, To_recover, To_compact, To_run, To_load}

@@ -6,4 +6,5 @@ mod words;
 
 pub use command::run;
 pub use command_base::{Damage, Outcome, Status, refuse};
-pub use region_calls::{FreeGate, Gate};
+pub use load_command::region_calls::{FreeGate, Gate};
+pub use load_command::run_command;

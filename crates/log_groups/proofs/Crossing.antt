@@ -4,13 +4,13 @@ use Rattle.log_groups.proofs.helpers.GroupHelper.TheSendSync as helper
 use Rattle.log_groups.specs.contracts.groups.GroupPass as group_pass
 use Rattle.log_groups.specs.contracts.groups.Groups as groups
 use Rattle.log_groups.specs.contracts.helpers.GroupHelper as helpers
-use Rattle.log_service.specs.declared.name.ServiceNaming.{Ghosts as LogGhosts}
-use Rattle.region_calls.specs.contracts.pass.Pass as pass
-use Rattle.region_calls.specs.contracts.server.Server as server
-use Rattle.region_calls.specs.declared.naming.ServerNaming.{Ghosts}
-use Rattle.region_lock.specs.declared.naming.LockNaming.{Ghosts as LockGhosts}
+use Rattle.group_servers.specs.log_service.declared.name.ServiceNaming.{Ghosts as LogGhosts}
+use Rattle.group_servers.specs.region_calls.contracts.pass.Pass as pass
+use Rattle.group_servers.specs.region_calls.contracts.server.Server as server
+use Rattle.group_servers.specs.region_calls.declared.naming.ServerNaming.{Ghosts}
+use Rattle.group_servers.specs.region_lock.declared.naming.LockNaming.{Ghosts as LockGhosts}
 use Rattle.region_versions.specs.declared.naming.VersionsNaming.{Ghosts as VersionGhosts}
-use Rattle.handler_threads.proofs.Crossing.{handler_pass_send, log_seat_send, server_sync}
+use Rattle.group_servers.proofs.handler_threads.Crossing.{handler_pass_send, log_seat_send, server_sync}
 use Rattle.std.proofs.Crossing.{crosses}
 use Rattle.std.proofs.option.Option.TheSendSync as crossing
 use Rattle.std.specs.contracts.option.Option as option

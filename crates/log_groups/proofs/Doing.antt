@@ -10,10 +10,10 @@ use Rattle.groups_model.specs.Groups.{group_for, group_of, IsGroup}
 use Rattle.script_calls.specs.Calls.{call_of}
 use Rattle.script_calls.specs.declared.call.Call.{Call as ScriptCall}
 use Rattle.script_model.specs.Calls.{IsAmong}
-use Rattle.log_service.specs.Places.{ServiceId}
-use Rattle.region_lock.specs.declared.naming.LockNaming.{Ghosts}
-use Rattle.region_calls.specs.declared.pass.Pass.{Pass as ServerPass}
-use Rattle.region_calls.specs.Passes.{knows}
+use Rattle.group_servers.specs.log_service.Places.{ServiceId}
+use Rattle.group_servers.specs.region_lock.declared.naming.LockNaming.{Ghosts}
+use Rattle.group_servers.specs.region_calls.declared.pass.Pass.{Pass as ServerPass}
+use Rattle.group_servers.specs.region_calls.Passes.{knows}
 use Rattle.group_servers.specs.Passes.{call_by, known_by, HasHandlerAt, IsPassAt}
 use Rattle.log_groups.specs.declared.groups.GroupPass.{GroupPass}
 use Rattle.log_groups.specs.Passes.{known, IsGroupPassOf, StayElsewhere}

@@ -5,14 +5,14 @@ use Rattle.std.proofs.lemmas.List.FromFn.{length-range_with_len}
 use Rattle.std.specs.List.{range_with_len}
 use Rattle.std.specs.Global.{Vec}
 use Rattle.disk_images.specs.declared.disk.Disk.{Ghosts}
-use Rattle.log_service.specs.declared.name.ServiceNaming.{Ghosts as LogGhosts}
-use Rattle.log_service.specs.declared.seats.LogSeat.{LogSeat}
-use Rattle.log_service.specs.Places.{ServiceId}
-use Rattle.region_calls.specs.declared.closed.ClosedRegion.{ClosedRegion}
-use Rattle.region_calls.specs.declared.naming.ServerNaming.{Ghosts as NameGhosts}
-use Rattle.region_calls.specs.declared.passes.Passes.{Passes}
-use Rattle.region_calls.specs.Deals.{passes_back}
-use Rattle.region_lock.specs.declared.naming.LockNaming.{Ghosts as LockGhosts}
+use Rattle.group_servers.specs.log_service.declared.name.ServiceNaming.{Ghosts as LogGhosts}
+use Rattle.group_servers.specs.log_service.declared.seats.LogSeat.{LogSeat}
+use Rattle.group_servers.specs.log_service.Places.{ServiceId}
+use Rattle.group_servers.specs.region_calls.declared.closed.ClosedRegion.{ClosedRegion}
+use Rattle.group_servers.specs.region_calls.declared.naming.ServerNaming.{Ghosts as NameGhosts}
+use Rattle.group_servers.specs.region_calls.declared.passes.Passes.{Passes}
+use Rattle.group_servers.specs.region_calls.Deals.{passes_back}
+use Rattle.group_servers.specs.region_lock.declared.naming.LockNaming.{Ghosts as LockGhosts}
 use Rattle.region_versions.specs.declared.naming.VersionsNaming.{Ghosts as VersionGhosts}
 use Rattle.server_model.specs.Pass.{Pass as ThePass}
 use Rattle.group_stores.specs.declared.lists.GroupList.{GroupList}

@@ -1,8 +1,8 @@
 -- The passes of all servers are handed out evenly.
 use Rattle.std.proofs.Common.{◌≡◌, ℕ, ◌+◌, ◌<◌, Option, Some, None, sym, arith, ◌∙◌}
-use Rattle.region_calls.specs.declared.pass.Pass.{Pass}
-use Rattle.region_calls.specs.declared.passes.Passes.{Passes}
-use Rattle.region_lock.specs.declared.naming.LockNaming.{Ghosts}
+use Rattle.group_servers.specs.region_calls.declared.pass.Pass.{Pass}
+use Rattle.group_servers.specs.region_calls.declared.passes.Passes.{Passes}
+use Rattle.group_servers.specs.region_lock.declared.naming.LockNaming.{Ghosts}
 use Rattle.group_servers.specs.Dealing.{IsLeftAt, IsNextAt, IsBackAt, IsEvenAt}
 
 module _ {N : Type 0} {g : Ghosts N} where

@@ -1,9 +1,9 @@
 -- All passes of a handler are one handler's.
 use Rattle.std.proofs.Common.{◌≡◌, ℕ, ◌+◌, Option, Some, None, sym, ap, ◌∙◌}
-use Rattle.log_service.specs.Places.{ServiceId}
-use Rattle.region_calls.specs.declared.pass.Pass.{Pass}
-use Rattle.region_calls.specs.declared.passes.Passes.{Passes}
-use Rattle.region_lock.specs.declared.naming.LockNaming.{Ghosts}
+use Rattle.group_servers.specs.log_service.Places.{ServiceId}
+use Rattle.group_servers.specs.region_calls.declared.pass.Pass.{Pass}
+use Rattle.group_servers.specs.region_calls.declared.passes.Passes.{Passes}
+use Rattle.group_servers.specs.region_lock.declared.naming.LockNaming.{Ghosts}
 use Rattle.group_servers.specs.Dealing.{IsEvenAt, IsNextAt}
 use Rattle.group_servers.specs.Passes.{known_by, HasHandlerAt, IsPassAt}
 

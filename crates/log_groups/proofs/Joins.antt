@@ -1,7 +1,7 @@
 -- The regions of several ends, put together.
 use Rattle.std.proofs.Common.{◌≡◌, ℕ, Option, Some, None, IfSome, IfNone, length, option_map, refl, sym, subst}
 use Rattle.std.specs.Global.{Vec}
-use Rattle.region_calls.specs.declared.closed.ClosedRegion.{ClosedRegion}
+use Rattle.group_servers.specs.region_calls.declared.closed.ClosedRegion.{ClosedRegion}
 use Rattle.group_stores.specs.declared.lists.GroupList.{GroupList}
 use Rattle.group_stores.specs.Choosing.{AreAsMany, AreChosen}
 use Rattle.group_stores.specs.Lists.{at_group}

@@ -1,3 +1,5 @@
+pub use Rattle.script_handlers.proofs as script_handlers
+pub use Rattle.group_servers.proofs.region_calls as region_calls
 pub mod Ending
 pub mod Evens
 pub mod Held

@@ -1,6 +1,6 @@
 -- Seats of groups' servers.
 use Rattle.std.proofs.Common.{ℕ, zero, suc, ◌≤◌, arith}
-use Rattle.log_service.specs.declared.seats.LogSeat.{LogSeat}
+use Rattle.group_servers.specs.log_service.declared.seats.LogSeat.{LogSeat}
 use Rattle.group_servers.specs.Helping.{IsSeatAt}
 use Rattle.log_groups.specs.Servers.{Servers, server_at}
 

@@ -1,15 +1,15 @@
 -- Servers of opened stores.
 use Rattle.std.proofs.Common.{◌≡◌, ◌≢◌, ℕ, ◌<◌, ◌≤◌, List, [], length, Option, Some, None, IfSome, sym, subst, ◌∙◌, arith, option_map}
-use Rattle.log_service.specs.declared.seats.LogSeat.{LogSeat}
-use Rattle.log_service.specs.Places.{ServiceId}
-use Rattle.region_calls.specs.declared.passes.Passes.{Passes}
-use Rattle.region_calls.specs.Deals.{passes_out, passes_back}
+use Rattle.group_servers.specs.log_service.declared.seats.LogSeat.{LogSeat}
+use Rattle.group_servers.specs.log_service.Places.{ServiceId}
+use Rattle.group_servers.specs.region_calls.declared.passes.Passes.{Passes}
+use Rattle.group_servers.specs.region_calls.Deals.{passes_out, passes_back}
 use Rattle.disk_images.specs.declared.disk.Disk.{Ghosts}
-use Rattle.log_service.specs.declared.name.ServiceNaming.{Ghosts as LogGhosts}
-use Rattle.region_calls.specs.declared.naming.ServerNaming.{Ghosts as NameGhosts}
-use Rattle.region_calls.specs.declared.store.OpenedStore.{OpenedStore}
-use Rattle.region_calls.specs.Store.{disk_now, handlers_of}
-use Rattle.region_lock.specs.declared.naming.LockNaming.{Ghosts as LockGhosts}
+use Rattle.group_servers.specs.log_service.declared.name.ServiceNaming.{Ghosts as LogGhosts}
+use Rattle.group_servers.specs.region_calls.declared.naming.ServerNaming.{Ghosts as NameGhosts}
+use Rattle.group_servers.specs.region_calls.declared.store.OpenedStore.{OpenedStore}
+use Rattle.group_servers.specs.region_calls.Store.{disk_now, handlers_of}
+use Rattle.group_servers.specs.region_lock.declared.naming.LockNaming.{Ghosts as LockGhosts}
 use Rattle.region_versions.specs.declared.naming.VersionsNaming.{Ghosts as VersionGhosts}
 use Rattle.group_stores.specs.Lists.{AtBoth, counted}
 use Rattle.group_stores.proofs.Each.{some_count, count_second, count_third, count_fourth}

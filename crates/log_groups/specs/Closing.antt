@@ -1,7 +1,7 @@
 -- What the closes of several servers leave.
 use Rattle.std.specs.Prelude.{◌≡◌, ℕ, Bool, false, ◌||◌, Option, Some, None, IfSome, IfNone}
 use Rattle.std.specs.Global.{Vec}
-use Rattle.region_calls.specs.declared.closed.ClosedRegion.{ClosedRegion}
+use Rattle.group_servers.specs.region_calls.declared.closed.ClosedRegion.{ClosedRegion}
 use Rattle.server_model.specs.Pass.{Naming}
 use Rattle.group_stores.specs.declared.lists.GroupList.{GroupList}
 use Rattle.group_stores.specs.Choosing.{AreChosen}

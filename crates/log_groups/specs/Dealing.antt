@@ -1,8 +1,8 @@
 -- The passes of several servers that no handler has.
 use Rattle.std.specs.Prelude.{◌≡◌, ℕ, ◌<◌, [], length, IfSome}
-use Rattle.region_lock.specs.declared.naming.LockNaming.{Ghosts}
-use Rattle.region_calls.specs.Backs.{AllBack}
-use Rattle.region_calls.specs.Deals.{passes_out, passes_back, ArePassesOf}
+use Rattle.group_servers.specs.region_lock.declared.naming.LockNaming.{Ghosts}
+use Rattle.group_servers.specs.region_calls.Backs.{AllBack}
+use Rattle.group_servers.specs.region_calls.Deals.{passes_out, passes_back, ArePassesOf}
 use Rattle.group_servers.specs.Dealing.{ArePassesAt, AreBackAt, IsBack, IsBackAt, IsEvenAt, IsNext, IsNextAt, IsRoomAt}
 use Rattle.log_groups.specs.declared.groups.GroupPass.{GroupPass}
 use Rattle.log_groups.specs.declared.helpers.GroupHelpers.{GroupHelpers}

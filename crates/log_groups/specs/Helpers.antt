@@ -1,6 +1,6 @@
 -- The seats of the threads that help groups' logs.
 use Rattle.std.specs.Prelude.{◌≡◌, ℕ, zero, suc, length, IfSome}
-use Rattle.region_calls.specs.Deals.{AreSeatsOf}
+use Rattle.group_servers.specs.region_calls.Deals.{AreSeatsOf}
 use Rattle.group_servers.specs.Helping.{seats_at, AreSeatsAt, IsSeatAt}
 use Rattle.log_groups.specs.declared.helpers.GroupHelper.{GroupHelper}
 use Rattle.log_groups.specs.declared.helpers.GroupHelpers.{GroupHelpers}

@@ -2,12 +2,12 @@
 use Rattle.std.specs.Prelude.{◌≡◌, ◌≢◌, ℕ, zero, suc, ◌<◌, ◌≤◌, Bool, List, Result, Option, Contains}
 use Rattle.cell_model.specs.Batch.{Batch}
 use Rattle.region_model.specs.Calls.{Answer, Raw}
-use Rattle.region_lock.specs.declared.answers.PutRefusal.{PutRefusal}
-use Rattle.region_lock.specs.declared.naming.LockNaming.{Ghosts}
-use Rattle.region_lock.specs.Puts.{IsFaultExact}
+use Rattle.group_servers.specs.region_lock.declared.answers.PutRefusal.{PutRefusal}
+use Rattle.group_servers.specs.region_lock.declared.naming.LockNaming.{Ghosts}
+use Rattle.group_servers.specs.region_lock.Puts.{IsFaultExact}
 use Rattle.server_model.specs.Pass.{Pass as ThePass, Naming}
 use Rattle.server_model.specs.Steps.{Puts, Scans, Flushes, Rolls}
-use Rattle.region_calls.specs.Passes.{knows, IsPassOf}
+use Rattle.group_servers.specs.region_calls.Passes.{knows, IsPassOf}
 use Rattle.group_servers.specs.Passes.{nobody, known_by, call_by, HasHandlerAt, IsPassAt, IsExactAt, Looks}
 use Rattle.log_groups.specs.declared.groups.GroupPass.{GroupPass}
 use Rattle.log_groups.specs.Servers.{Servers}

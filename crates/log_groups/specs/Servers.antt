@@ -1,6 +1,6 @@
 -- Which servers there are.
 use Rattle.std.specs.Prelude.{◌≡◌, ◌≢◌, ℕ, zero, suc, ◌≤◌, Option, Some, None}
-use Rattle.log_service.specs.Places.{ServiceId}
+use Rattle.group_servers.specs.log_service.Places.{ServiceId}
 use Rattle.group_stores.specs.Lists.{counted}
 
 -- so many groups, and the id of each one's server

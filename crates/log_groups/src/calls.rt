@@ -3,7 +3,7 @@
 ghost use Rattle.std.specs.Prelude.{◌≡◌, ◌≤◌, ◌<◌, ◌^◌, IfSome, length};
 ghost use Rattle.std.specs.Option.{option_map};
 ghost use Rattle.groups_model.specs.Groups.{group_of};
-ghost use Rattle.region_calls.specs.Answers.{is_sync, put_answer, scan_answer, flush_answer, roll_answer};
+ghost use Rattle.group_servers.specs.region_calls.Answers.{is_sync, put_answer, scan_answer, flush_answer, roll_answer};
 ghost use Rattle.log_groups.specs.Passes.{known, named, IsGroupPassOf, IsExactOn, IsRegionOn, IsNextOn, IsListedOn, StayElsewhere};
 ghost use Rattle.log_groups.specs.Passes.{PutsOn, ScansOn, LooksOn, FlushesOn, RollsOn};
 ghost use Rattle.group_servers.specs.Helping.{HasHelped};
@@ -12,13 +12,15 @@ ghost use Rattle.log_groups.specs.Helpers.{IsHelperOf};
 use crate::groups::{GroupPass, Groups};
 use crate::helpers::GroupHelper;
 use disk_images::Disk;
+use group_servers::handler_threads::ServerName;
+use group_servers::region_calls::{
+    FlushRefusal, Gate, Helped, PutRefusal, RollRefusal, Rolled, ScanReply,
+};
 use group_servers::{
     GroupPut, flush_at, help_at, help_with, put_at, put_with, read_point_at, read_point_of,
     roll_at, scan_at,
 };
-use handler_threads::ServerName;
 use kv_cell::{Batch, Durability, NoMemory};
-use region_calls::{FlushRefusal, Gate, Helped, PutRefusal, RollRefusal, Rolled, ScanReply};
 use std::alloc::Global;
 use std::sync::Wait;
 

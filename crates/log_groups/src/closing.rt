@@ -2,7 +2,7 @@
 
 ghost use Rattle.std.specs.Prelude.{◌≡◌, ◌≤◌, ◌||◌, IfSome, length};
 ghost use Rattle.std.specs.Option.{option_map};
-ghost use Rattle.region_calls.specs.Deals.{passes_back};
+ghost use Rattle.group_servers.specs.region_calls.Deals.{passes_back};
 ghost use Rattle.group_stores.specs.Choosing.{AreAsMany};
 ghost use Rattle.group_stores.specs.declared.lists.GroupList.{GroupList as TheList};
 ghost use Rattle.group_servers.specs.Closing.{HasEnded, HasEndedAt};
@@ -14,10 +14,10 @@ use crate::groups::Groups;
 use crate::helpers::GroupHelpers;
 use crate::passes::GroupPasses;
 use disk_images::Disk;
+use group_servers::handler_threads::ServerName;
+use group_servers::region_calls::ClosedRegion;
 use group_servers::{ServerEnd, close_at, close_one};
 use group_stores::{GroupList, choose};
-use handler_threads::ServerName;
-use region_calls::ClosedRegion;
 use std::alloc::Global;
 use std::sync::Wait;
 

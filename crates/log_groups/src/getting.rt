@@ -8,7 +8,7 @@ ghost use Rattle.script_calls.specs.Answers.{answer_of, is_got};
 
 use crate::groups::{GroupPass, Groups};
 use disk_images::Disk;
-use handler_threads::ServerName;
+use group_servers::handler_threads::ServerName;
 use kv_cell::Octets;
 use script_calls::Answer;
 use script_handlers::{of_get, row_behind};

@@ -4,9 +4,9 @@ ghost use Rattle.std.specs.Prelude.{◌≡◌, ◌≤◌};
 ghost use Rattle.groups_model.specs.Groups.{group_of};
 
 use disk_images::Disk;
+use group_servers::handler_threads::ServerName;
+use group_servers::region_calls::{Pass, Server};
 use group_stores::group_in;
-use handler_threads::ServerName;
-use region_calls::{Pass, Server};
 use std::marker::Model;
 use std::sync::Wait;
 

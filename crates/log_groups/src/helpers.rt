@@ -4,8 +4,8 @@ ghost use Rattle.std.specs.Prelude.{◌≡◌, ◌≢◌, ◌<◌, ◌+◌, ℕ,
 ghost use Rattle.log_groups.specs.Helpers.{held, AreHelpersOf, IsHelperOf};
 ghost use Rattle.log_groups.specs.Servers.{Servers};
 
+use group_servers::region_calls::{Helpers, LogSeat};
 use group_servers::{next_seat_at, put_seat_back_at};
-use region_calls::{Helpers, LogSeat};
 
 /// A seat for a thread that helps a group's log.
 #[derive(Drop)]

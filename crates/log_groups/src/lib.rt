@@ -16,8 +16,11 @@ mod serving;
 mod starting;
 
 pub use closing::GroupsClosed;
+pub use group_servers;
+pub use group_servers::{handler_threads, region_calls};
 pub use groups::{GroupPass, Groups};
 pub use helpers::{GroupHelper, GroupHelpers};
 pub use opening::open_groups;
 pub use passes::GroupPasses;
+pub use script_handlers;
 pub use starting::GroupsStarted;

@@ -7,8 +7,8 @@ ghost use Rattle.group_stores.specs.Refusals.{GoesOn, HaveNoOthers, AreRefused};
 
 use disk_images::Disk;
 use group_servers::begin_each;
+use group_servers::region_calls::OpenedStore;
 use group_stores::{GroupList, GroupsRefusal, recover_groups};
-use region_calls::OpenedStore;
 use std::alloc::Global;
 
 /// Opens a store on each disk, for regions 1 to `regions` and handlers 1 to `handlers`: recovers each disk, one after the other; looks whether one

@@ -4,12 +4,12 @@ ghost use Rattle.std.specs.Prelude.{◌≡◌, ◌≢◌, ◌<◌, None, IfOk, I
 ghost use Rattle.group_stores.specs.Lists.{AtBoth, at_group};
 ghost use Rattle.group_servers.specs.Starting.{HasRegionsOf, IsNamedAt, IsNew};
 ghost use Rattle.log_groups.specs.Starting.{HeldOrLetGoAt};
-ghost use Rattle.region_calls.specs.declared.store.OpenedStore.{OpenedStore as TheStore};
+ghost use Rattle.group_servers.specs.region_calls.declared.store.OpenedStore.{OpenedStore as TheStore};
 
 use disk_images::Disk;
+use group_servers::handler_threads::ServerName;
+use group_servers::region_calls::{OpenedStore, Started};
 use group_servers::{disk_at, let_go_at, start_at};
-use handler_threads::ServerName;
-use region_calls::{OpenedStore, Started};
 use std::alloc::Global;
 use std::sync::Wait;
 

@@ -5,8 +5,8 @@ ghost use Rattle.std.specs.Option.{option_map};
 ghost use Rattle.group_servers.specs.Starting.{IsNew, IsNewAt};
 
 use disk_images::Disk;
-use handler_threads::ServerName;
-use region_calls::{Helpers, Passes, Server, Started};
+use group_servers::handler_threads::ServerName;
+use group_servers::region_calls::{Helpers, Passes, Server, Started};
 use std::sync::Wait;
 
 /// The server, its passes and its seats, of a group that is there.

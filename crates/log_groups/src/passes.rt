@@ -6,9 +6,9 @@ ghost use Rattle.log_groups.specs.Passes.{IsGroupPassOf};
 ghost use Rattle.log_groups.specs.Servers.{Servers};
 
 use crate::groups::GroupPass;
+use group_servers::handler_threads::ServerName;
+use group_servers::region_calls::Passes;
 use group_servers::{next_at, put_back_at};
-use handler_threads::ServerName;
-use region_calls::Passes;
 
 /// The passes that no handler has: those that are not handed out yet, in parts, and those that are back.
 #[derive(Drop)]

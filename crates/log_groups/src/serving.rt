@@ -6,8 +6,8 @@ use crate::getting::get_row;
 use crate::groups::{GroupPass, Groups};
 use crate::helpers::GroupHelper;
 use disk_images::Disk;
-use handler_threads::ServerName;
-use region_calls::{Gate, Helped};
+use group_servers::handler_threads::ServerName;
+use group_servers::region_calls::{Gate, Helped};
 use script_calls::{Answer, Call};
 use script_handlers::{Serves, lent, of_flush, of_put, of_roll, of_scan};
 use std::alloc::Global;
@@ -40,11 +40,11 @@ impl<'a, D: Disk, N1: ServerName, N2: ServerName, N3: ServerName, N4: ServerName
 
     ghost log_of = { λ h. h.group };
 
-    ghost may = { λ h n call. MayCallEach (named ⟦<N1 as region_calls::ServerNaming>⟧.name ⟦<N2 as region_calls::ServerNaming>⟧.name
-        ⟦<N3 as region_calls::ServerNaming>⟧.name ⟦<N4 as region_calls::ServerNaming>⟧.name) h n call };
+    ghost may = { λ h n call. MayCallEach (named ⟦<N1 as group_servers::region_calls::ServerNaming>⟧.name ⟦<N2 as group_servers::region_calls::ServerNaming>⟧.name
+        ⟦<N3 as group_servers::region_calls::ServerNaming>⟧.name ⟦<N4 as group_servers::region_calls::ServerNaming>⟧.name) h n call };
 
-    ghost does = { λ s time caller call answer old new. GroupDoes s.count (named ⟦<N1 as region_calls::ServerNaming>⟧.name
-        ⟦<N2 as region_calls::ServerNaming>⟧.name ⟦<N3 as region_calls::ServerNaming>⟧.name ⟦<N4 as region_calls::ServerNaming>⟧.name)
+    ghost does = { λ s time caller call answer old new. GroupDoes s.count (named ⟦<N1 as group_servers::region_calls::ServerNaming>⟧.name
+        ⟦<N2 as group_servers::region_calls::ServerNaming>⟧.name ⟦<N3 as group_servers::region_calls::ServerNaming>⟧.name ⟦<N4 as group_servers::region_calls::ServerNaming>⟧.name)
         time caller call answer old new };
 
     fn handler(&self, pass: &GroupPass<N1, N2, N3, N4>) -> u32 {

@@ -14,10 +14,10 @@ use crate::others::{Others, OthersRefusal, start_others};
 use crate::parts::parts_of;
 use crate::passes::GroupPasses;
 use disk_images::Disk;
+use group_servers::handler_threads::ServerName;
+use group_servers::region_calls::{OpenedStore, StartRefusal, Started};
 use group_servers::{disk_at, let_go};
 use group_stores::{GroupList, GroupsRefusal, GroupsWhy};
-use handler_threads::ServerName;
-use region_calls::{OpenedStore, StartRefusal, Started};
 use std::alloc::Global;
 use std::sync::Wait;
 

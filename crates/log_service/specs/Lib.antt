@@ -1,3 +1,4 @@
+pub use Rattle.log_device.specs as log_device
 pub mod Names
 pub mod Trucks
 pub mod Items

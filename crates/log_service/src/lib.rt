@@ -41,6 +41,7 @@ pub use committing::Commit;
 pub use consumer::ConsumerHalf;
 pub use helping::Helped;
 pub use item::Item;
+pub use log_device;
 pub use moving::Moves;
 pub use name::ServiceNaming;
 pub use seats::{LogSeat, LogSeats};

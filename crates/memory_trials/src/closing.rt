@@ -5,7 +5,7 @@ use command_base::read_script;
 use disk_fakes::{SafeDisk, SafeSource};
 use kv_cell::NoMemory;
 use load_run::Gate;
-use run_command::{Ran, carry_out};
+use load_run::run_command::{Ran, carry_out};
 use script_text::Command;
 use std::alloc::Global;
 use std::process::Abort;

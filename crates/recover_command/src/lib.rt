@@ -6,5 +6,7 @@ mod command;
 mod laws;
 mod text;
 
+pub use region_replay;
+pub use found_files;
 pub use command::recover;
 pub use laws::damage_is_told_once;

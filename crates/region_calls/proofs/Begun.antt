@@ -10,17 +10,17 @@ use Rattle.recovery_laws.specs.Change.{RecoversSome, PutBy}
 use Rattle.recovery_laws.proofs.Turns.{in_turn}
 use Rattle.disk_images.specs.Crash.{DiskView, Throughout}
 use Rattle.disk_images.proofs.Moments.{joined, weaker}
-use Rattle.wal_split.specs.Moments.{During, WasOrAlike}
+use Rattle.region_replay.specs.wal_split.Moments.{During, WasOrAlike}
 use Rattle.log_ledger.specs.declared.base.RegionBase.{RegionBase}
 use Rattle.log_ledger.specs.Bases.{AreRegions, IsAmong, AreNumbersOf}
 use Rattle.append_ring.specs.Rules.{base_of}
 use Rattle.log_ledger.specs.Numbers.{IsServed}
 use Rattle.log_ledger.specs.History.{started_in}
-use Rattle.log_device.specs.declared.device.Device.{Device}
-use Rattle.log_device.specs.Whole.{IsWhole, IsBroken, IsIdle, log_of, numbers_of}
+use Rattle.log_service.specs.log_device.declared.device.Device.{Device}
+use Rattle.log_service.specs.log_device.Whole.{IsWhole, IsBroken, IsIdle, log_of, numbers_of}
 use Rattle.log_service.specs.Begun.{IsFresh, BeginsAs}
 use Rattle.log_service.specs.Halves.{AreNumbersUpTo, HasFewStores}
-use Rattle.log_device.specs.Opened.{IsOpened}
+use Rattle.log_service.specs.log_device.Opened.{IsOpened}
 use Rattle.region_replay.specs.Ready.{Found}
 use Rattle.region_replay.specs.Opened.{AreOf}
 use Rattle.region_replay.specs.Cleared.{IsReady}

@@ -1,3 +1,4 @@
+pub use Rattle.log_service.proofs as log_service
 pub mod Regions
 pub mod Sown
 pub mod Marks

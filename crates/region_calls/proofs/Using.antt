@@ -6,9 +6,9 @@ use Rattle.cell_model.specs.Batch.{Batch}
 use Rattle.cell_model.specs.Cell.{Cell}
 use Rattle.hand_register.specs.Views.{HandView}
 use Rattle.kv_cell.specs.declared.error.NoMemory.{NoMemory}
-use Rattle.log_device.specs.declared.error.Rolled.{Rolled}
-use Rattle.log_device.specs.declared.error.RollRefusal.{RollRefusal}
-use Rattle.log_device.specs.declared.error.RollRefusal.TheVariants as roll
+use Rattle.log_service.specs.log_device.declared.error.Rolled.{Rolled}
+use Rattle.log_service.specs.log_device.declared.error.RollRefusal.{RollRefusal}
+use Rattle.log_service.specs.log_device.declared.error.RollRefusal.TheVariants as roll
 use Rattle.log_service.specs.declared.seats.LogSeat.{LogSeat}
 use Rattle.log_service.specs.Places.{IsLaterSeat}
 use Rattle.region_model.specs.Calls.{Answer, Raw, is_put, is_scan, is_flush, is_roll}

@@ -2,7 +2,7 @@
 use Rattle.std.specs.Prelude.{◌≡◌, ◌≤◌, List, length, IsTrue}
 use Rattle.recovery_laws.specs.Alike.{AllAlike}
 use Rattle.disk_images.specs.declared.disk.Disk.{Ghosts}
-use Rattle.wal_split.specs.Moments.{During, WasOrAlike}
+use Rattle.region_replay.specs.wal_split.Moments.{During, WasOrAlike}
 use Rattle.region_replay.specs.Cleared.{IsReady}
 use Rattle.region_replay.specs.Opened.{AreOf, AtMostOneHigher}
 use Rattle.region_replay.specs.Ready.{Found}

@@ -18,7 +18,7 @@ use crate::scanner::Scanner;
 use crate::server::Server;
 use disk_images::Disk;
 use kv_cell::{Batch, Durability, NoMemory};
-use log_device::{RollRefusal, Rolled};
+use log_service::log_device::{RollRefusal, Rolled};
 use log_service::{Helped, LogSeat};
 use region_lock::{
     FlushRefusal, Gate, PutRefusal, ScanReply, flush_in, point_in, roll_in, scan_in,

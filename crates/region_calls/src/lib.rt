@@ -30,7 +30,8 @@ mod wording;
 
 pub use closed::{CloseRefusal, ClosedRegion, ClosedServer};
 pub use helpers::Helpers;
-pub use log_device::{RollRefusal, Rolled};
+pub use log_service;
+pub use log_service::log_device::{RollRefusal, Rolled};
 pub use log_service::{Helped, LogSeat};
 pub use mem_segments::Page;
 pub use naming::ServerNaming;
@@ -38,6 +39,7 @@ pub use opening::{begin_recovered, open};
 pub use pass::Pass;
 pub use passes::Passes;
 pub use refusal::{StartRefusal, StartWhy};
+pub use region_lock;
 pub use region_lock::{FlushRefusal, FreeGate, Gate, PutRefusal, ScanReply};
 pub use scanner::Scanner;
 pub use server::Server;

@@ -4,7 +4,7 @@ ghost use Rattle.std.specs.Prelude.{◌≡◌, ◌≤◌, length, IsTrue, IfOk, 
 ghost use Rattle.log_model.specs.Files.{IsSound};
 ghost use Rattle.log_model.specs.Damage.{IsDamage};
 ghost use Rattle.disk_images.specs.Calls.{HasCause};
-ghost use Rattle.wal_split.specs.Moments.{During, WasOrAlike};
+ghost use Rattle.region_replay.specs.wal_split.Moments.{During, WasOrAlike};
 ghost use Rattle.region_calls.specs.Bases.{AreBasesOf};
 ghost use Rattle.region_calls.specs.Opening.{disk_left, IfDamaged};
 ghost use Rattle.region_calls.specs.Recovered.{WasRecovered};
@@ -15,7 +15,7 @@ use crate::sowing::{Sown, sow};
 use crate::store::OpenedStore;
 use disk_images::Disk;
 use kv_cell::NoMemory;
-use log_device::{Device, DeviceRefusal};
+use log_service::log_device::{Device, DeviceRefusal};
 use region_replay::{Recovered, recover_all};
 use std::alloc::Global;
 use std::snapshot::Snapshot;

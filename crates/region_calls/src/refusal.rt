@@ -3,9 +3,9 @@
 ghost use Rattle.std.specs.Prelude.{◌≡◌};
 ghost use Rattle.region_calls.specs.Opening.{why_of, why_not};
 
-use found_files::SplitRefusal;
-use log_device::DeviceWhy;
 use log_model::Damage;
+use log_service::log_device::DeviceWhy;
+use region_replay::found_files::SplitRefusal;
 
 /// Why a store isn't opened.
 #[derive(Clone, Copy, Debug, PartialEq, Eq)]

@@ -8,8 +8,8 @@ ghost use Rattle.region_calls.specs.Seeds.{AreSeeds, base_of, lasts_of, bases_fo
 
 use crate::seeds::RegionSeeds;
 use kv_cell::NoMemory;
-use log_device::RegionBase;
 use log_service::Rings;
+use log_service::log_device::RegionBase;
 use region_replay::Replayed;
 use std::alloc::Global;
 

@@ -3,8 +3,8 @@ use Rattle.std.proofs.Common.{◌≡◌, ℕ, ◌+◌, ◌≤◌, true, List, Op
 use mathlib.Core.List.{IsPrefix}
 use Rattle.region_model.specs.Journal.{Base, Caller}
 use Rattle.region_model.specs.Calls.{Answer, FlushOk, FlushNothing, FlushBusy, FlushFault, FlushMemory}
-use Rattle.log_device.specs.declared.error.DeviceFlush.{DeviceFlush}
-use Rattle.log_device.specs.declared.error.DeviceFlush.TheVariants as device
+use Rattle.log_service.specs.log_device.declared.error.DeviceFlush.{DeviceFlush}
+use Rattle.log_service.specs.log_device.declared.error.DeviceFlush.TheVariants as device
 use Rattle.region_lock.specs.Answers.{refused_flush}
 use Rattle.region_model.specs.Lawful.{flushed_of}
 use Rattle.region_model.specs.Lines.{Line, last_in}

@@ -6,11 +6,11 @@ use Rattle.region_model.specs.Calls.{Answer, PutOk, PutMemory, PutFault, PutSpen
 use Rattle.kv_cell.specs.declared.batch.Durability.{Durability}
 use Rattle.kv_cell.specs.declared.batch.Durability.TheVariants as durability
 use Rattle.kv_cell.specs.declared.error.NoMemory.{NoMemory}
-use Rattle.log_device.specs.declared.error.DeviceFlush.{DeviceFlush}
-use Rattle.log_device.specs.declared.error.DeviceFlush.TheVariants as device
-use Rattle.log_device.specs.declared.error.Rolled.{Rolled}
-use Rattle.log_device.specs.declared.error.RollRefusal.{RollRefusal}
-use Rattle.log_device.specs.declared.error.RollRefusal.TheVariants as roll
+use Rattle.log_service.specs.log_device.declared.error.DeviceFlush.{DeviceFlush}
+use Rattle.log_service.specs.log_device.declared.error.DeviceFlush.TheVariants as device
+use Rattle.log_service.specs.log_device.declared.error.Rolled.{Rolled}
+use Rattle.log_service.specs.log_device.declared.error.RollRefusal.{RollRefusal}
+use Rattle.log_service.specs.log_device.declared.error.RollRefusal.TheVariants as roll
 use Rattle.region_lock.specs.declared.answers.PutRefusal.{PutRefusal}
 use Rattle.region_lock.specs.declared.answers.PutRefusal.TheVariants as put
 use Rattle.region_lock.specs.declared.answers.FlushRefusal.{FlushRefusal}

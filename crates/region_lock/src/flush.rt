@@ -15,7 +15,7 @@ use crate::locked::Locked;
 use crate::naming::LockNaming;
 use crate::pass::RegionPass;
 use disk_images::Disk;
-use log_device::DeviceFlush;
+use log_service::log_device::DeviceFlush;
 use log_service::{LogSeat, LogService};
 use region_state::Caller;
 use std::alloc::Global;

@@ -5,7 +5,7 @@ ghost use Rattle.region_lock.specs.Answers.{roll_answer};
 ghost use Rattle.region_lock.specs.Calls.{RollsAt};
 
 use disk_images::Disk;
-use log_device::{RollRefusal, Rolled};
+use log_service::log_device::{RollRefusal, Rolled};
 use log_service::{LogSeat, LogService, ServiceNaming};
 use std::alloc::Global;
 use std::sync::Wait;

@@ -1,3 +1,5 @@
+pub use Rattle.wal_split.specs as wal_split
+pub use Rattle.found_files.specs as found_files
 pub mod Cuts
 pub mod Bases
 pub mod Cleared

@@ -20,6 +20,7 @@ mod replaying;
 mod storing;
 mod whole;
 
+pub use found_files;
 pub use alone::{all_cells, next_store};
 pub use found::{Recovered, Replayed};
 pub use laws::one_sort_gives_the_base;

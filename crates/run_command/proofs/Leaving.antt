@@ -5,7 +5,7 @@ use Rattle.disk_images.specs.Crash.{DiskView}
 use Rattle.disk_images.specs.declared.disk.Disk.{Ghosts}
 use Rattle.recover_command.specs.Recovered.{IsStoreDamage}
 use Rattle.log_model.specs.declared.damage.Damage.{Damage}
-use Rattle.wal_split.specs.Moments.{During, WasOrAlike}
+use Rattle.recover_command.specs.wal_split.Moments.{During, WasOrAlike}
 use Rattle.region_model.specs.Journal.{Base}
 use Rattle.script_model.specs.Calls.{Script}
 use Rattle.script_model.specs.Report.{ReplyLine}
@@ -13,12 +13,12 @@ use Rattle.server_model.specs.Pass.{Naming}
 use Rattle.run_model.specs.Closed.{FitsThroughout}
 use Rattle.run_model.specs.Headline.{KeepsFound, KeepsThroughout, IsHalfOpened}
 use Rattle.run_model.specs.declared.spent.Spent.{Spent}
-use Rattle.region_calls.specs.Seeds.{base_of, lasts_of}
-use Rattle.region_calls.specs.Store.{IsStore, bases_of, regions_of}
-use Rattle.region_calls.specs.declared.store.OpenedStore.{OpenedStore}
-use Rattle.region_calls.specs.declared.closed.ClosedRegion.{ClosedRegion}
-use Rattle.region_calls.specs.declared.refusal.StartWhy.{StartWhy}
-use Rattle.region_calls.specs.declared.refusal.StartWhy.TheVariants as whys
+use Rattle.script_run.specs.region_calls.Seeds.{base_of, lasts_of}
+use Rattle.script_run.specs.region_calls.Store.{IsStore, bases_of, regions_of}
+use Rattle.script_run.specs.region_calls.declared.store.OpenedStore.{OpenedStore}
+use Rattle.script_run.specs.region_calls.declared.closed.ClosedRegion.{ClosedRegion}
+use Rattle.script_run.specs.region_calls.declared.refusal.StartWhy.{StartWhy}
+use Rattle.script_run.specs.region_calls.declared.refusal.StartWhy.TheVariants as whys
 use Rattle.script_run.specs.Ends.{closed_at, HasClosed}
 use Rattle.run_command.specs.Carried.{IfFoundDamaged}
 

@@ -12,9 +12,9 @@ use Rattle.script_model.specs.Outputs.{refused_memory, refused_disk}
 use Rattle.recover_command.specs.Recovered.{IsStoreDamage}
 use Rattle.log_model.specs.declared.damage.Damage.{Damage}
 use Rattle.log_model.specs.declared.damage.Damage.TheVariants as damages
-use Rattle.region_calls.specs.declared.refusal.StartWhy.{StartWhy}
-use Rattle.region_calls.specs.declared.refusal.StartWhy.TheVariants as whys
-use Rattle.region_calls.specs.declared.closed.ClosedRegion.{ClosedRegion}
+use Rattle.script_run.specs.region_calls.declared.refusal.StartWhy.{StartWhy}
+use Rattle.script_run.specs.region_calls.declared.refusal.StartWhy.TheVariants as whys
+use Rattle.script_run.specs.region_calls.declared.closed.ClosedRegion.{ClosedRegion}
 use Rattle.server_model.specs.Pass.{Naming}
 use Rattle.server_model.specs.Closing.{Handled, replies_of}
 use Rattle.run_model.specs.Closed.{FitsThroughout}

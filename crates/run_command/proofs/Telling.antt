@@ -8,8 +8,8 @@ use Rattle.script_model.specs.Calls.{Script, Says}
 use Rattle.script_model.specs.Fields.{Why}
 use Rattle.script_model.specs.Outputs.{refused_memory}
 use Rattle.script_model.specs.declared.command.Command.TheVariants.{Run}
-use Rattle.region_calls.specs.declared.refusal.StartWhy.{StartWhy}
-use Rattle.region_calls.specs.declared.refusal.StartWhy.TheVariants as whys
+use Rattle.script_run.specs.region_calls.declared.refusal.StartWhy.{StartWhy}
+use Rattle.script_run.specs.region_calls.declared.refusal.StartWhy.TheVariants as whys
 use Rattle.command_base.specs.Invocation.{invocation, taken_of}
 use Rattle.command_base.specs.Prints.{Prints}
 use Rattle.command_base.specs.Status.{refusal_line, IfDamaged, IsDamageOf, IsInputRefusal, IsOrEarlier, IsScriptFault}

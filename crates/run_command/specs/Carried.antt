@@ -9,8 +9,8 @@ use Rattle.server_model.specs.Pass.{Naming}
 use Rattle.run_model.specs.Closed.{FitsThroughout}
 use Rattle.run_model.specs.Headline.{KeepsFound, IsHalfOpened}
 use Rattle.script_run.specs.Ends.{closed_at, HasClosed}
-use Rattle.region_calls.specs.declared.refusal.StartWhy.{StartWhy}
-use Rattle.region_calls.specs.declared.refusal.StartWhy.TheVariants as whys
+use Rattle.script_run.specs.region_calls.declared.refusal.StartWhy.{StartWhy}
+use Rattle.script_run.specs.region_calls.declared.refusal.StartWhy.TheVariants as whys
 use Rattle.run_command.specs.declared.carrying.Ran.{Ran}
 use Rattle.run_command.specs.declared.carrying.Ran.TheVariants as rans
 

@@ -13,9 +13,9 @@ use Rattle.run_model.specs.Headline.{report_of, IsHeadline, IsSpentHeadline, Kee
 use Rattle.recover_command.specs.Recovered.{IsStoreDamage}
 use Rattle.log_model.specs.declared.damage.Damage.{Damage}
 use Rattle.log_model.specs.declared.damage.Damage.TheVariants as damages
-use Rattle.region_calls.specs.declared.refusal.StartWhy.{StartWhy}
-use Rattle.region_calls.specs.declared.refusal.StartWhy.TheVariants as whys
-use Rattle.region_calls.specs.declared.closed.ClosedRegion.{ClosedRegion}
+use Rattle.script_run.specs.region_calls.declared.refusal.StartWhy.{StartWhy}
+use Rattle.script_run.specs.region_calls.declared.refusal.StartWhy.TheVariants as whys
+use Rattle.script_run.specs.region_calls.declared.closed.ClosedRegion.{ClosedRegion}
 use Rattle.command_base.specs.Invocation.{Invocation, IsUnchanged, IsRefused}
 use Rattle.command_base.specs.Prints.{Prints}
 use Rattle.command_base.specs.Status.{exit_status}

@@ -6,9 +6,9 @@ ghost use Rattle.run_model.specs.Headline.{KeepsThroughout};
 ghost use Rattle.run_command.specs.Carried.{disk_of, HasRan, HasRanCause};
 
 use disk_images::Disk;
-use region_calls::{ClosedRegion, Gate, StartRefusal, StartWhy, open};
 use run_model::Spent;
 use script_calls::{ReplyLines, Script};
+use script_run::region_calls::{ClosedRegion, Gate, StartRefusal, StartWhy, open};
 use script_run::{Served, make_rooms, serve};
 use std::alloc::Global;
 use std::marker::Brand;

@@ -20,7 +20,7 @@ use crate::carrying::{Ran, carry_out};
 use crate::ending::print_report;
 use command_base::{Outcome, Status, read_script, refuse};
 use disk_images::{Disk, Sink, Source};
-use region_calls::{Gate, StartWhy};
+use script_run::region_calls::{Gate, StartWhy};
 use script_text::{Command, Script};
 use std::alloc::Global;
 use std::sync::Wait;

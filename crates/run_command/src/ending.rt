@@ -12,10 +12,10 @@ use crate::reporting::region_lines;
 use command_base::{Status, emit, refuse};
 use disk_images::Sink;
 use kv_cell::{NoMemory, Octets};
-use region_calls::ClosedRegion;
 use report_text::write_report;
 use run_model::Spent;
 use script_calls::{ReplyLine, ReplyLines, Report};
+use script_run::region_calls::ClosedRegion;
 use std::alloc::Global;
 
 /// Prints the report of regions and replies. Where no memory is found for it, one line that refuses.

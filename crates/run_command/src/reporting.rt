@@ -3,9 +3,9 @@ ghost use Rattle.std.specs.Prelude.{◌≡◌, map, IfOk, ◌++◌};
 ghost use Rattle.run_command.specs.Reported.{region_line, line_edit};
 
 use kv_cell::NoMemory;
-use region_calls::ClosedRegion;
 use region_state::{Line, LineOutcome};
 use script_calls::{EditLine, EditLines, RegionLine, RegionLines};
+use script_run::region_calls::ClosedRegion;
 use std::alloc::Global;
 
 /// The lines of the regions.

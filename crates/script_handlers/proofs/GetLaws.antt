@@ -5,8 +5,8 @@ use Rattle.cell_model.specs.Merge.{IsRising}
 use Rattle.mem_segments.proofs.Resuming.{rising_range}
 use Rattle.region_model.specs.Journal.{put_edits, cut_at, is_done}
 use Rattle.region_model.specs.Calls.{Answer, Raw, Newest}
-use Rattle.region_lock.specs.declared.scan.ScanReply.{ScanReply}
-use Rattle.region_calls.specs.Answers.{scan_answer}
+use Rattle.handler_threads.specs.region_lock.declared.scan.ScanReply.{ScanReply}
+use Rattle.handler_threads.specs.region_calls.Answers.{scan_answer}
 use Rattle.server_model.specs.Pass.{Pass, Naming}
 use Rattle.server_model.specs.Steps.{Scans}
 use Rattle.server_model.proofs.GetLaws.{got_nothing, got_of}

@@ -1,2 +1,4 @@
+pub use Rattle.handler_threads.proofs.region_calls as region_calls
+pub use Rattle.handler_threads.proofs as handler_threads
 pub mod GetLaws
 mod Laws

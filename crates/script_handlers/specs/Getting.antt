@@ -3,7 +3,7 @@ use Rattle.std.specs.Prelude.{◌≡◌, ℕ, ◌⊎◌, Result, Ok, Err}
 use Rattle.kv_cell.specs.declared.error.NoMemory.{NoMemory}
 use Rattle.mask_model.specs.Masked.{masked}
 use Rattle.region_model.specs.Calls.{Answer, Scanned, ScanMemory}
-use Rattle.region_lock.specs.declared.scan.ScanReply.{ScanReply}
+use Rattle.handler_threads.specs.region_lock.declared.scan.ScanReply.{ScanReply}
 
 -- Behind a scan of its row: what a reader of so many versions sees of the scan's cells, at its point; or it is out of memory.
 abbrev pub IsGetOf : (versions : ℕ) → Result ScanReply NoMemory → Answer → Type 0

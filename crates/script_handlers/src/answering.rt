@@ -4,10 +4,10 @@ ghost use Rattle.std.specs.Prelude.{◌≡◌, IfOk, true, false};
 ghost use Rattle.cell_model.specs.Merge.{IsRising};
 ghost use Rattle.script_calls.specs.Answers.{answer_of, is_got};
 ghost use Rattle.script_handlers.specs.Getting.{IsGetOf};
-ghost use Rattle.region_calls.specs.Answers.{put_answer, scan_answer, flush_answer, roll_answer};
+ghost use Rattle.handler_threads.specs.region_calls.Answers.{put_answer, scan_answer, flush_answer, roll_answer};
 
+use handler_threads::region_calls::{FlushRefusal, PutRefusal, RollRefusal, Rolled, ScanReply};
 use kv_cell::NoMemory;
-use region_calls::{FlushRefusal, PutRefusal, RollRefusal, Rolled, ScanReply};
 use region_state::Caller;
 use row_reader::mask;
 use script_calls::Answer;

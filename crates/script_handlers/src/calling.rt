@@ -4,7 +4,7 @@ use crate::handler::Handler;
 use crate::making::handle;
 use crate::serves::Serves;
 use handler_threads::Job;
-use region_calls::{Gate, Helped};
+use handler_threads::region_calls::{Gate, Helped};
 use std::alloc::Global;
 use std::sync::Wait;
 

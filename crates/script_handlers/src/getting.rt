@@ -4,13 +4,13 @@ ghost use Rattle.std.specs.Prelude.{◌≡◌, ◌≤◌, [], ◌∷◌, ◌++�
 ghost use Rattle.region_model.specs.Calls.{Newest};
 ghost use Rattle.script_calls.specs.Answers.{answer_of, is_got};
 ghost use Rattle.server_model.specs.Steps.{Scans};
-ghost use Rattle.region_calls.specs.Passes.{knows, IsPassOf};
+ghost use Rattle.handler_threads.specs.region_calls.Passes.{knows, IsPassOf};
 
 use crate::answering::of_get;
 use disk_images::Disk;
 use handler_threads::ServerName;
+use handler_threads::region_calls::{Pass, Server};
 use kv_cell::{NoMemory, Octets};
-use region_calls::{Pass, Server};
 use script_calls::Answer;
 use std::alloc::Global;
 use std::sync::Wait;

@@ -18,4 +18,6 @@ pub use calling::Calling;
 pub use flushing::lent;
 pub use getting::row_behind;
 pub use handler::Handler;
+pub use handler_threads;
+pub use handler_threads::{region_calls, region_lock};
 pub use serves::Serves;

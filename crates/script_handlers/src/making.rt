@@ -7,7 +7,7 @@ ghost use Rattle.script_handlers.specs.Handled.{Handles, HasRun, IsReady, MayCal
 use crate::handler::Handler;
 use crate::serves::Serves;
 use crate::spending::{or_told, region_of};
-use region_calls::Gate;
+use handler_threads::region_calls::Gate;
 use run_model::Spent;
 use script_calls::{Call, ReplyLine};
 use std::alloc::Global;

@@ -5,7 +5,7 @@ ghost use Rattle.region_model.specs.Calls.{is_get};
 ghost use Rattle.script_calls.specs.Answers.{answer_of, is_got};
 ghost use Rattle.script_calls.specs.Calls.{call_of};
 
-use region_calls::{Gate, Helped};
+use handler_threads::region_calls::{Gate, Helped};
 use script_calls::{Answer, Call};
 use std::alloc::Global;
 use std::sync::Wait;

@@ -8,7 +8,7 @@ use crate::getting::get_row;
 use crate::serves::Serves;
 use disk_images::Disk;
 use handler_threads::ServerName;
-use region_calls::{Gate, Helped, LogSeat, Pass, Server};
+use handler_threads::region_calls::{Gate, Helped, LogSeat, Pass, Server};
 use script_calls::{Answer, Call};
 use std::alloc::Global;
 use std::sync::Wait;
@@ -16,8 +16,8 @@ use std::sync::Wait;
 impl<'a, D: Disk, N: ServerName, S: Wait> Serves for Server<'a, D, N, S> {
     ghost use Rattle.server_model.specs.Pass.{Pass as ThePass};
     ghost use Rattle.server_model.specs.Steps.{Does};
-    ghost use Rattle.log_service.specs.Places.{IsSeatOf};
-    ghost use Rattle.region_calls.specs.Passes.{knows, IsPassOf};
+    ghost use Rattle.handler_threads.specs.log_service.Places.{IsSeatOf};
+    ghost use Rattle.handler_threads.specs.region_calls.Passes.{knows, IsPassOf};
     ghost use Rattle.script_handlers.specs.Calling.{MayCall};
 
     type Pass = Pass<N>;
@@ -38,9 +38,9 @@ impl<'a, D: Disk, N: ServerName, S: Wait> Serves for Server<'a, D, N, S> {
 
     ghost log_of = { λ q. 1 };
 
-    ghost may = { λ h n call. MayCall ⟦<N as region_calls::ServerNaming>⟧.name h n call };
+    ghost may = { λ h n call. MayCall ⟦<N as handler_threads::region_calls::ServerNaming>⟧.name h n call };
 
-    ghost does = { λ s time caller call answer old new. Does ⟦<N as region_calls::ServerNaming>⟧.name time caller call answer old new };
+    ghost does = { λ s time caller call answer old new. Does ⟦<N as handler_threads::region_calls::ServerNaming>⟧.name time caller call answer old new };
 
     fn handler(&self, pass: &Pass<N>) -> u32 {
         pass.handler()

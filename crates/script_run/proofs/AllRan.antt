@@ -13,10 +13,10 @@ use Rattle.server_model.specs.Closing.{Pairs}
 use Rattle.server_model.proofs.JournalLaws.{contains_cons}
 use Rattle.run_model.specs.Closed.{IsNameFor}
 use Rattle.run_model.proofs.AskedLaws.{flush_listed}
-use Rattle.log_service.specs.Places.{ServiceId}
-use Rattle.region_lock.specs.declared.naming.LockNaming.{Ghosts}
-use Rattle.region_calls.specs.declared.pass.Pass.{Pass}
-use Rattle.region_calls.specs.Passes.{knows, IsPassOf}
+use Rattle.script_handlers.specs.log_service.Places.{ServiceId}
+use Rattle.script_handlers.specs.region_lock.declared.naming.LockNaming.{Ghosts}
+use Rattle.script_handlers.specs.region_calls.declared.pass.Pass.{Pass}
+use Rattle.script_handlers.specs.region_calls.Passes.{knows, IsPassOf}
 use Rattle.server_model.specs.Steps.{Does, Runs}
 use Rattle.region_model.specs.Calls.{Reply}
 use Rattle.script_handlers.specs.Calling.{MayCall}
@@ -36,13 +36,13 @@ use Rattle.run_model.proofs.KeepsFound.{half_keeps, left_keeps, all_keep}
 use Rattle.run_model.proofs.SpentLaws.{first_append, first_assoc}
 use Rattle.run_model.specs.declared.spent.Spent.{Spent}
 use Rattle.run_model.specs.Spent.{first_spent, first_of}
-use Rattle.wal_split.specs.Moments.{During, WasOrAlike}
-use Rattle.region_calls.specs.Bases.{AreBasesOf}
-use Rattle.region_calls.specs.Closes.{IsLeft}
-use Rattle.region_calls.specs.Seeds.{base_at}
-use Rattle.region_calls.specs.Wordings.{region_of}
-use Rattle.region_calls.proofs.NamedSeeds.{base_of_region}
-use Rattle.region_calls.specs.declared.closed.ClosedRegion.{ClosedRegion}
+use Rattle.script_handlers.specs.wal_split.Moments.{During, WasOrAlike}
+use Rattle.script_handlers.specs.region_calls.Bases.{AreBasesOf}
+use Rattle.script_handlers.specs.region_calls.Closes.{IsLeft}
+use Rattle.script_handlers.specs.region_calls.Seeds.{base_at}
+use Rattle.script_handlers.specs.region_calls.Wordings.{region_of}
+use Rattle.script_handlers.proofs.region_calls.NamedSeeds.{base_of_region}
+use Rattle.script_handlers.specs.region_calls.declared.closed.ClosedRegion.{ClosedRegion}
 use Rattle.script_run.specs.Ends.{closed_at, HasClosed}
 use Rattle.std.proofs.Math.Logic.{∥∥₁_map}
 use Rattle.script_run.specs.declared.room.CallRoom.{CallRoom}

@@ -3,14 +3,14 @@ use Rattle.std.proofs.Common.{◌≡◌, ℕ, ◌⊎◌, ◌≤◌, Bool, List, 
 use Rattle.std.proofs.Math.Logic.{∥∥₁_map, ∥∥₁_elim, ∥∥₁_prop}
 use Rattle.log_model.specs.Files.{Files}
 use Rattle.disk_images.specs.Crash.{DiskView, IsImageNow}
-use Rattle.wal_split.specs.Moments.{During, WasOrAlike}
+use Rattle.script_handlers.specs.wal_split.Moments.{During, WasOrAlike}
 use Rattle.script_model.specs.Calls.{Script}
 use Rattle.server_model.specs.Pass.{Naming, Pass}
 use Rattle.server_model.specs.Closing.{Handled}
-use Rattle.log_service.specs.Moments.{GoesOnFrom}
-use Rattle.region_calls.specs.Closes.{HasElapsed, HasSurvived, IsLeft}
-use Rattle.region_calls.specs.Wordings.{region_of}
-use Rattle.region_calls.specs.declared.closed.ClosedRegion.{ClosedRegion}
+use Rattle.script_handlers.specs.log_service.Moments.{GoesOnFrom}
+use Rattle.script_handlers.specs.region_calls.Closes.{HasElapsed, HasSurvived, IsLeft}
+use Rattle.script_handlers.specs.region_calls.Wordings.{region_of}
+use Rattle.script_handlers.specs.region_calls.declared.closed.ClosedRegion.{ClosedRegion}
 use Rattle.run_model.specs.Closed.{ClosedAt, Closed, IsFound, FitsThroughout}
 use Rattle.run_model.specs.Headline.{KeepsIn, KeepsThroughout}
 use Rattle.run_model.proofs.FromClose.{base_at, region_there}

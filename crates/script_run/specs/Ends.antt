@@ -11,8 +11,8 @@ use Rattle.run_model.specs.Closed.{ClosedAt, Closed, FitsThroughout}
 use Rattle.run_model.specs.declared.spent.Spent.{Spent}
 use Rattle.run_model.specs.Spent.{first_spent, first_of}
 use Rattle.run_model.specs.Headline.{reply_line, KeepsFound}
-use Rattle.region_calls.specs.Wordings.{region_of}
-use Rattle.region_calls.specs.declared.closed.ClosedRegion.{ClosedRegion}
+use Rattle.script_handlers.specs.region_calls.Wordings.{region_of}
+use Rattle.script_handlers.specs.region_calls.declared.closed.ClosedRegion.{ClosedRegion}
 use Rattle.script_run.specs.declared.served.Served.{Served}
 use Rattle.script_run.specs.declared.served.Served.TheVariants as served
 

@@ -4,11 +4,11 @@ use Rattle.script_model.specs.Report.{ReplyLine as TheLine}
 use Rattle.server_model.specs.Pass.{Pass as ThePass, Naming}
 use Rattle.server_model.specs.Steps.{Does}
 use Rattle.run_model.specs.declared.spent.Spent.{Spent}
-use Rattle.log_service.specs.Places.{ServiceId}
-use Rattle.region_lock.specs.declared.naming.LockNaming.{Ghosts}
-use Rattle.region_calls.specs.declared.pass.Pass.{Pass}
-use Rattle.region_calls.specs.Passes.{knows, IsPassOf}
-use Rattle.handler_threads.specs.Working.{AreReady as AllReady, HaveWorked}
+use Rattle.script_handlers.specs.log_service.Places.{ServiceId}
+use Rattle.script_handlers.specs.region_lock.declared.naming.LockNaming.{Ghosts}
+use Rattle.script_handlers.specs.region_calls.declared.pass.Pass.{Pass}
+use Rattle.script_handlers.specs.region_calls.Passes.{knows, IsPassOf}
+use Rattle.script_handlers.specs.handler_threads.Working.{AreReady as AllReady, HaveWorked}
 use Rattle.script_handlers.specs.Calling.{MayCall}
 use Rattle.script_handlers.specs.Handled.{IsReady as IsReadyFor, HasRun as HasRunFor}
 use Rattle.script_handlers.specs.declared.handler.Handler.{Handler}

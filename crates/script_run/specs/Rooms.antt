@@ -5,9 +5,9 @@ use Rattle.region_model.specs.Calls.{Call}
 use Rattle.script_model.specs.Calls.{Script}
 use Rattle.script_calls.specs.Calls.{call_of}
 use Rattle.server_model.specs.Pass.{IsFresh}
-use Rattle.region_lock.specs.declared.naming.LockNaming.{Ghosts}
-use Rattle.region_calls.specs.declared.pass.Pass.{Pass}
-use Rattle.region_calls.specs.Passes.{knows}
+use Rattle.script_handlers.specs.region_lock.declared.naming.LockNaming.{Ghosts}
+use Rattle.script_handlers.specs.region_calls.declared.pass.Pass.{Pass}
+use Rattle.script_handlers.specs.region_calls.Passes.{knows}
 use Rattle.script_handlers.specs.declared.handler.Handler.{Handler}
 use Rattle.script_run.specs.declared.room.CallRoom.{CallRoom}
 

@@ -1,22 +1,22 @@
 //! Passes are handed to handlers, and come back.
 
 ghost use Rattle.std.specs.Prelude.{◌≡◌, ◌≤◌, [], map, length, vec_len, vec_capacity};
-ghost use Rattle.log_service.specs.Places.{ServiceId};
-ghost use Rattle.region_calls.specs.Passes.{knows, IsPassOf};
-ghost use Rattle.region_calls.specs.Deals.{passes_out, passes_back, ArePassesOf};
+ghost use Rattle.script_handlers.specs.log_service.Places.{ServiceId};
+ghost use Rattle.script_handlers.specs.region_calls.Passes.{knows, IsPassOf};
+ghost use Rattle.script_handlers.specs.region_calls.Deals.{passes_out, passes_back, ArePassesOf};
 ghost use Rattle.script_run.specs.Rooms.{AreTaken};
 ghost use Rattle.script_run.specs.Ran.{AllOfPlace, pass_of, lines_in, spent_in};
 ghost use Rattle.script_run.specs.Ends.{first_of_all};
 
 use crate::room::CallRoom;
 use crate::spending::first_of;
-use region_calls::{Pass, Passes};
 use run_model::Spent;
 use script_calls::ReplyLines;
 use script_handlers::Handler;
+use script_handlers::region_calls::{Pass, Passes};
 
 /// Makes a handler for each room. There is room for them, and it takes no memory.
-pub fn take_passes<N: region_lock::LockNaming + region_versions::VersionsNaming>(
+pub fn take_passes<N: script_handlers::region_lock::LockNaming + region_versions::VersionsNaming>(
     rooms: Vec<CallRoom>,
     passes: &mut Passes<N>,
     handlers: &mut Vec<Handler<Pass<N>>>,
@@ -45,7 +45,7 @@ pub fn take_passes<N: region_lock::LockNaming + region_versions::VersionsNaming>
 
 /// Gives the passes back, and keeps the replies and the first put that found no sequence id left. There is room for them, and
 /// it takes no memory.
-pub fn give_back<N: region_lock::LockNaming + region_versions::VersionsNaming>(
+pub fn give_back<N: script_handlers::region_lock::LockNaming + region_versions::VersionsNaming>(
     handlers: Vec<Handler<Pass<N>>>,
     passes: &mut Passes<N>,
     parts: &mut Vec<ReplyLines>,

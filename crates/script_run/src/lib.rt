@@ -10,5 +10,6 @@ mod serving;
 mod spending;
 
 pub use room::{CallRoom, make_rooms};
+pub use script_handlers::region_calls;
 pub use served::Served;
 pub use serving::serve;

@@ -1,12 +1,12 @@
 //! All handlers of a script on one server.
 
 ghost use Rattle.std.specs.Prelude.{◌<◌, ◌^◌};
-ghost use Rattle.log_service.specs.Places.{IsSeatOf};
+ghost use Rattle.script_handlers.specs.log_service.Places.{IsSeatOf};
 ghost use Rattle.script_run.specs.Ran.{AreReady, HaveRun};
 
 use disk_images::Disk;
-use handler_threads::{ServerName, run_all};
-use region_calls::{Gate, LogSeat, Pass, Server};
+use script_handlers::handler_threads::{ServerName, run_all};
+use script_handlers::region_calls::{Gate, LogSeat, Pass, Server};
 use script_handlers::{Calling, Handler};
 use std::alloc::Global;
 use std::sync::Wait;

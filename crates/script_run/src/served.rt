@@ -1,8 +1,8 @@
 //! What a run leaves.
 
-use region_calls::ClosedRegion;
 use run_model::Spent;
 use script_calls::ReplyLines;
+use script_handlers::region_calls::ClosedRegion;
 
 /// What is left once the handlers have returned.
 pub enum Served<D> {

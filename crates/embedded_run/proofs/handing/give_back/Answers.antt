@@ -2,8 +2,8 @@ use Rattle.std.proofs.Common.{◌++◌, List, ◌∷◌, [], map, length, sym, a
 use Rattle.std.proofs.lemmas.List.{length-map, map-append}
 use Rattle.std.proofs.lemmas.Iterator.Adapters.{YieldsList-from_vec}
 use Rattle.std.proofs.lemmas.Iterator.Consumers.{YieldsList-turn}
-use Rattle.region_calls.specs.Passes.{knows}
-use Rattle.region_calls.specs.declared.pass.Pass.{Pass}
+use Rattle.embedded.specs.region_calls.Passes.{knows}
+use Rattle.embedded.specs.region_calls.declared.pass.Pass.{Pass}
 use Rattle.embedded_run.specs.Seats.{IsAt, AllAt, known_in, pass_in, handler_in}
 use Rattle.embedded_run.specs.declared.seated.Seated.{Seated}
 use Rattle.embedded_run.proofs.handing.give_back.Goals as goal

@@ -1,7 +1,7 @@
 use Rattle.std.proofs.Common.{◌≡◌, map, length, vec_len, vec_capacity}
 use Rattle.std.specs.Vec.Iter.{into_iter_items}
-use Rattle.log_service.specs.Places.{ServiceId}
-use Rattle.region_calls.specs.Deals.{passes_out, passes_back, ArePassesOf}
+use Rattle.embedded.specs.log_service.Places.{ServiceId}
+use Rattle.embedded.specs.region_calls.Deals.{passes_out, passes_back, ArePassesOf}
 use Rattle.embedded_run.specs.Seats.{AllAt, pass_in, handler_in}
 use Rattle.embedded_run.proofs.handing.give_back.Given as goal
 

@@ -1,8 +1,8 @@
 use Rattle.std.proofs.Common.{◌≡◌, ◌+◌, ◌++◌, [], ◌∷◌, List, length, Some, sym, ◌∙◌, subst, refl, arith, length-append}
 use Rattle.server_model.specs.Pass.{IsFresh}
-use Rattle.region_calls.specs.Passes.{knows}
-use Rattle.region_calls.specs.Deals.{passes_out}
-use Rattle.region_calls.specs.declared.pass.Pass.{Pass}
+use Rattle.embedded.specs.region_calls.Passes.{knows}
+use Rattle.embedded.specs.region_calls.Deals.{passes_out}
+use Rattle.embedded.specs.region_calls.declared.pass.Pass.{Pass}
 use Rattle.embedded_run.specs.Seats.{AllAt, AreTaken}
 use Rattle.embedded_run.specs.declared.seated.Seated.{Seated}
 use Rattle.embedded_run.proofs.Seating.{taken_push, at_push}

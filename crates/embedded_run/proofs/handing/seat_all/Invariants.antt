@@ -1,6 +1,6 @@
 use Rattle.std.proofs.Common.{◌≡◌, length, vec_len, vec_capacity}
-use Rattle.log_service.specs.Places.{ServiceId}
-use Rattle.region_calls.specs.Deals.{passes_out, passes_back, ArePassesOf}
+use Rattle.embedded.specs.log_service.Places.{ServiceId}
+use Rattle.embedded.specs.region_calls.Deals.{passes_out, passes_back, ArePassesOf}
 use Rattle.embedded_run.specs.Seats.{AreTaken, AllAt}
 use Rattle.embedded_run.proofs.handing.seat_all.Given as goal
 

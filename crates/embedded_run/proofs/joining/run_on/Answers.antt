@@ -1,9 +1,9 @@
 use denote.Param.Send.{sendable}
 use Rattle.std.proofs.Common.{ℕ, zero, suc, ◌<◌, List, [], ◌∷◌, slice_index_or, sym, ap, ◌∙◌, subst, arith}
 use Rattle.std.proofs.Crossing.{crosses}
-use Rattle.log_service.specs.declared.seats.LogSeat.{LogSeat}
-use Rattle.log_service.specs.Places.{IsSeatOf}
-use Rattle.handler_threads.proofs.Crossing.{handler_pass_send, server_sync}
+use Rattle.embedded.specs.log_service.declared.seats.LogSeat.{LogSeat}
+use Rattle.embedded.specs.log_service.Places.{IsSeatOf}
+use Rattle.embedded.proofs.handler_threads.Crossing.{handler_pass_send, server_sync}
 use Rattle.embedded_run.proofs.job.SessionJob.TheSendSync as job
 use Rattle.embedded_run.proofs.seated.Seated.TheSendSync as seated
 use Rattle.embedded_run.proofs.joining.run_on.Goals as goal

@@ -1,9 +1,9 @@
 use Rattle.std.proofs.Common.{◌^◌, refl, sym, subst}
 use Rattle.log_model.specs.Files.{IsSound}
-use Rattle.wal_split.specs.Moments.{During, WasOrAlike}
+use Rattle.embedded.specs.wal_split.Moments.{During, WasOrAlike}
 use Rattle.run_model.specs.Headline.{KeepsThroughout}
-use Rattle.region_calls.specs.Store.{disk_now, handlers_of}
-use Rattle.region_calls.proofs.OwnNames.{own_name}
+use Rattle.embedded.specs.region_calls.Store.{disk_now, handlers_of}
+use Rattle.embedded.proofs.region_calls.OwnNames.{own_name}
 use Rattle.embedded.specs.Flushers.{callers}
 use Rattle.embedded.proofs.Flushing.{may_flush}
 use Rattle.embedded_run.specs.Ends.{disk_of}

@@ -4,12 +4,12 @@ use Rattle.log_model.specs.Files.{Files}
 use Rattle.run_model.specs.Headline.{KeepsThroughout, IsHalfOpened}
 use Rattle.server_model.specs.Pass.{Naming}
 use Rattle.server_model.specs.Closing.{IsClosedRegion, Leaves}
-use Rattle.region_calls.specs.Closes.{HasElapsed, IsLeft}
-use Rattle.region_calls.specs.Seeds.{base_of}
-use Rattle.region_calls.specs.Store.{disk_now, disk_found, regions_of, bases_of}
-use Rattle.region_calls.specs.Deals.{passes_back}
-use Rattle.region_calls.specs.Wordings.{region_of}
-use Rattle.region_calls.specs.declared.closed.ClosedRegion.{ClosedRegion}
+use Rattle.embedded.specs.region_calls.Closes.{HasElapsed, IsLeft}
+use Rattle.embedded.specs.region_calls.Seeds.{base_of}
+use Rattle.embedded.specs.region_calls.Store.{disk_now, disk_found, regions_of, bases_of}
+use Rattle.embedded.specs.region_calls.Deals.{passes_back}
+use Rattle.embedded.specs.region_calls.Wordings.{region_of}
+use Rattle.embedded.specs.region_calls.declared.closed.ClosedRegion.{ClosedRegion}
 use Rattle.embedded_run.specs.Seats.{pass_in}
 use Rattle.embedded_run.specs.Deeds.{lasts_in}
 use Rattle.embedded_run.specs.Ends.{HasEnded, disk_of}

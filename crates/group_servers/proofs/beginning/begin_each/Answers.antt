@@ -1,4 +1,4 @@
-use Rattle.region_calls.specs.Store.{disk_now}
+use Rattle.handler_threads.specs.region_calls.Store.{disk_now}
 use Rattle.group_stores.specs.Recovering.{IsRecovered}
 use Rattle.group_stores.proofs.Each.{both_weaker}
 use Rattle.group_servers.specs.Beginning.{HasGoneOn, IsOpenedFrom, IsUnbegunFrom, TellsFrom}

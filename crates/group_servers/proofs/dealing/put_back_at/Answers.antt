@@ -1,5 +1,5 @@
 use Rattle.std.proofs.Common.{◌≡◌, Option, sym, subst}
-use Rattle.region_calls.specs.declared.passes.Passes.{Passes}
+use Rattle.handler_threads.specs.region_calls.declared.passes.Passes.{Passes}
 use Rattle.group_servers.specs.Dealing.{ArePassesAt}
 use Rattle.group_servers.proofs.Handing.{back_there, back_of}
 use Rattle.group_servers.proofs.dealing.put_back_at.Goals.{in-Some-Some, in-None-None}

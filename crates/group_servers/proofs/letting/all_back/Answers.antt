@@ -1,7 +1,7 @@
 use Rattle.std.proofs.Common.{◌+◌, List, [], ◌∷◌, length, ap, subst, sym, ◌∙◌, arith, length-append}
 use Rattle.server_model.specs.Pass.{Pass as ThePass}
-use Rattle.region_calls.specs.Deals.{passes_out, passes_back}
-use Rattle.region_calls.specs.Passes.{knows}
+use Rattle.handler_threads.specs.region_calls.Deals.{passes_out, passes_back}
+use Rattle.handler_threads.specs.region_calls.Passes.{knows}
 use Rattle.group_servers.specs.Starting.{AreUnused}
 use Rattle.group_servers.proofs.Unused.{none_unused, one_more_unused}
 use Rattle.group_servers.proofs.letting.all_back.Goals as goal

@@ -1,6 +1,6 @@
 use Rattle.std.proofs.Common.{◌≡◌, ◌-◌, ◌≤◌, length}
-use Rattle.log_service.specs.Places.{ServiceId}
-use Rattle.region_calls.specs.Deals.{passes_out, passes_back, ArePassesOf}
+use Rattle.handler_threads.specs.log_service.Places.{ServiceId}
+use Rattle.handler_threads.specs.region_calls.Deals.{passes_out, passes_back, ArePassesOf}
 use Rattle.group_servers.specs.Starting.{AreUnused}
 use Rattle.group_servers.proofs.letting.all_back.Given as goal
 

@@ -1,4 +1,4 @@
-use Rattle.region_calls.specs.Deals.{passes_back}
+use Rattle.handler_threads.specs.region_calls.Deals.{passes_back}
 use Rattle.group_servers.proofs.letting.let_go.Goals as goal
 
 pub all_back-passes-requires-clause-of : goal.all_back-passes-requires-clause-of

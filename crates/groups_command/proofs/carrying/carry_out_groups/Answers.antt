@@ -1,9 +1,9 @@
 use Rattle.std.proofs.Common.{◌≡◌, sym, ◌∙◌, subst, arith}
 use Rattle.script_model.specs.Calls.{IsScript}
-use Rattle.region_calls.specs.Store.{regions_of}
+use Rattle.groups_run.specs.region_calls.Store.{regions_of}
 use Rattle.run_model.specs.Closed.{IsNameFor, flushes_in}
 use Rattle.run_model.specs.Headline.{KeepsFound, KeepsThroughout}
-use Rattle.script_run.specs.Rooms.{script_in}
+use Rattle.groups_run.specs.script_run.Rooms.{script_in}
 use Rattle.run_command.proofs.Leaving.{stays_throughout, untouched}
 use Rattle.group_stores.specs.Lists.{count_of}
 use Rattle.group_stores.proofs.Each.{same_count}

@@ -1,7 +1,7 @@
-use Rattle.region_calls.proofs.OwnNames.{server_named, locks_named, service_named, versions_named}
-use Rattle.region_calls.specs.Store.{regions_of}
+use Rattle.groups_run.proofs.region_calls.OwnNames.{server_named, locks_named, service_named, versions_named}
+use Rattle.groups_run.specs.region_calls.Store.{regions_of}
 use Rattle.run_model.specs.Closed.{flushes_in}
-use Rattle.script_run.specs.Rooms.{script_in}
+use Rattle.groups_run.specs.script_run.Rooms.{script_in}
 use Rattle.groups_run.specs.Found.{or_that}
 use Rattle.groups_command.proofs.carrying.carry_out_groups.Given as goal
 

@@ -2,7 +2,7 @@ use Rattle.std.proofs.Common.{◌≡◌, ℕ, refl, sym, ap, subst, ◌∙◌, a
 use Rattle.script_model.specs.Calls.{IsScript}
 use Rattle.script_run.specs.Rooms.{script_in}
 use Rattle.run_model.specs.Closed.{IsNameFor}
-use Rattle.region_calls.specs.Store.{disk_now, regions_of}
+use Rattle.log_groups.specs.region_calls.Store.{disk_now, regions_of}
 use Rattle.group_stores.specs.Lists.{AtEach}
 use Rattle.log_groups.specs.Passes.{named}
 use Rattle.log_groups.specs.Servers.{Servers}

@@ -3,7 +3,7 @@ use Rattle.log_groups.specs.Helpers.{held}
 use Rattle.log_groups.specs.Passes.{named}
 use Rattle.log_groups.specs.Servers.{Servers}
 use Rattle.server_model.specs.Pass.{Naming}
-use Rattle.group_servers.specs.Closing.{HasEnded}
+use Rattle.log_groups.specs.group_servers.Closing.{HasEnded}
 use Rattle.groups_run.specs.Ended.{passes_on}
 use Rattle.groups_run.specs.Handing.{known_on}
 use Rattle.groups_run.specs.Seating.{seats_of, times}

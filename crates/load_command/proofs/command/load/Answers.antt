@@ -8,7 +8,7 @@ use Rattle.command_base.specs.declared.status.Status.TheVariants.{NotEmpty, Disk
 use Rattle.run_model.specs.Headline.{MayKeep}
 use Rattle.command_base.proofs.Endings.{time_of, unchanged}
 use Rattle.load_command.specs.Statuses.{IsLoadEnd}
-use Rattle.recover_command.specs.Recovered.{IsStoreDamage}
+use Rattle.run_command.specs.recover_command.Recovered.{IsStoreDamage}
 use Rattle.load_command.proofs.Damages.{other_status, first_damage}
 use Rattle.load_command.proofs.Running.{rose_then, ends_before, looked_only, moments_before, closed_load, closed_not_empty, closed_leaves, refused_first, refusal_end, refusal_sink, refusal_first, refusal_complete}
 use Rattle.load_command.proofs.command.load.Goals as goal

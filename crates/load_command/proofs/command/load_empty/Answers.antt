@@ -1,5 +1,5 @@
 use Rattle.std.proofs.Common.{refl, sym, ap, ◌∙◌, subst, inl, inr}
-use Rattle.recover_command.specs.Recovered.{IsStoreDamage}
+use Rattle.run_command.specs.recover_command.Recovered.{IsStoreDamage}
 use Rattle.run_model.specs.Headline.{MayKeep}
 use Rattle.command_base.proofs.Endings.{each_on, no_moment}
 use Rattle.script_model.specs.Outputs.{refused_memory}

@@ -5,7 +5,7 @@ use Rattle.command_base.specs.Status.{refusal_line, IsComplete}
 use Rattle.command_base.specs.declared.status.Status.{Status}
 use Rattle.run_model.proofs.KeepsFound.{all_keep}
 use Rattle.load_command.specs.Ends.{HasEnded}
-use Rattle.recover_command.specs.Recovered.{IsStoreDamage}
+use Rattle.run_command.specs.recover_command.Recovered.{IsStoreDamage}
 use Rattle.load_command.proofs.Damages.{other_status, printed_damage}
 use Rattle.load_command.proofs.Kept.{stays_kept}
 use Rattle.load_command.proofs.Telling.{memory_ends, reading_closed, unfinished_ends, unfinished_refusal, unfinished_end, unfinished_fault, unfinished_complete, decided_told}

@@ -6,17 +6,17 @@ use Rattle.command_base.specs.Invocation.{invocation}
 use Rattle.command_base.specs.Status.{refusal_line, IsComplete, IsReadingEnd}
 use Rattle.command_base.specs.declared.status.Status.{Status}
 use Rattle.command_base.proofs.Readers.{lined}
-use Rattle.recover_command.proofs.Telling.{reads_refused, fault_refused}
-use Rattle.recover_command.specs.Refusals.{refused_as}
+use Rattle.run_command.proofs.recover_command.Telling.{reads_refused, fault_refused}
+use Rattle.run_command.specs.recover_command.Refusals.{refused_as}
 use Rattle.load_command.specs.Counted.{cells_of}
 use Rattle.load_command.specs.Ends.{EndsLoad}
-use Rattle.recover_command.specs.Recovered.{IsStoreDamage}
+use Rattle.run_command.specs.recover_command.Recovered.{IsStoreDamage}
 use Rattle.load_command.proofs.Damages.{other_status, print_damage, found_damage, refused_damage}
 use Rattle.load_command.proofs.Kept.{opened_keeps, opened_throughout}
 use Rattle.load_command.proofs.Telling.{done, printed_ends, refused_ends, print_complete, refused_complete, undamaged, stopped_at, broken_ends}
 use Rattle.load_command.proofs.Running.{rose_then}
 use Rattle.disk_images.proofs.Moments.{at_end}
-use Rattle.wal_split.specs.Moments.{WasOrAlike}
+use Rattle.run_command.specs.wal_split.Moments.{WasOrAlike}
 use Rattle.load_command.proofs.ending.recover_load.Goals as goal
 
 pub returns-in-Ok-clause-any_moment : goal.returns-in-Ok-clause-any_moment

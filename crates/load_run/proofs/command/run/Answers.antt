@@ -1,7 +1,7 @@
 use Rattle.disk_images.specs.Calls.{Rose}
 use Rattle.std.proofs.Common.{◌≡◌, map, rules, Some, None, inl, refl, IsTrue}
 use Rattle.disk_images.specs.Crash.{IsImageNow}
-use Rattle.wal_split.specs.Moments.{WasOrAlike}
+use Rattle.compact_command.specs.wal_split.Moments.{WasOrAlike}
 use Rattle.compact_command.specs.Compacted.{CompactMayLeave}
 use Rattle.run_model.specs.Headline.{MayKeep}
 use Rattle.script_model.specs.Outputs.{refused_memory}

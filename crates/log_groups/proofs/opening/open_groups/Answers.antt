@@ -1,5 +1,5 @@
 use Rattle.std.proofs.Common.{◌≡◌, sym, subst, ◌∙◌}
-use Rattle.region_calls.specs.declared.store.OpenedStore.{OpenedStore}
+use Rattle.group_servers.specs.region_calls.declared.store.OpenedStore.{OpenedStore}
 use Rattle.group_stores.specs.declared.lists.GroupList.{GroupList}
 use Rattle.group_stores.specs.declared.refusal.GroupsRefusal.{GroupsRefusal}
 use Rattle.group_stores.specs.Lists.{AtEach, OfBoth, at_group, count_of}

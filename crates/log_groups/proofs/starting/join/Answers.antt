@@ -1,4 +1,4 @@
-use Rattle.region_calls.specs.Deals.{passes_out}
+use Rattle.group_servers.specs.region_calls.Deals.{passes_out}
 use Rattle.log_groups.proofs.Starts.{even_new, none_new, passes_new, seats_new, servers_there, two_new}
 use Rattle.log_groups.proofs.starting.join.Goals as goal
 

@@ -4,7 +4,7 @@ use Rattle.crossbeam_queue.specs.Passes.{view}
 use Rattle.recovery_laws.specs.Alike.{AllAlike}
 use Rattle.disk_images.specs.Crash.{DiskView}
 use Rattle.log_model.specs.Files.{Files}
-use Rattle.log_device.specs.Opened.{IsOpened}
+use Rattle.log_service.specs.log_device.Opened.{IsOpened}
 use Rattle.region_replay.specs.Ready.{Found}
 use Rattle.region_replay.specs.Cleared.{IsReady}
 use Rattle.region_replay.specs.Opened.{AreOf, AtMostOneHigher}

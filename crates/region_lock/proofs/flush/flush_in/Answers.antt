@@ -2,7 +2,7 @@ use Rattle.std.specs.Option.{option_map}
 use Rattle.std.proofs.Common.{◌≡◌, ℕ, ◌≤◌, List, Option, None, Err, ap, sym, ◌∙◌, subst, arith}
 use mathlib.Core.List.{IsPrefix}
 use Rattle.hand_register.specs.Views.{HandView}
-use Rattle.log_device.specs.declared.error.DeviceFlush.{DeviceFlush}
+use Rattle.log_service.specs.log_device.declared.error.DeviceFlush.{DeviceFlush}
 use Rattle.log_service.specs.Numbers.{seen_stored}
 use Rattle.log_service.specs.Ends.{HasFlushed, HadNothing}
 use Rattle.region_model.specs.Calls.{FlushOk}

@@ -1,12 +1,12 @@
 use Rattle.std.proofs.Common.{◌≡◌, length, refl, sym, ◌∙◌, subst}
 use Rattle.log_model.specs.Files.{IsSound}
 use Rattle.script_model.specs.Calls.{Script}
-use Rattle.region_calls.specs.Names.{name_of}
-use Rattle.region_calls.specs.Seeds.{base_at, lasts_of}
-use Rattle.region_calls.specs.Store.{bases_of, disk_found, disk_now, handlers_of, regions_of}
-use Rattle.region_calls.proofs.OwnNames.{own_name}
+use Rattle.script_run.specs.region_calls.Names.{name_of}
+use Rattle.script_run.specs.region_calls.Seeds.{base_at, lasts_of}
+use Rattle.script_run.specs.region_calls.Store.{bases_of, disk_found, disk_now, handlers_of, regions_of}
+use Rattle.script_run.proofs.region_calls.OwnNames.{own_name}
 use Rattle.run_model.specs.Closed.{flushes_in}
-use Rattle.wal_split.specs.Moments.{During, WasOrAlike}
+use Rattle.recover_command.specs.wal_split.Moments.{During, WasOrAlike}
 use Rattle.run_model.specs.Headline.{KeepsFound, KeepsThroughout}
 use Rattle.command_base.proofs.Endings.{rose_from}
 use Rattle.script_run.specs.Rooms.{script_in}

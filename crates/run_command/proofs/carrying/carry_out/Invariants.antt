@@ -1,5 +1,5 @@
-use Rattle.region_calls.proofs.OwnNames.{server_named, locks_named, service_named, versions_named}
-use Rattle.region_calls.specs.Store.{regions_of}
+use Rattle.script_run.proofs.region_calls.OwnNames.{server_named, locks_named, service_named, versions_named}
+use Rattle.script_run.specs.region_calls.Store.{regions_of}
 use Rattle.run_model.specs.Closed.{flushes_in}
 use Rattle.script_run.specs.Rooms.{script_in}
 use Rattle.run_command.proofs.carrying.carry_out.Given as goal

@@ -3,7 +3,7 @@ use Rattle.region_model.specs.Calls.{Answer, Newest}
 use Rattle.script_calls.specs.Answers.{answer_of}
 use Rattle.server_model.specs.Steps.{Scans}
 use Rattle.server_model.proofs.GetLaws.{scans_nothing}
-use Rattle.region_calls.specs.Passes.{knows}
+use Rattle.handler_threads.specs.region_calls.Passes.{knows}
 use Rattle.script_handlers.proofs.GetLaws.{scan_rises, got_answer}
 use Rattle.script_handlers.proofs.getting.get_row.Goals as goal
 

@@ -1,7 +1,7 @@
 use Rattle.std.proofs.Common.{◌++◌, List, ◌∷◌, [], map, sym, ap, ◌∙◌, subst, arith, length-append}
 use Rattle.std.proofs.lemmas.List.{map-append}
 use Rattle.run_model.specs.Spent.{first_of}
-use Rattle.region_calls.specs.declared.pass.Pass.{Pass}
+use Rattle.script_handlers.specs.region_calls.declared.pass.Pass.{Pass}
 use Rattle.script_run.specs.Ran.{AllOfPlace, pass_of, lines_in, spent_in}
 use Rattle.script_run.specs.Ends.{first_of_all}
 use Rattle.script_handlers.specs.declared.handler.Handler.{Handler}

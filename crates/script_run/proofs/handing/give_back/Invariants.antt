@@ -1,7 +1,7 @@
 use Rattle.std.proofs.Common.{◌≡◌, map, length, vec_len, vec_capacity}
 use Rattle.std.specs.Vec.Iter.{into_iter_items}
-use Rattle.log_service.specs.Places.{ServiceId}
-use Rattle.region_calls.specs.Deals.{passes_out, passes_back, ArePassesOf}
+use Rattle.script_handlers.specs.log_service.Places.{ServiceId}
+use Rattle.script_handlers.specs.region_calls.Deals.{passes_out, passes_back, ArePassesOf}
 use Rattle.script_run.specs.Ran.{AllOfPlace, pass_of, lines_in, spent_in}
 use Rattle.script_run.specs.Ends.{first_of_all}
 use Rattle.script_run.proofs.handing.give_back.Given as goal

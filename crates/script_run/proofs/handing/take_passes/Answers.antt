@@ -1,8 +1,8 @@
 use Rattle.std.proofs.Common.{◌≡◌, ◌+◌, ◌++◌, [], ◌∷◌, List, length, None, sym, ◌∙◌, subst, refl, arith, length-append}
 use Rattle.server_model.specs.Pass.{IsFresh}
-use Rattle.region_calls.specs.Passes.{knows}
-use Rattle.region_calls.specs.Deals.{passes_out}
-use Rattle.region_calls.specs.declared.pass.Pass.{Pass}
+use Rattle.script_handlers.specs.region_calls.Passes.{knows}
+use Rattle.script_handlers.specs.region_calls.Deals.{passes_out}
+use Rattle.script_handlers.specs.region_calls.declared.pass.Pass.{Pass}
 use Rattle.script_run.specs.Ran.{AllOfPlace}
 use Rattle.script_run.specs.Rooms.{AreTaken}
 use Rattle.script_handlers.specs.declared.handler.Handler.{Handler}

@@ -1,6 +1,6 @@
 use Rattle.std.proofs.Common.{◌≡◌, length, vec_len, vec_capacity}
-use Rattle.log_service.specs.Places.{ServiceId}
-use Rattle.region_calls.specs.Deals.{passes_out, passes_back, ArePassesOf}
+use Rattle.script_handlers.specs.log_service.Places.{ServiceId}
+use Rattle.script_handlers.specs.region_calls.Deals.{passes_out, passes_back, ArePassesOf}
 use Rattle.script_run.specs.Ran.{AllOfPlace}
 use Rattle.script_run.specs.Rooms.{AreTaken}
 use Rattle.script_run.proofs.handing.take_passes.Given as goal

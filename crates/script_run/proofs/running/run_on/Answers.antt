@@ -1,9 +1,9 @@
 use denote.Param.Send.{sendable}
 use Rattle.std.proofs.Common.{List, ◌∷◌, slice_index_or, sym, ap, ◌∙◌, subst, arith}
 use Rattle.std.proofs.Crossing.{crosses}
-use Rattle.log_service.specs.declared.seats.LogSeat.{LogSeat}
-use Rattle.log_service.specs.Places.{IsSeatOf}
-use Rattle.handler_threads.proofs.Crossing.{handler_pass_send, server_sync}
+use Rattle.script_handlers.specs.log_service.declared.seats.LogSeat.{LogSeat}
+use Rattle.script_handlers.specs.log_service.Places.{IsSeatOf}
+use Rattle.script_handlers.proofs.handler_threads.Crossing.{handler_pass_send, server_sync}
 use Rattle.script_handlers.proofs.calling.Calling.TheSendSync as calling
 use Rattle.script_handlers.proofs.handler.Handler.TheSendSync as handler
 use Rattle.script_run.proofs.running.run_on.Goals as goal

@@ -4,10 +4,10 @@ use Rattle.log_model.specs.Files.{Files}
 use Rattle.run_model.specs.Headline.{KeepsFound, KeepsThroughout}
 use Rattle.server_model.specs.Pass.{Naming}
 use Rattle.server_model.specs.Closing.{Leaves}
-use Rattle.region_calls.specs.Closes.{HasElapsed}
-use Rattle.region_calls.specs.Seeds.{base_of}
-use Rattle.region_calls.specs.Store.{disk_now, disk_found, regions_of, bases_of}
-use Rattle.region_calls.specs.Deals.{passes_back}
+use Rattle.script_handlers.specs.region_calls.Closes.{HasElapsed}
+use Rattle.script_handlers.specs.region_calls.Seeds.{base_of}
+use Rattle.script_handlers.specs.region_calls.Store.{disk_now, disk_found, regions_of, bases_of}
+use Rattle.script_handlers.specs.region_calls.Deals.{passes_back}
 use Rattle.script_run.specs.Ran.{pass_of}
 use Rattle.script_run.proofs.AllRan.{all_ready, all_of, taken_length, closed_from, opened_keeps, left_of, bases_found}
 use Rattle.script_run.proofs.Elapsed.{opened_throughout, closed_throughout, closed_moments, left_moments}

@@ -1,8 +1,8 @@
 use Rattle.std.proofs.Common.{ℕ, ◌+◌, sym, subst, arith}
 use Rattle.std.specs.Option.{option_map}
 use Rattle.server_model.specs.Steps.{Flushes}
-use Rattle.region_calls.specs.Answers.{flush_answer}
-use Rattle.region_calls.specs.Passes.{knows}
+use Rattle.handler_threads.specs.region_calls.Answers.{flush_answer}
+use Rattle.handler_threads.specs.region_calls.Passes.{knows}
 use Rattle.embedded.proofs.Later.{set_after}
 use Rattle.embedded.proofs.talking.ServerSessionSession.flush.Goals as goal
 

@@ -1,9 +1,9 @@
 use Rattle.std.proofs.Common.{ℕ, List, sym, ◌∙◌, subst}
 use Rattle.region_model.specs.Calls.{Newest}
 use Rattle.server_model.specs.Steps.{Scans}
-use Rattle.region_calls.specs.Answers.{scan_answer}
+use Rattle.handler_threads.specs.region_calls.Answers.{scan_answer}
 use Rattle.embedded.proofs.Masking.{scan_rises, got_answer}
-use Rattle.region_calls.specs.Passes.{knows}
+use Rattle.handler_threads.specs.region_calls.Passes.{knows}
 use Rattle.embedded.proofs.Later.{set_after}
 use Rattle.embedded.proofs.talking.ServerSessionSession.get.Goals as goal
 

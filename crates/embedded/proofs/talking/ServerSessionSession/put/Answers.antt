@@ -1,7 +1,7 @@
 use Rattle.std.proofs.Common.{ℕ, ◌+◌, sym, subst}
 use Rattle.server_model.specs.Steps.{Puts}
-use Rattle.region_calls.specs.Answers.{is_sync, put_answer}
-use Rattle.region_calls.specs.Passes.{knows}
+use Rattle.handler_threads.specs.region_calls.Answers.{is_sync, put_answer}
+use Rattle.handler_threads.specs.region_calls.Passes.{knows}
 use Rattle.embedded.proofs.Later.{set_after}
 use Rattle.embedded.proofs.talking.ServerSessionSession.put.Goals as goal
 

@@ -1,5 +1,5 @@
 use Rattle.std.proofs.Common.{sym, ◌∙◌}
-use Rattle.region_calls.specs.Passes.{knows}
+use Rattle.handler_threads.specs.region_calls.Passes.{knows}
 use Rattle.embedded.proofs.Later.{set_after}
 use Rattle.embedded.proofs.talking.ServerSessionSession.read_point.Goals as goal
 

@@ -1,6 +1,6 @@
 use Rattle.std.proofs.Common.{◌≡◌, ℕ, sym, ap, ◌∙◌, subst}
 use Rattle.server_model.specs.Pass.{Pass as ThePass, IsFresh, IsLater}
-use Rattle.region_calls.specs.Passes.{knows, IsPassOf}
+use Rattle.embedded.specs.region_calls.Passes.{knows, IsPassOf}
 use Rattle.embedded.specs.Settings.{Setting}
 use Rattle.embedded.specs.Sessions.{knows_in}
 use Rattle.embedded_run.specs.Seats.{IsAt, known_in, pass_in}

@@ -3,7 +3,7 @@ use Rattle.std.proofs.Common.{refl, subst}
 use Rattle.group_stores.specs.declared.lists.GroupList.{GroupList}
 use Rattle.group_servers.specs.declared.shutting.ServerEnd.{ServerEnd}
 use Rattle.log_groups.specs.Servers.{Servers}
-use Rattle.region_calls.specs.Deals.{passes_back}
+use Rattle.group_servers.specs.region_calls.Deals.{passes_back}
 use Rattle.log_groups.specs.Closing.{IsJoined, regions_in}
 use Rattle.log_groups.proofs.groups.Groups.close.Goals as goal
 

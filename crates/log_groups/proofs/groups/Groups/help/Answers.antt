@@ -1,5 +1,5 @@
 use Rattle.std.proofs.Common.{sym, subst, arith}
-use Rattle.log_service.specs.Places.{IsSeatOf}
+use Rattle.group_servers.specs.log_service.Places.{IsSeatOf}
 use Rattle.group_servers.specs.Helping.{IsSeatAt}
 use Rattle.log_groups.specs.Servers.{Servers}
 use Rattle.log_groups.proofs.Seats.{seat_within}

@@ -1,5 +1,5 @@
 use Rattle.std.proofs.Common.{sym, ◌∙◌, subst}
-use Rattle.region_calls.specs.Passes.{knows, IsPassOf}
+use Rattle.group_servers.specs.region_calls.Passes.{knows, IsPassOf}
 use Rattle.group_servers.specs.Passes.{IsPassAt}
 use Rattle.log_groups.specs.Servers.{Servers}
 use Rattle.log_groups.proofs.Handlers.{first_keeps, other_keeps}

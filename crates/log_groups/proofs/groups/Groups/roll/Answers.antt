@@ -1,6 +1,6 @@
 use Rattle.std.proofs.Common.{sym, ap, ◌∙◌, subst}
 use Rattle.groups_model.specs.Groups.{group_of}
-use Rattle.region_calls.specs.Passes.{knows, IsPassOf}
+use Rattle.group_servers.specs.region_calls.Passes.{knows, IsPassOf}
 use Rattle.group_servers.specs.Passes.{IsPassAt}
 use Rattle.log_groups.specs.Servers.{Servers}
 use Rattle.log_groups.proofs.Handlers.{first_keeps, other_keeps}

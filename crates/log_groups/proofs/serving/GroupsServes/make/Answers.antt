@@ -1,6 +1,6 @@
 use Rattle.std.proofs.Common.{ℕ, ◌++◌, ◌∷◌, [], List, Contains, option_map, refl, sym, ap, ap₂, ◌∙◌, subst}
 use Rattle.region_model.specs.Calls.{Put, Scan, Raw, Newest, Flush, Roll}
-use Rattle.region_calls.specs.Answers.{put_answer, scan_answer, flush_answer, roll_answer}
+use Rattle.group_servers.specs.region_calls.Answers.{put_answer, scan_answer, flush_answer, roll_answer}
 use Rattle.script_calls.specs.Answers.{answer_of}
 use Rattle.script_calls.specs.Calls.{call_of, is_sync}
 use Rattle.groups_model.specs.Groups.{group_of}
