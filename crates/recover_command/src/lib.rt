@@ -6,7 +6,7 @@ mod command;
 mod laws;
 mod text;
 
-pub use region_replay;
-pub use found_files;
 pub use command::recover;
+pub use found_files;
 pub use laws::damage_is_told_once;
+pub use region_replay;

@@ -20,9 +20,9 @@ mod replaying;
 mod storing;
 mod whole;
 
-pub use found_files;
 pub use alone::{all_cells, next_store};
 pub use found::{Recovered, Replayed};
+pub use found_files;
 pub use laws::one_sort_gives_the_base;
 pub use one_region::replay;
 pub use recovering::recover_all;
