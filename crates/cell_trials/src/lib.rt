@@ -1,5 +1,5 @@
-//! Trials of cells, of entries and their frames, of segments, of what deletes mask, and of chains of trucks: bytes worked by
-//! hand, files cut anywhere, and sizes that no proof bounds. A library of tests alone, on which nothing stands.
+//! Trials of what rows can't show of cells, of logs in pieces and of chains of trucks: offsets of faults, cuts at each
+//! byte, and sizes that no proof bounds. A library of tests alone, on which nothing stands.
 #![tactic(auto)]
 
 #[cfg(test)]
@@ -8,13 +8,3 @@ mod cells;
 mod chains;
 #[cfg(test)]
 mod frames;
-#[cfg(test)]
-mod masks;
-#[cfg(test)]
-mod pages;
-#[cfg(test)]
-mod puts;
-#[cfg(test)]
-mod segments;
-#[cfg(test)]
-mod sharing;

@@ -1,23 +1,18 @@
-//! A disk that holds one file, and tells nothing of it, so that its callers owe no proof of what it holds.
+//! A disk that holds one file to be read, and tells nothing of it, so that its callers owe no proof of what it holds.
 
-ghost use Rattle.std.specs.Prelude.{◌≤◌, ◌<◌, ◌+◌, ◌^◌, false, length, IsErr, OnOk};
+ghost use Rattle.std.specs.Prelude.{◌≤◌, false};
 ghost use Rattle.disk_images.specs.Calls.{Rose};
 
 use disk_images::{Disk, Failed, Name, NameList, NamesError};
 use std::alloc::Global;
 
-/// One file, and the size that it tells where that isn't its length; how many calls there were, how many of them read, wrote
-/// and synced, and how many go well before one fails.
+/// One file, the size that it tells where that isn't its length, and how many calls looked at it. Other calls fail.
 #[derive(Drop)]
 pub(crate) struct OneFile {
-    pub(crate) bytes: Vec<u8>,
+    bytes: Vec<u8>,
     pub(crate) size: Option<u64>,
     pub(crate) calls: u64,
-    pub(crate) reads: u64,
-    pub(crate) writes: u64,
-    pub(crate) syncs: u64,
-    pub(crate) good: u64,
-    pub(crate) faults: u64,
+    faults: u64,
 }
 
 impl OneFile {
@@ -26,24 +21,8 @@ impl OneFile {
             bytes,
             size: None,
             calls: 0,
-            reads: 0,
-            writes: 0,
-            syncs: 0,
-            good: 100,
             faults: 0,
         }
-    }
-
-    /// Counts a call, and fails it in its turn.
-    fn turn(&mut self) -> Result<(), Failed>
-        ensures rose { IsErr result → Rose self.old.faults self.new.faults }
-        ensures later { self.old.faults ≤ self.new.faults }
-    {
-        self.calls = self.calls.saturating_add(1);
-        if self.calls > self.good {
-            return Err(self.fail());
-        }
-        Ok(())
     }
 
     fn fail(&mut self) -> Failed
@@ -52,23 +31,6 @@ impl OneFile {
     {
         self.faults = self.faults.saturating_add(1);
         Failed
-    }
-
-    fn overwrite(&mut self, at: u64, bytes: &[u8]) -> Result<(), Failed>
-        ensures fits { OnOk result (at + length bytes.now < 2 ^ 63) }
-        ensures rose { IsErr result → Rose self.old.faults self.new.faults }
-        ensures later { self.old.faults ≤ self.new.faults }
-    {
-        if at > 1_000_000 || bytes.len() > 1_000_000 {
-            return Err(self.fail());
-        }
-        let at = at as usize;
-        let end = at + bytes.len();
-        if self.bytes.len() < end && self.bytes.resize(end, 0).is_err() {
-            return Err(self.fail());
-        }
-        self.bytes[at..end].copy_from_slice(bytes);
-        Ok(())
     }
 }
 
@@ -88,13 +50,12 @@ impl Disk for OneFile {
     }
 
     fn size(&mut self, _name: Name) -> Result<Option<u64>, Failed> {
-        self.turn()?;
+        self.calls = self.calls.saturating_add(1);
         Ok(Some(self.size.unwrap_or(self.bytes.len() as u64)))
     }
 
     fn read(&mut self, _name: Name, at: u64, into: &mut [u8]) -> Result<usize, Failed> {
-        self.turn()?;
-        self.reads = self.reads.saturating_add(1);
+        self.calls = self.calls.saturating_add(1);
         let at = (at as usize).min(self.bytes.len());
         let n = into.len().min(self.bytes.len() - at);
         into[..n].copy_from_slice(&self.bytes[at..at + n]);
@@ -102,30 +63,26 @@ impl Disk for OneFile {
     }
 
     fn create(&mut self, _name: Name) -> Result<(), Failed> {
-        self.turn()
+        Err(self.fail())
     }
 
-    fn write_at(&mut self, _name: Name, at: u64, bytes: &[u8]) -> Result<(), Failed> {
-        self.turn()?;
-        self.writes = self.writes.saturating_add(1);
-        self.overwrite(at, bytes)
+    fn write_at(&mut self, _name: Name, _at: u64, _bytes: &[u8]) -> Result<(), Failed> {
+        Err(self.fail())
     }
 
     fn sync(&mut self, _name: Name) -> Result<(), Failed> {
-        self.turn()?;
-        self.syncs = self.syncs.saturating_add(1);
-        Ok(())
+        Err(self.fail())
     }
 
     fn rename(&mut self, _from: Name, _to: Name) -> Result<(), Failed> {
-        self.turn()
+        Err(self.fail())
     }
 
     fn remove(&mut self, _name: Name) -> Result<(), Failed> {
-        self.turn()
+        Err(self.fail())
     }
 
     fn settle(&mut self) -> Result<(), Failed> {
-        self.turn()
+        Err(self.fail())
     }
 }

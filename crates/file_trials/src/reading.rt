@@ -4,9 +4,9 @@ use crate::one_file::OneFile;
 use disk_images::{Name, NameKind};
 use std::alloc::{AllocError, Global};
 use std::test::*;
-use store_file::{ReadRefusal, StoreText, read_store};
+use store_file::{ReadRefusal, read_store};
 
-pub(crate) const STORE_1: Name = Name {
+const STORE_1: Name = Name {
     kind: NameKind::Store,
     region: 1,
     number: 1,
@@ -14,7 +14,7 @@ pub(crate) const STORE_1: Name = Name {
 
 /// The store of region 1 and family `f` with the sequence ids 1 to 2, and two puts of column `f:q` at timestamp 1: row `a`,
 /// value `v`, tags `ab` with sequence id 2 from offset 36 on, and row `b`, value `w` with sequence id 1 from 72 on.
-pub(crate) const TWO_CELLS: [u8; 106] = [
+const TWO_CELLS: [u8; 106] = [
     0xA5, b'H', b'W', b'S', b'2', 0, 0, 0, 1, 0, 1, b'f', 0, 0, 0, 0, 0, 0, 0, 1, 0, 0, 0, 0, 0, 0,
     0, 2, 0, 0, 0, 0, 0, 0, 0, 2, 0, 0, 0, 0, 0, 0, 0, 2, 0, 0, 0, 0x0F, 0, 0, 0, 1, 0, 1, b'a', 1,
     b'f', b'q', 0, 0, 0, 0, 0, 0, 0, 1, 4, b'v', 0, 2, b'a', b'b', 0, 0, 0, 0, 0, 0, 0, 1, 0, 0, 0,
@@ -29,77 +29,44 @@ const FORMER: [u8; 97] = [
     1, b'f', b'q', 0, 0, 0, 0, 0, 0, 0, 1, 4, b'w',
 ];
 
-/// These bytes, read as that store.
-fn read(alloc: Global, bytes: &[u8]) -> Result<Option<StoreText>, ReadRefusal> {
-    let copy = Vec::from_slice(alloc, bytes).map_err(|_| ReadRefusal::Memory)?;
-    read_store(alloc, &mut OneFile::of(copy), STORE_1)
-}
+/// The scope of a store, the first and the last sequence id that it covers, and how many cells it has.
+type Numbers = (u8, u64, u64, usize);
 
-/// Where these bytes are damaged.
-fn damage(alloc: Global, bytes: &[u8]) -> Option<u64> {
-    match read(alloc, bytes) {
-        Err(ReadRefusal::Damaged { at }) => Some(at),
-        _ => None,
+/// What is read of this disk: a store's numbers, or None where none is there.
+fn read(alloc: Global, disk: &mut OneFile) -> Result<Option<Numbers>, ReadRefusal> {
+    match read_store(alloc, disk, STORE_1) {
+        Ok(Some(text)) => Ok(Some((text.scope, text.from, text.to, text.cells.len()))),
+        Ok(None) => Ok(None),
+        Err(refusal) => Err(refusal),
     }
 }
 
-/// A store's scope, its family, the numbers of its fields, and of its cells the sequence ids, rows, values and tags.
-pub(crate) fn shown(alloc: Global, text: &StoreText) -> Result<Vec<u8>, AllocError> {
-    let mut all = Vec::new(alloc);
-    all.push(text.scope)?;
-    all.extend_from_slice(text.family.as_slice())?;
-    all.extend_from_slice(&text.from.to_be_bytes())?;
-    all.extend_from_slice(&text.to.to_be_bytes())?;
-    for (number, cell) in text.cells.as_slice() {
-        all.extend_from_slice(&number.to_be_bytes())?;
-        all.extend_from_slice(cell.row.as_slice())?;
-        all.extend_from_slice(cell.value.as_slice())?;
-        all.extend_from_slice(cell.tags.as_slice())?;
-    }
-    Ok(all)
-}
-
-/// At most so many bytes of a file, with some of them changed.
-fn changed(
+/// A disk with so many bytes of a file, with zeros behind it, and with others at some places.
+fn disk_of(
     alloc: Global,
     file: &[u8],
     changes: &[(usize, u8)],
     len: usize,
-) -> Result<Vec<u8>, AllocError> {
-    let mut bytes = Vec::from_slice(alloc, &file[..len.min(file.len())])?;
+) -> Result<OneFile, AllocError> {
+    let mut bytes = vec![in alloc; 0; len]?;
+    for (at, byte) in file.iter().enumerate() {
+        if at < bytes.len() {
+            bytes[at] = *byte;
+        }
+    }
     for (at, byte) in changes {
         if *at < bytes.len() {
             bytes[*at] = *byte;
         }
     }
-    Ok(bytes)
+    Ok(OneFile::of(bytes))
 }
 
-const WHOLE: [(&[u8], &[u8]); 2] = [
-    (
-        &TWO_CELLS,
-        b"\0f\0\0\0\0\0\0\0\x01\0\0\0\0\0\0\0\x02\0\0\0\0\0\0\0\x02avab\0\0\0\0\0\0\0\x01bw",
-    ),
-    (
-        &FORMER,
-        b"\0\0\0\0\0\0\0\0\x01\0\0\0\0\0\0\0\x02\0\0\0\0\0\0\0\x02av\0\0\0\0\0\0\0\x01bw",
-    ),
-];
-
-#[test]
-fn two_cells_are_read(rt: HostRuntime) -> Result<(), Fail> {
-    let alloc = rt.alloc();
-    for (file, want) in WHOLE {
-        let text = read(alloc, file)?.ok_or("there")?;
-        assert_eq!(rt; text.cells.len(), 2);
-        assert_eq!(rt; shown(alloc, &text)?.as_slice(), want);
-    }
-    Ok(())
-}
-
-/// A file, what is changed and how many bytes are read, and which numbers and how many cells they are then, or None where
-/// no store is there.
-const FRONTS: &[(&[u8], &[(usize, u8)], usize, Option<(u64, u64, usize)>)] = &[
+/// A file, what is changed and how many bytes are read, and what its numbers are then, or None where no store is there.
+const READ: &[(&[u8], &[(usize, u8)], usize, Option<Numbers>)] = &[
+    // No change.
+    (&TWO_CELLS, &[], 106, Some((0, 1, 2, 2))),
+    (&FORMER, &[], 97, Some((0, 1, 2, 2))),
     // No byte, an open gate alone, a closed gate, and another byte for the gate.
     (&TWO_CELLS, &[], 0, None),
     (&TWO_CELLS, &[], 1, None),
@@ -107,23 +74,18 @@ const FRONTS: &[(&[u8], &[(usize, u8)], usize, Option<(u64, u64, usize)>)] = &[
     (&TWO_CELLS, &[(0, 0xA4), (1, 0)], 2, None),
     (&FORMER, &[(0, 0)], 97, None),
     // No cell.
-    (&TWO_CELLS, &[(35, 0)], 36, Some((1, 2, 0))),
-    (&FORMER, &[(32, 0)], 33, Some((1, 2, 0))),
+    (&TWO_CELLS, &[(35, 0)], 36, Some((0, 1, 2, 0))),
+    (&FORMER, &[(32, 0)], 33, Some((0, 1, 2, 0))),
     // Two versions of one key, the one with the higher sequence id first.
-    (&TWO_CELLS, &[(90, b'a')], 106, Some((1, 2, 2))),
-    (&FORMER, &[(83, b'a')], 97, Some((1, 2, 2))),
+    (&TWO_CELLS, &[(90, b'a')], 106, Some((0, 1, 2, 2))),
+    (&FORMER, &[(83, b'a')], 97, Some((0, 1, 2, 2))),
 ];
 
 #[test]
 fn stores_are_read_or_are_not_there(rt: HostRuntime) -> Result<(), Fail> {
-    let alloc = rt.alloc();
-    for (file, changes, len, want) in FRONTS {
-        let bytes = changed(alloc, file, changes, *len)?;
-        let found = match read(alloc, &bytes)? {
-            Some(text) => Some((text.from, text.to, text.cells.len())),
-            None => None,
-        };
-        assert_eq!(rt; found, *want, "{changes:?}");
+    for (file, changes, len, want) in READ {
+        let mut disk = disk_of(rt.alloc(), file, changes, *len)?;
+        assert!(rt; read(rt.alloc(), &mut disk) == Ok(*want), "{len}");
     }
     Ok(())
 }
@@ -219,6 +181,9 @@ const DAMAGED: &[(&[u8], &[(usize, u8)], usize, u64)] = &[
     // Where the last sequence id isn't whole the first can't be above it.
     (&FORMER, &[(9, 1)], 24, 17),
     (&TWO_CELLS, &[(12, 1)], 27, 20),
+    // A byte behind the last pair.
+    (&FORMER, &[], 98, 97),
+    (&TWO_CELLS, &[], 107, 106),
     // Cut in a pair.
     (&FORMER, &[], 33, 33),
     (&FORMER, &[], 40, 33),
@@ -236,21 +201,22 @@ const DAMAGED: &[(&[u8], &[(usize, u8)], usize, u64)] = &[
 
 #[test]
 fn damage_is_told_at_its_first_place(rt: HostRuntime) -> Result<(), Fail> {
-    let alloc = rt.alloc();
     for (file, changes, len, at) in DAMAGED {
-        let bytes = changed(alloc, file, changes, *len)?;
-        assert_eq!(rt; damage(alloc, &bytes), Some(*at), "{changes:?} {len}");
+        let mut disk = disk_of(rt.alloc(), file, changes, *len)?;
+        let damage = Err(ReadRefusal::Damaged { at: *at });
+        assert!(rt; read(rt.alloc(), &mut disk) == damage, "{len} {at}");
     }
     Ok(())
 }
 
 #[test]
-fn byte_behind_is_damage(rt: HostRuntime) -> Result<(), Fail> {
-    let alloc = rt.alloc();
-    for (file, _) in WHOLE {
-        let mut bytes = Vec::from_slice(alloc, file)?;
-        bytes.push(0)?;
-        assert_eq!(rt; damage(alloc, &bytes), Some(file.len() as u64));
-    }
+fn file_of_another_size_than_is_told(rt: HostRuntime) -> Result<(), Fail> {
+    // It can't be held, and is refused unread; it got shorter, and is read as it is.
+    let mut disk = disk_of(rt.alloc(), &TWO_CELLS, &[], 106)?;
+    disk.size = Some(0x8000_0000_0000_0000);
+    assert!(rt; read(rt.alloc(), &mut disk) == Err(ReadRefusal::Memory));
+    assert_eq!(rt; disk.calls, 1);
+    disk.size = Some(1000);
+    assert!(rt; read(rt.alloc(), &mut disk) == Ok(Some((0, 1, 2, 2))));
     Ok(())
 }

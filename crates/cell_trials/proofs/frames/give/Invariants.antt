@@ -1,5 +1,5 @@
 use Rattle.std.proofs.Common.{◌≡◌, ◌+◌, length}
-use Rattle.cell_trials.proofs.frames.take_all.Given as goal
+use Rattle.cell_trials.proofs.frames.give.Given as goal
 
 abbrev pub invariant-loop-entry : goal.invariant-loop-entry
 invariant-loop-entry l = l.feed.at + length l.feed.unread ≡ l.initial.feed.at + length l.initial.feed.unread
