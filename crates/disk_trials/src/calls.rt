@@ -37,7 +37,7 @@ fn names(disk: &mut MemDisk, alloc: Global) -> Result<(), Failed>
 }
 
 /// Makes a file where there is none of its name.
-fn create(disk: &mut MemDisk, name: Name) -> Result<(), Failed>
+pub fn create(disk: &mut MemDisk, name: Name) -> Result<(), Failed>
     requires named { IsName name }
     requires none_gone { (m : _) → ¬ (view_of disk.old).gone m }
     ensures { (m : _) → ¬ (view_of disk.new).gone m }
@@ -62,7 +62,7 @@ fn read(disk: &mut MemDisk, name: Name) -> Result<(), Failed>
 }
 
 /// Writes within a file that is there, or at its end.
-fn write(disk: &mut MemDisk, name: Name, at: u64, bytes: &[u8]) -> Result<(), Failed>
+pub fn write(disk: &mut MemDisk, name: Name, at: u64, bytes: &[u8]) -> Result<(), Failed>
     requires { 0 < length bytes.now }
     ensures { (m : _) → ¬ (view_of disk.old).gone m → ¬ (view_of disk.new).gone m }
 {

@@ -2,8 +2,8 @@
 
 use crate::calls::{A, B, C, make_calls};
 use disk_fakes::{CallKind, Fail, MemDisk};
+use disk_images::Name;
 use std::alloc::Global;
-use std::process::Abort;
 use std::test::Fail as TestFail;
 
 // What a crash at each moment may leave, as folders parted by |. A folder has the files that are there, each with its
@@ -116,22 +116,31 @@ fn reads_as(disk: &MemDisk, folders: &str) -> bool {
     false
 }
 
-/// Asserts that a crash at each moment so far leaves one of its folders.
-fn assert_images<R: Abort>(rt: &R, alloc: Global, disk: &MemDisk) -> Result<(), TestFail> {
+/// Whether a crash at this moment, by this choice, leaves one of the folders.
+fn is_image(disk: &MemDisk, alloc: Global, moment: u64, choice: u64, folders: &str) -> bool {
+    if moment > disk.clock() {
+        return false;
+    }
+    match disk.crash(alloc, moment, choice) {
+        Ok(image) => reads_as(&image, folders),
+        Err(_) => false,
+    }
+}
+
+/// Whether a crash at each moment so far leaves one of its folders.
+fn leaves_images(disk: &MemDisk, alloc: Global) -> bool {
+    let mut all = true;
     for (moment, folders) in IMAGES.into_iter().enumerate() {
         let moment = moment as u64;
-        if moment > disk.clock() {
-            break;
-        }
-        for choice in 0..4 {
-            let image = disk.crash(alloc, moment, choice)?;
-            assert!(rt;
-                reads_as(&image, folders),
-                "moment {moment} choice {choice}"
-            );
+        if moment <= disk.clock() {
+            all = all
+                && is_image(disk, alloc, moment, 0, folders)
+                && is_image(disk, alloc, moment, 1, folders)
+                && is_image(disk, alloc, moment, 2, folders)
+                && is_image(disk, alloc, moment, 3, folders);
         }
     }
-    Ok(())
+    all
 }
 
 /// How many calls were made.
@@ -143,26 +152,92 @@ fn all_calls(disk: &MemDisk) -> u64 {
     sum
 }
 
+/// Whether so many calls and moments were made, one of the folders is read, and a crash leaves what it may.
+fn is_left(disk: &MemDisk, alloc: Global, calls: u64, clock: u64, folders: &str) -> bool {
+    all_calls(disk) == calls
+        && disk.clock() == clock
+        && reads_as(disk, folders)
+        && leaves_images(disk, alloc)
+}
+
 #[test]
 fn each_call_fails_in_turn(rt: HostRuntime) -> Result<(), TestFail> {
     for (place, call, nth, clock, folders) in CALLS {
         let mut disk = MemDisk::new(rt.alloc(), &[Fail { call, nth }])?;
         assert!(rt; make_calls(&mut disk, rt.alloc()).is_err());
-        assert_eq!(rt; disk.calls(call), nth);
-        assert_eq!(rt; all_calls(&disk), place);
-        assert!(rt; reads_as(&disk, folders), "{call:?} {nth} reads");
-        assert_eq!(rt; disk.clock(), clock);
-        assert_images(&rt, rt.alloc(), &disk)?;
+        assert!(rt; disk.calls(call) == nth, "{place}");
+        assert!(rt;
+            is_left(&disk, rt.alloc(), place, clock, folders),
+            "{place}"
+        );
     }
     Ok(())
+}
+
+// What a crash leaves by one choice: 0 all that was done, 1 nothing that may be lost, 2 each write torn, of which every second
+// byte has each bit turned over: 0x9D is the letter b so, 0x9B the letter d.
+const EXACT: [(u64, u64, Name, Option<&[u8]>); 17] = [
+    (0, 0, A, None),
+    (1, 0, A, Some(b"")),
+    (1, 1, A, None),
+    (1, 2, A, Some(b"")),
+    (2, 0, A, Some(b"abcd")),
+    (2, 1, A, None),
+    (2, 2, A, Some(b"a\x9Dc\x9B")),
+    (3, 0, A, Some(b"abcd")),
+    (3, 1, A, Some(b"abcd")),
+    (3, 2, A, Some(b"abcd")),
+    // A file that was renamed has either name until that is settled, and one that was removed is there.
+    (9, 0, C, Some(b"abWXYZ")),
+    (9, 1, A, Some(b"abWXYZ")),
+    (9, 1, C, None),
+    (12, 0, B, None),
+    (12, 1, B, Some(b"12")),
+    (13, 1, A, None),
+    (13, 1, B, None),
+];
+
+/// Whether a crash at this moment, by this choice, leaves these bytes of the file.
+fn leaves(
+    disk: &MemDisk,
+    alloc: Global,
+    moment: u64,
+    choice: u64,
+    name: Name,
+    bytes: Option<&[u8]>,
+) -> bool {
+    if moment > disk.clock() {
+        return false;
+    }
+    match disk.crash(alloc, moment, choice) {
+        Ok(image) => image.bytes(name) == bytes,
+        Err(_) => false,
+    }
+}
+
+/// Whether a crash behind the first write leaves a part of it by one of the other choices.
+fn is_cut_short(disk: &MemDisk, alloc: Global) -> bool {
+    let mut is_cut = false;
+    for choice in 3..40 {
+        is_cut = is_cut
+            || leaves(disk, alloc, 2, choice, A, Some(b"a"))
+            || leaves(disk, alloc, 2, choice, A, Some(b"ab"))
+            || leaves(disk, alloc, 2, choice, A, Some(b"abc"));
+    }
+    is_cut
 }
 
 #[test]
 fn no_call_fails(rt: HostRuntime) -> Result<(), TestFail> {
     let mut disk = MemDisk::new(rt.alloc(), &[])?;
     make_calls(&mut disk, rt.alloc())?;
-    assert_eq!(rt; all_calls(&disk), 26);
-    assert_eq!(rt; disk.clock(), 20);
-    assert!(rt; reads_as(&disk, ""));
-    assert_images(&rt, rt.alloc(), &disk)
+    assert!(rt; is_left(&disk, rt.alloc(), 26, 20, ""));
+    for (moment, choice, name, bytes) in EXACT {
+        assert!(rt;
+            leaves(&disk, rt.alloc(), moment, choice, name, bytes),
+            "moment {moment} choice {choice}"
+        );
+    }
+    assert!(rt; is_cut_short(&disk, rt.alloc()));
+    Ok(())
 }

@@ -1,4 +1,4 @@
-//! Edits of one region, and what its versions show of them.
+//! Many edits of one region, each shown by a version.
 
 ghost use Rattle.std.specs.Prelude.{◌≡◌, [], ◌+◌, ◌<◌, ◌≤◌, ◌^◌, IfOk, OnOk};
 ghost use Rattle.region_state.specs.States.{write_point};
@@ -48,41 +48,6 @@ fn put(
     let caller = Caller { handler: 1, call };
     let entry = state.begin_edit(caller, 1000, batch, draft);
     Ok(state.end_edit(entry, ended))
-}
-
-/// The numbers of the cells that the next version shows.
-fn shown_numbers(alloc: Global, state: &mut RegionState) -> Result<Vec<u64>, Fail>
-    ensures { state.new.lines ≡ state.old.lines }
-{
-    let version = state.next_version(alloc)?;
-    let mut numbers = Vec::new(alloc);
-    let mut walk = version.scan(alloc, b"", b"")?;
-    while let Some((number, _)) = walk.next() {
-        numbers.push(number)?;
-    }
-    Ok(numbers)
-}
-
-/// A value that threads may share.
-fn share<T: Send + Sync>(_value: &T) {}
-
-#[test]
-fn failed_edit_is_not_shown(rt: HostRuntime) -> Result<(), Fail> {
-    let alloc = rt.alloc();
-    let mut state = empty_region(alloc)?;
-    assert_eq!(rt; put(alloc, &mut state, 1, b"row", Ended::Done)?, 1);
-    assert_eq!(rt; put(alloc, &mut state, 2, b"row", Ended::Failed)?, 2);
-    assert_eq!(rt; put(alloc, &mut state, 3, b"row", Ended::Done)?, 3);
-    assert_eq!(rt;
-        shown_numbers(alloc, &mut state)?.as_slice(),
-        [3, 1].as_slice()
-    );
-    assert_eq!(rt; state.journal().len(), 3);
-    let version = state.next_version(alloc)?;
-    assert_eq!(rt; version.point(), 3);
-    share(&version);
-    share(&state);
-    Ok(())
 }
 
 const EDITS: u32 = 20_000;

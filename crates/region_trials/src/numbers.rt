@@ -10,32 +10,6 @@ use std::process::Abort;
 use std::test::Fail;
 use write_queue::{WriteEntry, WriteQueue};
 
-#[test]
-fn completions_in_any_order(rt: HostRuntime) -> Result<(), Fail> {
-    let mut queue = WriteQueue::new(rt.alloc(), 0)?;
-    queue.reserve(3)?;
-    let first = queue.begin();
-    let second = queue.begin();
-    let third = queue.begin();
-    assert_eq!(rt; queue.complete(third), 0);
-    assert_eq!(rt; queue.complete(first), 1);
-    assert_eq!(rt; queue.complete(second), 3);
-    assert_eq!(rt; queue.write_point(), 3);
-    Ok(())
-}
-
-#[test]
-fn numbers_go_on_behind_an_advance(rt: HostRuntime) -> Result<(), Fail> {
-    let mut queue = WriteQueue::new(rt.alloc(), 7)?;
-    queue.reserve(1)?;
-    queue.advance_to(20);
-    let entry = queue.begin();
-    assert_eq!(rt; entry.number(), 21);
-    assert_eq!(rt; queue.read_point(), 20);
-    assert_eq!(rt; queue.complete(entry), 21);
-    Ok(())
-}
-
 const COUNT: usize = 200;
 
 // the load generator's next number

@@ -1,11 +1,10 @@
 //! The berth: two seats that take turns, and a fault that ends the raises.
 
-ghost use Rattle.std.specs.Prelude.{◌≡◌, ◌≤◌, false, [], length, IfOk};
+ghost use Rattle.std.specs.Prelude.{◌≡◌, ◌≤◌, false, [], length};
 ghost use Rattle.log_berth.specs.Standing.{AreBack};
 
 use crate::counters::{Counter, count_up, fail};
-use log_berth::{Berth, BerthParts, BerthRefusal, Berthed, LogSeat, LogSeats};
-use std::alloc::Global;
+use log_berth::{Berth, BerthParts, Berthed, LogSeat, LogSeats};
 use std::test::*;
 use std::thread;
 
@@ -43,39 +42,6 @@ fn closed(
     berth.close(seats)
 }
 
-fn opened(alloc: Global) -> Result<(Berth<Counter>, LogSeats), BerthRefusal<Counter>>
-    ensures berth { IfOk result (λ parts. (parts.0.regions ≡ 2) × (parts.0.seats ≡ 2)) }
-    ensures seats { IfOk result (λ parts. AreBack parts.0.id parts.1.seats × (length parts.1.seats ≡ 2) × (2 ≤ parts.1.room)) }
-{
-    let ware = Counter {
-        first: 7,
-        second: 3,
-        failed: false,
-    };
-    match Berth::new(alloc, ware, 2, 2) {
-        Ok(BerthParts { berth, seats }) => Ok((berth, seats)),
-        Err(refusal) => Err(refusal),
-    }
-}
-
-#[test]
-fn fault_ends_the_raises(rt: HostRuntime) -> Result<(), Fail> {
-    let (berth, seats) = opened(rt.alloc()).ok().ok_or("ample memory")?;
-    let (seats, mut first, mut second) = handed_out(&berth, seats);
-    assert_eq!(rt; berth.seen(&mut first, 1), 7);
-    assert_eq!(rt; berth.seen(&mut first, 2), 3);
-    assert!(rt; count_up(&berth, &mut first));
-    assert_eq!(rt; berth.seen(&mut second, 1), 8);
-    assert!(rt; !berth.broken(&mut second));
-    assert!(rt; fail(&berth, &mut second));
-    assert!(rt; berth.broken(&mut first));
-    assert!(rt; !count_up(&berth, &mut first));
-    let berthed = closed(berth, seats, first, second);
-    assert_eq!(rt; berthed.synced.as_slice(), [8, 3].as_slice());
-    assert!(rt; berthed.broken && berthed.ware.first == 8);
-    Ok(())
-}
-
 // Tries for the turn a hundred times. Gives how often it counted up, and whether what was seen ever fell.
 fn take_turns(berth: &Berth<Counter>, mut seat: LogSeat) -> (LogSeat, u64, bool)
     requires { (seat.berth ≡ berth.now.id) × (berth.now.regions ≡ 2) × (seat.knows.turn ≡ false) }
@@ -100,19 +66,32 @@ fn take_turns(berth: &Berth<Counter>, mut seat: LogSeat) -> (LogSeat, u64, bool)
 }
 
 #[test]
-fn two_seats_take_turns(rt: HostRuntime) -> Result<(), Fail> {
-    let (berth, seats) = opened(rt.alloc()).ok().ok_or("ample memory")?;
-    let (seats, first, second) = handed_out(&berth, seats);
-    let ((first, here, fell), (second, there, fell_too)) = thread::join(
+fn two_seats_take_turns_until_a_fault(rt: HostRuntime) -> Result<(), Fail> {
+    let ware = Counter {
+        first: 7,
+        second: 3,
+        failed: false,
+    };
+    let Ok(BerthParts { berth, seats }) = Berth::new(rt.alloc(), ware, 2, 2) else {
+        return Err("ample memory")?;
+    };
+    let (seats, mut first, second) = handed_out(&berth, seats);
+    assert_eq!(rt; berth.seen(&mut first, 1), 7);
+    assert_eq!(rt; berth.seen(&mut first, 2), 3);
+    let ((mut first, here, fell), (mut second, there, fell_too)) = thread::join(
         &rt,
         || take_turns(&berth, first),
         || take_turns(&berth, second),
     );
     assert!(rt; !fell && !fell_too);
-    let berthed = closed(berth, seats, first, second);
     let raised = 7u64.saturating_add(here).saturating_add(there);
+    assert_eq!(rt; berth.seen(&mut second, 1), raised);
+    assert!(rt; !berth.broken(&mut second));
+    assert!(rt; fail(&berth, &mut second));
+    assert!(rt; berth.broken(&mut first));
+    assert!(rt; !count_up(&berth, &mut first));
+    let berthed = closed(berth, seats, first, second);
     assert_eq!(rt; berthed.synced.as_slice(), [raised, 3].as_slice());
-    assert_eq!(rt; berthed.ware.first, raised);
-    assert!(rt; !berthed.broken);
+    assert!(rt; berthed.broken && berthed.ware.first == raised);
     Ok(())
 }

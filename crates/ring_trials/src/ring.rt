@@ -1,13 +1,12 @@
 //! The ring: full at its capacity, and two threads that push while one pops.
 
-ghost use Rattle.std.specs.Prelude.{◌≡◌, Some, None, [], ◌∷◌, length, IfOk};
+ghost use Rattle.std.specs.Prelude.{◌≡◌, Some, None, [], ◌∷◌, length};
 ghost use Rattle.crossbeam_queue.specs.Passes.{view};
 ghost use Rattle.ring_trials.specs.declared.stamps.Stamp.{Stamp};
 ghost use Rattle.append_ring.specs.Parts.{last_pushed, IsNew, AreNew};
 
 use crate::stamps::{Stamp, push_next, push_three};
 use append_ring::{ConsumerPass, Ring, RingKey, RingKeys, RingParts};
-use std::alloc::{AllocError, Global};
 use std::sync::Wait;
 use std::test::*;
 use std::thread;
@@ -56,62 +55,36 @@ fn close_if_drained(
     true
 }
 
-#[test]
-fn full_at_its_capacity(rt: HostRuntime) -> Result<(), Fail> {
-    let lasts = [4, 9];
-    let RingParts {
-        ring,
-        passes,
-        mut consumer,
-    } = Ring::<Stamp>::of_capacity(rt.alloc(), &lasts, 2)?;
-    let (places, mut first, second) = handed_out(&ring, &lasts, passes);
-    assert!(rt; push_next(&rt, &ring, &mut first, 5));
-    assert!(rt; push_next(&rt, &ring, &mut first, 6));
-    assert!(rt; !push_next(&rt, &ring, &mut first, 7));
-    let mut popped = Popped::new(rt.alloc());
-    popped.pop(&rt, &ring, &mut consumer)?;
-    popped.pop(&rt, &ring, &mut consumer)?;
-    popped.pop(&rt, &ring, &mut consumer)?;
-    assert_eq!(rt; popped.first.as_slice(), [5, 6].as_slice());
-    assert!(rt; close_if_drained(ring, places, first, second, consumer));
-    Ok(())
-}
-
-/// The numbers popped of each region.
-#[derive(Drop)]
+/// What was popped of two regions: the last number of each, and whether each was one above the one before.
+#[derive(Clone, Copy)]
 struct Popped {
-    first: Vec<u64>,
-    second: Vec<u64>,
+    first: u64,
+    second: u64,
+    in_order: bool,
 }
 
 impl Popped {
-    fn new(alloc: Global) -> Popped {
-        Popped {
-            first: Vec::new(alloc),
-            second: Vec::new(alloc),
-        }
-    }
-
-    // Pops an item, if there is one.
-    fn pop<R: Wait>(
-        &mut self,
-        rt: &R,
-        ring: &Ring<Stamp>,
-        consumer: &mut ConsumerPass<Stamp>,
-    ) -> Result<(), AllocError>
-        requires { consumer.old.pass.table_id ≡ ring.now.id }
-        ensures same { (consumer.new.pass.table_id ≡ consumer.old.pass.table_id) × ((view consumer.new.pass).lasts ≡ (view consumer.old.pass).lasts) }
-    {
-        let Some(stamp) = ring.pop(rt, consumer) else {
-            thread::yield_now();
-            return Ok(());
-        };
-        if stamp.region == 1 {
-            self.first.push(stamp.number)?;
+    // Notes an item.
+    fn note(self, stamp: Stamp) -> Popped {
+        let Popped {
+            first,
+            second,
+            in_order,
+        } = self;
+        let Stamp { region, number } = stamp;
+        if region == 1 {
+            Popped {
+                first: number,
+                second,
+                in_order: in_order && first < number && number - first == 1,
+            }
         } else {
-            self.second.push(stamp.number)?;
+            Popped {
+                first,
+                second: number,
+                in_order: in_order && second < number && number - second == 1,
+            }
         }
-        Ok(())
     }
 }
 
@@ -121,14 +94,17 @@ fn pop_three<R: Wait>(
     ring: &Ring<Stamp>,
     mut consumer: ConsumerPass<Stamp>,
     mut popped: Popped,
-) -> Result<(ConsumerPass<Stamp>, Popped), AllocError>
+) -> (ConsumerPass<Stamp>, Popped)
     requires { consumer.pass.table_id ≡ ring.now.id }
-    ensures { IfOk result (λ r. (r.0.pass.table_id ≡ consumer.pass.table_id) × ((view r.0.pass).lasts ≡ (view consumer.pass).lasts)) }
+    ensures { (result.0.pass.table_id ≡ consumer.pass.table_id) × ((view result.0.pass).lasts ≡ (view consumer.pass).lasts) }
 {
     for _ in 0..3 {
-        popped.pop(rt, ring, &mut consumer)?;
+        match ring.pop(rt, &mut consumer) {
+            Some(stamp) => popped = popped.note(stamp),
+            None => thread::yield_now(),
+        }
     }
-    Ok((consumer, popped))
+    (consumer, popped)
 }
 
 // Pushes three items above 0, and then pops three while the other thread may push.
@@ -138,17 +114,38 @@ fn push_and_pop<R: Wait>(
     pass: RingKey<Stamp>,
     consumer: ConsumerPass<Stamp>,
     popped: Popped,
-) -> (
-    RingKey<Stamp>,
-    Result<(ConsumerPass<Stamp>, Popped), AllocError>,
-)
+) -> (RingKey<Stamp>, ConsumerPass<Stamp>, Popped)
     requires ring { (pass.pass.table_id ≡ ring.now.id) × (consumer.pass.table_id ≡ ring.now.id) }
     requires last { last_pushed (λ (s : Stamp). Some s.number) pass ≡ 0 }
     ensures pass { (result.0.pass.table_id ≡ pass.pass.table_id) × (result.0.region ≡ pass.region) }
-    ensures consumer { IfOk result.1 (λ r. (r.0.pass.table_id ≡ consumer.pass.table_id) × ((view r.0.pass).lasts ≡ (view consumer.pass).lasts)) }
+    ensures consumer { (result.1.pass.table_id ≡ consumer.pass.table_id) × ((view result.1.pass).lasts ≡ (view consumer.pass).lasts) }
 {
     let pass = push_three(rt, ring, pass, 0);
-    (pass, pop_three(rt, ring, consumer, popped))
+    let (consumer, popped) = pop_three(rt, ring, consumer, popped);
+    (pass, consumer, popped)
+}
+
+#[test]
+fn full_at_its_capacity(rt: HostRuntime) -> Result<(), Fail> {
+    let lasts = [4, 9];
+    let RingParts {
+        ring,
+        passes,
+        consumer,
+    } = Ring::<Stamp>::of_capacity(rt.alloc(), &lasts, 2)?;
+    let (places, mut first, second) = handed_out(&ring, &lasts, passes);
+    assert!(rt; push_next(&rt, &ring, &mut first, 5));
+    assert!(rt; push_next(&rt, &ring, &mut first, 6));
+    assert!(rt; !push_next(&rt, &ring, &mut first, 7));
+    let popped = Popped {
+        first: 4,
+        second: 9,
+        in_order: true,
+    };
+    let (consumer, popped) = pop_three(&rt, &ring, consumer, popped);
+    assert!(rt; popped.in_order && popped.first == 6 && popped.second == 9);
+    assert!(rt; close_if_drained(ring, places, first, second, consumer));
+    Ok(())
 }
 
 #[test]
@@ -160,18 +157,18 @@ fn two_threads_push(rt: HostRuntime) -> Result<(), Fail> {
         consumer,
     } = Ring::<Stamp>::new(rt.alloc(), &lasts)?;
     let (places, first, second) = handed_out(&ring, &lasts, passes);
-    let popped = Popped::new(rt.alloc());
-    let (first, (second, early)) = thread::join(
+    let none = Popped {
+        first: 7,
+        second: 0,
+        in_order: true,
+    };
+    let (first, (second, consumer, early)) = thread::join(
         &rt,
         || push_three(&rt, &ring, first, 7),
-        || push_and_pop(&rt, &ring, second, consumer, popped),
+        || push_and_pop(&rt, &ring, second, consumer, none),
     );
-    let (consumer, popped) = early?;
-    assert!(rt; [8, 9, 10].starts_with(popped.first.as_slice()));
-    assert!(rt; [1, 2, 3].starts_with(popped.second.as_slice()));
-    let (consumer, popped) = pop_three(&rt, &ring, consumer, popped)?;
-    assert_eq!(rt; popped.first.as_slice(), [8, 9, 10].as_slice());
-    assert_eq!(rt; popped.second.as_slice(), [1, 2, 3].as_slice());
+    let (consumer, popped) = pop_three(&rt, &ring, consumer, early);
+    assert!(rt; popped.in_order && popped.first == 10 && popped.second == 3);
     assert!(rt; close_if_drained(ring, places, first, second, consumer));
     Ok(())
 }
