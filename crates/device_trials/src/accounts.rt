@@ -1,11 +1,9 @@
-//! The accounting of a log's files over time: what decides that a file may go, the oldest number while a flush is under way, a flush
-//! that is aborted, many files, and which file goes first.
+//! The accounting of a log's files over time: the oldest number while a flush is under way, and a flush that is aborted.
 
 ghost use Rattle.std.specs.Prelude.{◌≡◌, ◌<◌, ◌≤◌, length, IfOk, IfSome};
 ghost use Rattle.device_trials.specs.Underway.{IsIdle, IsOnly};
 
-use crate::entries::puts;
-use log_archive::first_to_go;
+use crate::entries::one_put;
 use seq_accounting::{Accounting, FamilyMarks, Flushing, RegionMark};
 use std::alloc::Global;
 use std::process::Abort;
@@ -34,29 +32,22 @@ fn three_regions(alloc: Global) -> Result<Accounting, Fail>
     Ok(accounting)
 }
 
-/// Notes an entry with a cell of each of these families, whose names are one byte each. It stops where there is no memory.
-fn note(
-    rt: &impl Abort,
-    alloc: Global,
-    accounting: &mut Accounting,
-    region: u32,
-    number: u64,
-    families: &[u8],
-)
+/// Notes an entry with a cell of family `f`. It stops where there is no memory.
+fn note(rt: &impl Abort, alloc: Global, accounting: &mut Accounting, region: u32, number: u64)
     requires { region ≤ 64 }
     ensures flushing { accounting.new.flushing ≡ accounting.old.flushing }
     ensures last { accounting.new.last ≡ accounting.old.last }
 {
     assert!(rt; accounting.noted(region) < number);
-    match marks(alloc, families) {
+    match marks(alloc) {
         Ok(marks) => accounting.note(region, number, marks),
         Err(_) => panic!(rt; "no memory"),
     }
 }
 
-/// The marks of an entry with a cell of each of these families, whose names are one byte each.
-fn marks(alloc: Global, families: &[u8]) -> Result<FamilyMarks, Fail> {
-    Ok(FamilyMarks::of_batch(alloc, &puts(alloc, 1, 1, families)?)?)
+/// The marks of an entry with a cell of family `f`.
+fn marks(alloc: Global) -> Result<FamilyMarks, Fail> {
+    Ok(FamilyMarks::of_batch(alloc, &one_put(alloc, 1, 1)?)?)
 }
 
 /// Closes the current file. It stops where there is no memory.
@@ -109,20 +100,13 @@ fn give_up(accounting: &mut Accounting, flushing: Flushing)
     accounting.abort_flush(flushing);
 }
 
-fn flush(
-    rt: &impl Abort,
-    alloc: Global,
-    accounting: &mut Accounting,
-    region: u32,
-    family: Option<&[u8]>,
-)
+fn flush(rt: &impl Abort, alloc: Global, accounting: &mut Accounting, region: u32)
     requires region { region ≤ 64 }
-    requires family { IfSome family (λ f. (1 ≤ length f.now) × (length f.now ≤ 127)) }
     requires idle { IsIdle accounting.old.flushing }
     ensures idle { IsIdle accounting.new.flushing }
     ensures last { accounting.new.last ≡ accounting.old.last }
 {
-    let flushing = start(rt, alloc, accounting, region, family);
+    let flushing = start(rt, alloc, accounting, region, None);
     complete(accounting, flushing);
 }
 
@@ -135,36 +119,22 @@ fn next_lower(accounting: &Accounting, after: u64) -> Option<(u64, bool)> {
 }
 
 #[test]
-fn highest_number_decides_and_not_the_lowest(rt: HostRuntime) -> Result<(), Fail> {
-    let alloc = rt.alloc();
-    let mut accounting = three_regions(alloc)?;
-    note(&rt, alloc, &mut accounting, 1, 3, b"f");
-    flush(&rt, alloc, &mut accounting, 1, None);
-    note(&rt, alloc, &mut accounting, 1, 4, b"f");
-    close(&rt, &mut accounting, 5);
-    assert_eq!(rt; next_lower(&accounting, 0), Some((5, false)));
-    close(&rt, &mut accounting, 6);
-    assert_eq!(rt; next_lower(&accounting, 5), Some((6, true)));
-    Ok(())
-}
-
-#[test]
 fn oldest_while_a_flush_is_under_way(rt: HostRuntime) -> Result<(), Fail> {
     let alloc = rt.alloc();
     let mut accounting = three_regions(alloc)?;
     assert_eq!(rt; accounting.oldest_unflushed(1, b"f"), None);
-    note(&rt, alloc, &mut accounting, 1, 3, b"f");
-    note(&rt, alloc, &mut accounting, 1, 5, b"f");
+    note(&rt, alloc, &mut accounting, 1, 3);
+    note(&rt, alloc, &mut accounting, 1, 5);
     assert_eq!(rt; accounting.oldest_unflushed(1, b"f"), Some(3));
     let first = start(&rt, alloc, &mut accounting, 1, None);
     assert_eq!(rt; (first.region(), first.number()), (1, 5));
-    note(&rt, alloc, &mut accounting, 1, 8, b"f");
-    note(&rt, alloc, &mut accounting, 1, 9, b"f");
+    note(&rt, alloc, &mut accounting, 1, 8);
+    note(&rt, alloc, &mut accounting, 1, 9);
     assert_eq!(rt; accounting.oldest_unflushed(1, b"f"), Some(3));
     complete(&mut accounting, first);
     assert_eq!(rt; accounting.oldest_unflushed(1, b"f"), Some(8));
     assert_eq!(rt; accounting.flushed(1, b"f"), 5);
-    flush(&rt, alloc, &mut accounting, 1, None);
+    flush(&rt, alloc, &mut accounting, 1);
     assert_eq!(rt; accounting.oldest_unflushed(1, b"f"), None);
     assert_eq!(rt; accounting.flushed(1, b"f"), 9);
     Ok(())
@@ -175,97 +145,17 @@ fn aborted_flush_keeps_what_is_flushed(rt: HostRuntime) -> Result<(), Fail> {
     let alloc = rt.alloc();
     let mut accounting = three_regions(alloc)?;
     assert_eq!(rt; accounting.oldest_unflushed(3, b"f"), None);
-    note(&rt, alloc, &mut accounting, 3, 9, b"f");
+    note(&rt, alloc, &mut accounting, 3, 9);
     close(&rt, &mut accounting, 1);
     let first = start(&rt, alloc, &mut accounting, 3, None);
-    note(&rt, alloc, &mut accounting, 3, 12, b"f");
+    note(&rt, alloc, &mut accounting, 3, 12);
     give_up(&mut accounting, first);
     assert_eq!(rt; accounting.flushed(3, b"f"), 7);
     assert_eq!(rt; accounting.noted(3), 12);
     assert_eq!(rt; accounting.oldest_unflushed(3, b"f"), Some(9));
     assert_eq!(rt; next_lower(&accounting, 0), Some((1, false)));
-    flush(&rt, alloc, &mut accounting, 3, None);
+    flush(&rt, alloc, &mut accounting, 3);
     assert_eq!(rt; accounting.flushed(3, b"f"), 12);
     assert_eq!(rt; next_lower(&accounting, 0), Some((1, true)));
-    Ok(())
-}
-
-#[test]
-fn flushed_files_are_forgotten(rt: HostRuntime) -> Result<(), Fail> {
-    let alloc = rt.alloc();
-    let mut accounting = three_regions(alloc)?;
-    note(&rt, alloc, &mut accounting, 1, 1, b"f");
-    close(&rt, &mut accounting, 3);
-    note(&rt, alloc, &mut accounting, 2, 1, b"f");
-    close(&rt, &mut accounting, 7);
-    note(&rt, alloc, &mut accounting, 1, 2, b"f");
-    close(&rt, &mut accounting, 9);
-    assert_eq!(rt; accounting.forget_lower(), 0);
-    flush(&rt, alloc, &mut accounting, 1, None);
-    assert_eq!(rt; accounting.forget_lower(), 2);
-    assert_eq!(rt; accounting.next_closed(0), Some(7));
-    assert_eq!(rt; accounting.next_closed(7), None);
-    flush(&rt, alloc, &mut accounting, 2, None);
-    assert_eq!(rt; accounting.forget_lower(), 1);
-    assert_eq!(rt; accounting.next_closed(0), None);
-    Ok(())
-}
-
-#[test]
-fn twenty_files_with_ample_memory(rt: HostRuntime) -> Result<(), Fail> {
-    let alloc = rt.alloc();
-    let mut accounting = three_regions(alloc)?;
-    for file in 1..21 {
-        close(&rt, &mut accounting, file);
-    }
-    for file in 0..20 {
-        assert_eq!(rt; accounting.next_closed(file), Some(file + 1));
-    }
-    assert_eq!(rt; accounting.next_closed(20), None);
-    Ok(())
-}
-
-#[test]
-fn least_file_goes_first(rt: HostRuntime) -> Result<(), Fail> {
-    let alloc = rt.alloc();
-    let mut accounting = three_regions(alloc)?;
-    note(&rt, alloc, &mut accounting, 2, 1, b"f");
-    close(&rt, &mut accounting, 1);
-    note(&rt, alloc, &mut accounting, 1, 1, b"f");
-    close(&rt, &mut accounting, 2);
-    note(&rt, alloc, &mut accounting, 1, 2, b"f");
-    close(&rt, &mut accounting, 4);
-    flush(&rt, alloc, &mut accounting, 1, None);
-    assert_eq!(rt; first_to_go(&accounting, 0), Some(2));
-    assert_eq!(rt; first_to_go(&accounting, 1), Some(2));
-    assert_eq!(rt; first_to_go(&accounting, 2), Some(4));
-    assert_eq!(rt; first_to_go(&accounting, 4), None);
-    assert_eq!(rt; accounting.forget_lower(), 2);
-    assert_eq!(rt; first_to_go(&accounting, 0), None);
-    flush(&rt, alloc, &mut accounting, 2, None);
-    assert_eq!(rt; first_to_go(&accounting, 0), Some(1));
-    assert_eq!(rt; accounting.forget_lower(), 1);
-    assert_eq!(rt; first_to_go(&accounting, 0), None);
-    Ok(())
-}
-
-#[test]
-fn file_of_two_families_goes_with_the_last_one(rt: HostRuntime) -> Result<(), Fail> {
-    let alloc = rt.alloc();
-    let mut accounting = three_regions(alloc)?;
-    note(&rt, alloc, &mut accounting, 1, 1, b"fg");
-    close(&rt, &mut accounting, 1);
-    note(&rt, alloc, &mut accounting, 1, 2, b"f");
-    close(&rt, &mut accounting, 2);
-    flush(&rt, alloc, &mut accounting, 1, Some(b"f"));
-    assert_eq!(rt; accounting.flushed(1, b"f"), 2);
-    assert_eq!(rt; accounting.flushed(1, b"g"), 0);
-    assert_eq!(rt; accounting.whole(1), 0);
-    assert_eq!(rt; accounting.oldest_unflushed(1, b"f"), None);
-    assert_eq!(rt; accounting.oldest_unflushed(1, b"g"), Some(1));
-    assert_eq!(rt; first_to_go(&accounting, 0), Some(2));
-    flush(&rt, alloc, &mut accounting, 1, Some(b"g"));
-    assert_eq!(rt; first_to_go(&accounting, 0), Some(1));
-    assert_eq!(rt; accounting.forget_lower(), 2);
     Ok(())
 }

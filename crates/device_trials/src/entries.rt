@@ -8,7 +8,6 @@ ghost use Rattle.log_device.specs.Whole.{numbers_of};
 
 use crate::bench::Bench;
 use disk_fakes::{Fail, MemDisk};
-use disk_images::{Name, NameKind};
 use entry_frame::encode_entry;
 use kv_cell::{Batch, Cell};
 use log_device::{DeviceFlush, DeviceRefusal, RegionBase, Truck};
@@ -29,22 +28,6 @@ pub(crate) const TWO_REGIONS: [RegionBase; 2] = [
         next_store: 1,
     },
 ];
-
-pub(crate) const fn log(number: u64) -> Name {
-    Name {
-        kind: NameKind::Log,
-        region: 0,
-        number,
-    }
-}
-
-pub(crate) const fn store(region: u32, number: u64) -> Name {
-    Name {
-        kind: NameKind::Store,
-        region,
-        number,
-    }
-}
 
 /// A device with regions 1 and 2 on an empty disk whose calls of these kinds and numbers fail, or why there is none.
 pub(crate) fn start(
@@ -73,25 +56,9 @@ pub(crate) fn value_of(region: u32) -> &'static [u8] {
 
 /// One put of row `r`, column `f:q`, with the edit's number as timestamp, so that edits 1 of region 1 are one and the same.
 pub(crate) fn one_put(alloc: Global, region: u32, number: u64) -> Result<Batch, TestFail> {
-    puts(alloc, region, number, b"f")
-}
-
-/// The same with a put into each of these families, whose names are one byte each.
-pub(crate) fn puts(
-    alloc: Global,
-    region: u32,
-    number: u64,
-    families: &[u8],
-) -> Result<Batch, TestFail> {
-    let value = value_of(region);
     let mut cells = Vec::new(alloc);
-    for family in families {
-        let cell = Cell::new(alloc, b"r", &[*family], b"q", number, 4, value)
-            .ok()
-            .ok_or("within the limits")?;
-        cells.push(cell)?;
-    }
-    Ok(Batch::new(cells).ok().ok_or("a batch")?)
+    cells.push(Cell::new(alloc, b"r", b"f", b"q", number, 4, value_of(region))?)?;
+    Ok(Batch::new(cells)?)
 }
 
 /// A lone truck with an entry of these cells, written at 1000.
@@ -139,16 +106,14 @@ pub(crate) fn next_number(bench: &Bench<MemDisk>, region: u32) -> Result<u64, Te
     Ok(number)
 }
 
-/// Stages the next edit of a region, with a put into each of these families, and gives its number, or None where the stage is
-/// full.
+/// Stages the next edit of a region, and gives its number, or None where the stage is full.
 pub(crate) fn stage_put(
     alloc: Global,
     bench: &mut Bench<MemDisk>,
     region: u32,
-    families: &[u8],
 ) -> Result<Option<u64>, TestFail> {
     let number = next_number(bench, region)?;
-    let batch = puts(alloc, region, number, families)?;
+    let batch = one_put(alloc, region, number)?;
     match bench.stage(truck(alloc, region, number, &batch)?) {
         Ok(()) => Ok(Some(number)),
         Err(_) => Ok(None),

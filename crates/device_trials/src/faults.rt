@@ -123,7 +123,7 @@ fn assert_broken<R: Abort>(
     let calls = all_calls(bench.device.disk());
     for step in AFTER {
         let want = match step {
-            Step::Put(_) | Step::PutTo(_, _) | Step::PutBoth(_) => Answer::Full,
+            Step::Put(_) => Answer::Full,
             _ => Answer::WriteFault,
         };
         assert_eq!(rt; take(alloc, bench, step)?, want, "{step:?}");

@@ -5,16 +5,13 @@ use crate::entries::{self, stage_put};
 use disk_fakes::MemDisk;
 use log_device::{DeviceFlush, RollRefusal, Rolled};
 use std::alloc::Global;
-use std::process::Abort;
 use std::test::*;
 
 /// A call of the device.
 #[derive(Clone, Copy, Debug, PartialEq, Eq)]
 pub(crate) enum Step {
-    /// Into family `f` of a region, or into this family, whose name is one byte, or into `f` and `g`.
+    /// Into family `f` of a region.
     Put(u32),
-    PutTo(u32, u8),
-    PutBoth(u32),
     Sync,
     Roll,
     /// Of a region, or of one family of it.
@@ -58,9 +55,7 @@ pub(crate) const EDITS: [(u32, u64); 5] = [(1, 1), (1, 2), (2, 1), (1, 3), (2, 2
 /// Takes one step.
 pub(crate) fn take(alloc: Global, bench: &mut Bench<MemDisk>, step: Step) -> Result<Answer, Fail> {
     match step {
-        Step::Put(region) => stage(alloc, bench, region, b"f"),
-        Step::PutTo(region, family) => stage(alloc, bench, region, &[family]),
-        Step::PutBoth(region) => stage(alloc, bench, region, b"fg"),
+        Step::Put(region) => stage(alloc, bench, region),
         Step::Sync => Ok(match bench.sync() {
             Ok(count) => Answer::Done(count),
             Err(_) => Answer::WriteFault,
@@ -77,13 +72,8 @@ pub(crate) fn take(alloc: Global, bench: &mut Bench<MemDisk>, step: Step) -> Res
     }
 }
 
-fn stage(
-    alloc: Global,
-    bench: &mut Bench<MemDisk>,
-    region: u32,
-    families: &[u8],
-) -> Result<Answer, Fail> {
-    match stage_put(alloc, bench, region, families)? {
+fn stage(alloc: Global, bench: &mut Bench<MemDisk>, region: u32) -> Result<Answer, Fail> {
+    match stage_put(alloc, bench, region)? {
         Some(number) => Ok(Answer::Staged(number)),
         None => Ok(Answer::Full),
     }
@@ -132,17 +122,4 @@ pub(crate) fn numbers(bench: &Bench<MemDisk>) -> [u64; 6] {
         bench.device.closed(1),
         bench.device.closed(2),
     ]
-}
-
-/// Asserts what the device answers to each of these steps.
-pub(crate) fn assert_answers<R: Abort>(
-    rt: &R,
-    alloc: Global,
-    bench: &mut Bench<MemDisk>,
-    steps: &[(Step, Answer)],
-) -> Result<(), Fail> {
-    for (step, answer) in steps {
-        assert_eq!(rt; take(alloc, bench, *step)?, *answer, "{step:?}");
-    }
-    Ok(())
 }

@@ -1,9 +1,7 @@
-//! Trials of the opening of a store on a disk in memory that tells what it holds: worked stores, faults of each disk call,
-//! crashes at each moment, stores that aren't sound. A library of tests alone, at the top, so that no crate waits for it.
+//! Trials of the opening of a store on a disk in memory that tells what it holds: regions that are replayed one by one, faults of each
+//! disk call, crashes at each moment. A library of tests alone, at the top, so that no crate waits for it.
 #![tactic(auto)]
 
-#[cfg(test)]
-mod families;
 #[cfg(test)]
 mod files;
 #[cfg(test)]
@@ -16,8 +14,6 @@ mod replays;
 mod stops;
 #[cfg(test)]
 mod texts;
-#[cfg(test)]
-mod unsound;
 #[cfg(test)]
 mod versions;
 #[cfg(test)]

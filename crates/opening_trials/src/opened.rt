@@ -1,9 +1,8 @@
 //! What an opening gives.
 
-use crate::files::{File, assert_files};
+use crate::files::File;
 use disk_fakes::MemDisk;
 use disk_images::{Disk, NameKind};
-use found_files::SplitRefusal;
 use region_replay::{Replayed, recover_all};
 use std::alloc::Global;
 use std::process::Abort;
@@ -55,34 +54,12 @@ pub(crate) fn assert_kept<R: Abort>(rt: &R, region: &Replayed, kept: Kept) {
     assert_eq!(rt; region.next_store, kept.next_store);
 }
 
-/// Asserts of each of the 64 regions that it has what is wanted.
-fn assert_all_kept<R: Abort>(rt: &R, replayed: &[Replayed], regions: &[Kept]) {
-    assert_eq!(rt; replayed.len(), 64);
-    for (i, region) in replayed.iter().enumerate() {
-        assert_kept(rt, region, kept_at(regions, i));
-    }
-}
-
 /// Asserts of each of the 64 regions that it has the edits that are wanted.
 fn assert_all_edits<R: Abort>(rt: &R, replayed: &[Replayed], regions: &[Kept]) {
     assert_eq!(rt; replayed.len(), 64);
     for (i, region) in replayed.iter().enumerate() {
         assert_edits(rt, region, kept_at(regions, i).edits);
     }
-}
-
-/// Opens the store, and asserts what it gives and leaves.
-pub(crate) fn assert_opens<R: Abort>(
-    rt: &R,
-    alloc: Global,
-    disk: &mut MemDisk,
-    want: &Want,
-) -> Result<(), TestFail> {
-    match recover_all(alloc, disk) {
-        Ok(recovered) => assert_all_kept(rt, recovered.as_slice(), want.regions),
-        Err(_) => return Err("it is not opened")?,
-    }
-    assert_files(rt, alloc, disk, want.files)
 }
 
 /// Asserts that no log and no edits file is there.
@@ -113,12 +90,4 @@ pub(crate) fn assert_opens_again<R: Abort>(
         Err(_) => return Err("it is not opened")?,
     }
     assert_none_logged(rt, alloc, disk)
-}
-
-/// Opens the store, which is refused.
-pub(crate) fn refusal_of(alloc: Global, disk: &mut MemDisk) -> Result<SplitRefusal, TestFail> {
-    match recover_all(alloc, disk) {
-        Ok(_) => Err("it is opened")?,
-        Err(refusal) => Ok(refusal),
-    }
 }

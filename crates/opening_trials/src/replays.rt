@@ -7,7 +7,6 @@ ghost use Rattle.disk_fakes.specs.Views.{view_of};
 use crate::files::{File, assert_files, disk_of, name_of};
 use crate::opened::{Kept, ONE_EDIT, assert_kept, kept_at};
 use crate::texts::{LOG_1, LOG_2, OTHER_LOG_2, STORE_OF_1, STORE_OF_2};
-use crate::unsound::{OTHER_KIND, TOO_GREAT};
 use crate::versions::OF_BOTH_VERSIONS;
 use crate::worked::WORKED;
 use disk_fakes::MemDisk;
@@ -18,6 +17,14 @@ use std::alloc::Global;
 use std::process::Abort;
 use std::test::Fail as TestFail;
 use wal_split::split;
+
+/// The least number of a name that is too great.
+const TOO_GREAT: u64 = 0x4000_0000_0000_0001;
+
+/// A frame of kind 4.
+const OTHER_KIND: &[u8] = &[
+    b'H', b'W', b'L', b'1', 0, 0, 0, 2, 0, 0, 0, 0, 0, 0, 0, 1, 0xA5, 4, 0, 0, 0, 0,
+];
 
 /// An edits file of region 2 that is damaged, beside another one and one of region 1.
 const ONE_DAMAGED: [File; 3] = [

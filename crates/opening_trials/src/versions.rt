@@ -1,14 +1,10 @@
 //! Files of version 1 and stores `HWS1`, which are read and never written, alone and beside such as are written. All are of
 //! region 1, and each edit puts the cell of the worked texts.
 
-use crate::files::{File, assert_files, disk_of};
+use crate::files::File;
 use crate::opened::{Kept, Want};
-use crate::replays::split_whole;
 use crate::texts::STORE_OF_EDIT_2;
 use disk_images::NameKind;
-use region_replay::{Replayed, recover_all};
-use std::process::Abort;
-use std::test::Fail as TestFail;
 
 /// A log of version 1 with number 1, with the put of the worked texts as edits 1 and 2 of region 1.
 const FORMER_LOG: &[u8] = &[
@@ -38,17 +34,6 @@ const TAGGED: &[u8] = &[
     b'H', b'W', b'L', b'1', 0, 0, 0, 2, 0, 0, 0, 0, 0, 0, 0, 3, 0xA5, 3, 0, 0, 0, 0x36, 0, 0, 0, 1,
     0, 0, 0, 0, 0, 0, 0, 4, 0, 0, 0, 0, 0, 0, 3, 0xE8, 1, b't', 0, 0, 0, 1, 0, 0, 0, 0x0F, 0, 0, 0,
     1, 0, 1, b'r', 1, b'f', b'q', 0, 0, 0, 0, 0, 0, 0, 1, 4, b'v', 0, 2, b'a', b'b', 0,
-];
-
-/// The edits 1, 2 and 4 in an edits file of version 2 with number 4.
-const SPLIT: &[u8] = &[
-    b'H', b'W', b'L', b'1', 0, 0, 0, 2, 0, 0, 0, 0, 0, 0, 0, 4, 0xA5, 1, 0, 0, 0, 0x30, 0, 0, 0, 1,
-    0, 0, 0, 0, 0, 0, 0, 1, 0, 0, 0, 0, 0, 0, 3, 0xE8, 0, 0, 0, 1, 0, 0, 0, 0x0F, 0, 0, 0, 1, 0, 1,
-    b'r', 1, b'f', b'q', 0, 0, 0, 0, 0, 0, 0, 1, 4, b'v', 0xA5, 1, 0, 0, 0, 0x30, 0, 0, 0, 1, 0, 0,
-    0, 0, 0, 0, 0, 2, 0, 0, 0, 0, 0, 0, 3, 0xE8, 0, 0, 0, 1, 0, 0, 0, 0x0F, 0, 0, 0, 1, 0, 1, b'r',
-    1, b'f', b'q', 0, 0, 0, 0, 0, 0, 0, 1, 4, b'v', 0xA5, 3, 0, 0, 0, 0x36, 0, 0, 0, 1, 0, 0, 0, 0,
-    0, 0, 0, 4, 0, 0, 0, 0, 0, 0, 3, 0xE8, 1, b't', 0, 0, 0, 1, 0, 0, 0, 0x0F, 0, 0, 0, 1, 0, 1,
-    b'r', 1, b'f', b'q', 0, 0, 0, 0, 0, 0, 0, 1, 4, b'v', 0, 2, b'a', b'b', 0,
 ];
 
 /// A store with the edits 2 and 3, the later one first.
@@ -150,48 +135,3 @@ pub(crate) const OF_BOTH_VERSIONS: [(&[File], Want); 3] = [
         },
     ),
 ];
-
-/// A log of each version.
-const TWO_LOGS: &[File] = &[
-    (NameKind::Log, 0, 1, FORMER_LOG),
-    (NameKind::Log, 0, 3, TAGGED),
-];
-
-/// What a split makes of them.
-const TWO_LOGS_SPLIT: &[File] = &[
-    (NameKind::Old, 0, 1, FORMER_LOG),
-    (NameKind::Old, 0, 3, TAGGED),
-    (NameKind::Edits, 1, 4, SPLIT),
-];
-
-#[test]
-fn entries_are_copied_into_version_2(rt: HostRuntime) -> Result<(), TestFail> {
-    let alloc = rt.alloc();
-    let mut disk = disk_of(alloc, TWO_LOGS, &[])?;
-    split_whole(alloc, &mut disk)?;
-    assert_files(&rt, alloc, &mut disk, TWO_LOGS_SPLIT)
-}
-
-/// Asserts that the cell of edit 4 has its tags, and each other one none.
-fn assert_tags<R: Abort>(rt: &R, region: &Replayed) {
-    for row in region.base.cells.rows() {
-        let tags: &[u8] = if row.number() == 4 { b"ab" } else { b"" };
-        assert_eq!(rt; row.cell().tags.as_slice(), tags);
-    }
-}
-
-/// At first the tags are those of an edits file, and then those of the store that was written.
-#[test]
-fn tags_are_recovered_again(rt: HostRuntime) -> Result<(), TestFail> {
-    let alloc = rt.alloc();
-    let mut disk = disk_of(alloc, MIXED, &[])?;
-    for _ in 0..2 {
-        let Ok(recovered) = recover_all(alloc, &mut disk) else {
-            return Err("it is not opened")?;
-        };
-        for region in recovered.as_slice() {
-            assert_tags(&rt, region);
-        }
-    }
-    Ok(())
-}

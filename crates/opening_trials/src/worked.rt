@@ -1,15 +1,11 @@
 //! Worked stores.
 
-use crate::files::{File, assert_files, disk_of, name_of};
-use crate::opened::{Kept, ONE_EDIT, Want, assert_opens, refusal_of};
+use crate::files::File;
+use crate::opened::{Kept, ONE_EDIT, Want};
 use crate::texts::{
-    LOG_1, LOG_2, OTHER_LOG_2, STORE_OF_1, STORE_OF_2, STORE_OF_EDIT_2, TWO_EDITS_LOG_1,
-    TWO_REGIONS_LOG_1,
+    LOG_1, LOG_2, STORE_OF_1, STORE_OF_2, STORE_OF_EDIT_2, TWO_EDITS_LOG_1, TWO_REGIONS_LOG_1,
 };
-use crate::versions::OF_BOTH_VERSIONS;
 use disk_images::NameKind;
-use found_files::{Damage, SplitRefusal};
-use std::test::Fail as TestFail;
 
 /// A log of edit 1 in regions 1 and 2, behind a crash after the commit of the first region's edits file and before the
 /// second one's was made.
@@ -87,36 +83,3 @@ pub(crate) const WORKED: [(&[File], Want); 5] = [
         },
     ),
 ];
-
-const TWO_THAT_DIFFER: [File; 2] = [
-    (NameKind::Log, 0, 1, LOG_1),
-    (NameKind::Log, 0, 2, OTHER_LOG_2),
-];
-
-#[test]
-fn opened_and_opened_again(rt: HostRuntime) -> Result<(), TestFail> {
-    let alloc = rt.alloc();
-    for (files, want) in WORKED.iter().chain(&OF_BOTH_VERSIONS) {
-        let mut disk = disk_of(alloc, files, &[])?;
-        assert_opens(&rt, alloc, &mut disk, want)?;
-        assert_opens(&rt, alloc, &mut disk, want)?;
-    }
-    Ok(())
-}
-
-#[test]
-fn two_logs_with_entries_that_differ(rt: HostRuntime) -> Result<(), TestFail> {
-    let alloc = rt.alloc();
-    let mut disk = disk_of(alloc, &TWO_THAT_DIFFER, &[])?;
-    let damage = Damage::Two {
-        first: name_of(TWO_THAT_DIFFER[0]),
-        second: name_of(TWO_THAT_DIFFER[1]),
-        region: 1,
-        number: 1,
-    };
-    assert_eq!(rt;
-        refusal_of(alloc, &mut disk)?,
-        SplitRefusal::Damaged(damage)
-    );
-    assert_files(&rt, alloc, &mut disk, &TWO_THAT_DIFFER)
-}
