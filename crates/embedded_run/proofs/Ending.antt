@@ -15,7 +15,7 @@ use Rattle.embedded.specs.region_calls.Store.{IsStore, bases_of, regions_of}
 use Rattle.embedded.specs.region_calls.declared.refusal.StartWhy.{StartWhy}
 use Rattle.embedded.specs.region_calls.declared.refusal.StartWhy.TheVariants as whys
 use Rattle.embedded.specs.region_calls.declared.store.OpenedStore.{OpenedStore}
-use Rattle.embedded.proofs.region_calls.NamedSeeds.{base_of_region}
+use Rattle.embedded.proofs.region_calls_laws.NamedSeeds.{base_of_region}
 use Rattle.embedded_run.specs.Ends.{IfDamaged}
 
 -- the regions of a server's name are those that its store was opened with

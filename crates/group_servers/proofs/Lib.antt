@@ -1,5 +1,5 @@
-pub use Rattle.handler_threads.proofs.region_calls as region_calls
-pub use Rattle.handler_threads.proofs as handler_threads
+pub use Rattle.handler_threads.proofs.region_calls_laws as region_calls_laws
+pub use Rattle.handler_threads.proofs as handler_threads_laws
 pub mod Handing
 pub mod Unused
 pub mod Begins

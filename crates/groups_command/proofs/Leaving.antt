@@ -11,7 +11,7 @@ use Rattle.groups_run.specs.region_calls.declared.store.OpenedStore.{OpenedStore
 use Rattle.groups_run.specs.region_calls.Names.{name_of}
 use Rattle.groups_run.specs.region_calls.Seeds.{base_at, lasts_of}
 use Rattle.groups_run.specs.region_calls.Store.{IsStore, bases_of, disk_now, handlers_of, regions_of}
-use Rattle.groups_run.proofs.region_calls.OwnNames.{server_named, locks_named, service_named, versions_named, own_name}
+use Rattle.groups_run.proofs.region_calls_laws.OwnNames.{server_named, locks_named, service_named, versions_named, own_name}
 use Rattle.script_model.specs.Calls.{Script}
 use Rattle.script_model.specs.Report.{ReplyLine}
 use Rattle.server_model.specs.Pass.{Naming}
@@ -20,7 +20,7 @@ use Rattle.run_model.specs.Headline.{KeepsThroughout}
 use Rattle.run_model.specs.declared.spent.Spent.{Spent}
 use Rattle.command_base.proofs.Endings.{rose_from}
 use Rattle.run_command.proofs.Leaving.{all_named}
-use Rattle.groups_run.proofs.script_run.Elapsed.{opened_throughout}
+use Rattle.groups_run.proofs.script_run_laws.Elapsed.{opened_throughout}
 use Rattle.groups_model.specs.Groups.{IsGroup}
 use Rattle.group_stores.specs.declared.lists.GroupList.{GroupList}
 use Rattle.group_stores.specs.declared.refusal.GroupsWhy.{GroupsWhy}

@@ -17,7 +17,7 @@ use Rattle.command_base.specs.Status.{IsInputRefusal, IsScriptFault as IsOneScri
 use Rattle.command_base.specs.declared.status.Status.{Status}
 use Rattle.command_base.specs.declared.status.Status.TheVariants as ends
 use Rattle.command_base.proofs.Endings.{refused_so, same_disk}
-use Rattle.run_command.proofs.recover_command.OneDamage.{one_told}
+use Rattle.run_command.proofs.recover_command_laws.OneDamage.{one_told}
 use Rattle.run_command.specs.Ends.{IsReportEnd}
 use Rattle.run_command.proofs.Telling.{report_cases}
 use Rattle.group_stores.specs.declared.refusal.GroupsWhy.{GroupsWhy}

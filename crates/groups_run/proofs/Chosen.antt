@@ -9,7 +9,7 @@ use Rattle.server_model.proofs.JournalLaws.{contains_cons}
 use Rattle.run_model.specs.Closed.{ClosedAt}
 use Rattle.run_model.proofs.Lists.{mapped, map_contains}
 use Rattle.log_groups.specs.region_calls.declared.closed.ClosedRegion.{ClosedRegion}
-use Rattle.log_groups.proofs.region_calls.TakenLaws.{numbers_are}
+use Rattle.log_groups.proofs.region_calls_laws.TakenLaws.{numbers_are}
 use Rattle.script_run.specs.Ends.{closed_at}
 use Rattle.groups_model.specs.Groups.{group_of, IsGroup}
 use Rattle.groups_model.specs.Closed.{AreChosen}

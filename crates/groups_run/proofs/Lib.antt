@@ -1,5 +1,5 @@
-pub use Rattle.script_run.proofs as script_run
-pub use Rattle.log_groups.proofs.region_calls as region_calls
+pub use Rattle.script_run.proofs as script_run_laws
+pub use Rattle.log_groups.proofs.region_calls_laws as region_calls_laws
 pub mod Runs
 pub mod Handled
 pub mod Kept

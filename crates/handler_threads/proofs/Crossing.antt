@@ -10,7 +10,7 @@ use Rattle.hand_register.proofs.hand.Hand.TheSendSync as hand
 use Rattle.hand_register.specs.contracts.desk.Desk as desks
 use Rattle.hand_register.specs.contracts.hand.Hand as hands
 use Rattle.log_berth.proofs.seats.LogSeat.TheSendSync as berth_seat
-use Rattle.region_calls.proofs.log_service.Crossing.{item_send, service_sync}
+use Rattle.region_calls.proofs.log_service_laws.Crossing.{item_send, service_sync}
 use Rattle.region_calls.specs.log_service.contracts.item.Item as item
 use Rattle.region_calls.specs.log_service.contracts.seats.LogSeat as seats
 use Rattle.region_calls.specs.log_service.contracts.service.LogService as service

@@ -1,2 +1,2 @@
-pub use Rattle.region_calls.proofs as region_calls
+pub use Rattle.region_calls.proofs as region_calls_laws
 pub mod Crossing

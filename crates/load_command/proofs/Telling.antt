@@ -30,7 +30,7 @@ use Rattle.command_base.specs.declared.status.Status.TheVariants as ends
 use Rattle.command_base.proofs.Endings.{taken_whole, taken_begins, refused_so}
 use Rattle.run_command.specs.recover_command.Recovered.{IsStoreDamage}
 use Rattle.run_command.specs.recover_command.Refusals.{refused_as}
-use Rattle.run_command.proofs.recover_command.Leaving.{recovered}
+use Rattle.run_command.proofs.recover_command_laws.Leaving.{recovered}
 use Rattle.load_command.specs.Counted.{cells_of}
 use Rattle.load_command.specs.Statuses.{IsDecided, IsClosedEnd, IsPrintedAs}
 use Rattle.load_command.specs.Ends.{EndsLoad, HasEnded}

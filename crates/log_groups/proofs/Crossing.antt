@@ -10,7 +10,7 @@ use Rattle.group_servers.specs.region_calls.contracts.server.Server as server
 use Rattle.group_servers.specs.region_calls.declared.naming.ServerNaming.{Ghosts}
 use Rattle.group_servers.specs.region_lock.declared.naming.LockNaming.{Ghosts as LockGhosts}
 use Rattle.region_versions.specs.declared.naming.VersionsNaming.{Ghosts as VersionGhosts}
-use Rattle.group_servers.proofs.handler_threads.Crossing.{handler_pass_send, log_seat_send, server_sync}
+use Rattle.group_servers.proofs.handler_threads_laws.Crossing.{handler_pass_send, log_seat_send, server_sync}
 use Rattle.std.proofs.Crossing.{crosses}
 use Rattle.std.proofs.option.Option.TheSendSync as crossing
 use Rattle.std.specs.contracts.option.Option as option

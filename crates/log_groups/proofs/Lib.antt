@@ -1,5 +1,5 @@
-pub use Rattle.script_handlers.proofs as script_handlers
-pub use Rattle.group_servers.proofs.region_calls as region_calls
+pub use Rattle.script_handlers.proofs as script_handlers_laws
+pub use Rattle.group_servers.proofs.region_calls_laws as region_calls_laws
 pub mod Ending
 pub mod Evens
 pub mod Held

@@ -97,8 +97,19 @@ pub drawn_from : (seen seen' : ℕ) (job job' : Job) (own own' mid : List Line) 
     → seen ≡ seen' → line_of 0 job ≡ line_of 0 job' → own ≡ own' → told ≡ told' → IsDrawn seen job own told result mid later broken → IsDrawn seen' job' own' told' result mid later broken
 drawn_from seen seen' job job' own own' mid told told' later (Ok n) broken point line mine spent d =
     let same : line_of n job ≡ line_of n job' = ap (λ (x : Line). record x { number = n }) line in
-    (d.0 ∙ (λ i. mine i ++ same i ∷ []), d.1 ∙ spent, omega (arith, point, d.2), d.3, subst (AreBelow n) mine d.4)
-drawn_from seen seen' job job' own own' mid told told' later (Err (put.Memory logged)) broken point line mine spent d = (d.0 ∙ mine, d.1 ∙ spent, d.2)
-drawn_from seen seen' job job' own own' mid told told' later (Err (put.WriteFault number)) broken point line mine spent d = (d.0 ∙ mine, d.1 ∙ spent, d.2, d.3)
-drawn_from seen seen' job job' own own' mid told told' later (Err (put.NumbersSpent last)) broken point line mine spent d =
-    (d.0 ∙ mine, d.1 ∙ ap (λ (l : List ℕ). l ++ last ∷ []) spent, d.2)
+    record {
+      listed = d.listed ∙ (λ i. mine i ++ same i ∷ []);
+      told_same = d.told_same ∙ spent;
+      above_seen = omega (arith, point, d.above_seen);
+      limit = d.limit;
+      above_own = subst (AreBelow n) mine d.above_own;
+    }
+drawn_from seen seen' job job' own own' mid told told' later (Err (put.Memory logged)) broken point line mine spent d =
+    (record { own_same = d.0.own_same ∙ mine; told_same = d.0.told_same ∙ spent }, d.1)
+drawn_from seen seen' job job' own own' mid told told' later (Err (put.WriteFault number)) broken point line mine spent d =
+    (record { own_same = d.0.own_same ∙ mine; told_same = d.0.told_same ∙ spent }, d.1, d.2)
+drawn_from seen seen' job job' own own' mid told told' later (Err (put.NumbersSpent last)) broken point line mine spent d = record {
+  own_same = d.own_same ∙ mine;
+  told_last = d.told_last ∙ ap (λ (l : List ℕ). l ++ last ∷ []) spent;
+  limit = d.limit;
+}

@@ -3,6 +3,7 @@ pub mod Jobs
 pub mod Histories
 pub mod Hands
 pub mod Marks
+pub mod Draws
 pub mod Tries
 pub mod Passes
 pub mod Puts

@@ -1,5 +1,5 @@
 -- The steps of a put.
-use Rattle.std.specs.Prelude.{◌≡◌, ℕ, ◌-◌, ◌^◌, ◌<◌, ◌≤◌, Bool, true, false, List, [], ◌∷◌, ◌++◌, Some, None, slice_index}
+use Rattle.std.specs.Prelude.{◌≡◌, ℕ, ◌-◌, ◌<◌, ◌≤◌, Bool, true, false, List, Some, None, slice_index}
 use Rattle.std.specs.declared.result.Result.{Result}
 use Rattle.std.specs.declared.result.Result.TheVariants.{Ok, Err}
 use Rattle.log_berth.specs.declared.known.Known.{Known}
@@ -9,20 +9,21 @@ use Rattle.region_model.specs.Lines.{Line}
 use Rattle.region_lock.specs.declared.job.Job.{Job}
 use Rattle.region_lock.specs.declared.answers.PutRefusal.{PutRefusal}
 use Rattle.region_lock.specs.declared.answers.PutRefusal.TheVariants as put
-use Rattle.region_lock.specs.Jobs.{IsJobBack, line_of}
-use Rattle.region_lock.specs.Parts.{AreBelow}
+use Rattle.region_lock.specs.Jobs.{IsJobBack}
+use Rattle.region_lock.specs.Draws.{DrewNumber, SpentNumbers, DrewNone}
 
 -- A number was drawn above what was seen, and its line is the handler's last one; or none was drawn, and why.
 abbrev pub IsDrawn : ℕ → Job → List Line → List ℕ → Result ℕ PutRefusal → List Line → List ℕ → Bool → Type 0
-IsDrawn seen job own told (Ok n) own' told' broken = (own' ≡ own ++ line_of n job ∷ []) × (told' ≡ told) × (seen < n) × (n < 2 ^ 48) × AreBelow n own
-IsDrawn seen job own told (Err (put.Memory logged)) own' told' broken = (own' ≡ own) × (told' ≡ told) × (logged ≡ None)
-IsDrawn seen job own told (Err (put.WriteFault number)) own' told' broken = (own' ≡ own) × (told' ≡ told) × (number ≡ None) × (broken ≡ true)
-IsDrawn seen job own told (Err (put.NumbersSpent last)) own' told' broken = (own' ≡ own) × (told' ≡ told ++ last ∷ []) × (last ≡ 2 ^ 48 - 1)
+IsDrawn seen job own told (Ok n) own_after told_after broken = DrewNumber seen job n own told own_after told_after
+IsDrawn seen job own told (Err (put.Memory logged)) own_after told_after broken = DrewNone own told own_after told_after × (logged ≡ None)
+IsDrawn seen job own told (Err (put.WriteFault number)) own_after told_after broken =
+    DrewNone own told own_after told_after × (number ≡ None) × (broken ≡ true)
+IsDrawn seen job own told (Err (put.NumbersSpent last)) own_after told_after broken = SpentNumbers last own told own_after told_after
 
 -- the same of one try; or nothing changed, and the job came back
 abbrev pub IsAttempted : ℕ → ℕ → Job → List Line → List ℕ → Result (Result ℕ PutRefusal) Job → List Line → List ℕ → Bool → Type 0
-IsAttempted seen r job own told (Ok drawn) own' told' broken = IsDrawn seen job own told drawn own' told' broken
-IsAttempted seen r job own told (Err back) own' told' broken = (own' ≡ own) × (told' ≡ told) × IsJobBack r job back
+IsAttempted seen r job own told (Ok drawn) own_after told_after broken = IsDrawn seen job own told drawn own_after told_after broken
+IsAttempted seen r job own told (Err back) own_after told_after broken = DrewNone own told own_after told_after × IsJobBack r job back
 
 -- how often the fault word was loaded in one try: once after the ring was full, and the job comes back only where that load found it clear
 abbrev pub IsWatched : Result (Result ℕ PutRefusal) Job → Known → Known → Type 0

@@ -1,4 +1,4 @@
-pub use Rattle.handler_threads.proofs.region_calls as region_calls
-pub use Rattle.handler_threads.proofs as handler_threads
+pub use Rattle.handler_threads.proofs.region_calls_laws as region_calls_laws
+pub use Rattle.handler_threads.proofs as handler_threads_laws
 pub mod GetLaws
 mod Laws

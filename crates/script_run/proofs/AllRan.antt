@@ -41,7 +41,7 @@ use Rattle.script_handlers.specs.region_calls.Bases.{AreBasesOf}
 use Rattle.script_handlers.specs.region_calls.Closes.{IsLeft}
 use Rattle.script_handlers.specs.region_calls.Seeds.{base_at}
 use Rattle.script_handlers.specs.region_calls.Wordings.{region_of}
-use Rattle.script_handlers.proofs.region_calls.NamedSeeds.{base_of_region}
+use Rattle.script_handlers.proofs.region_calls_laws.NamedSeeds.{base_of_region}
 use Rattle.script_handlers.specs.region_calls.declared.closed.ClosedRegion.{ClosedRegion}
 use Rattle.script_run.specs.Ends.{closed_at, HasClosed}
 use Rattle.std.proofs.Math.Logic.{∥∥₁_map}

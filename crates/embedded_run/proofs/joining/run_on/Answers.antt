@@ -3,7 +3,7 @@ use Rattle.std.proofs.Common.{ℕ, zero, suc, ◌<◌, List, [], ◌∷◌, slic
 use Rattle.std.proofs.Crossing.{crosses}
 use Rattle.embedded.specs.log_service.declared.seats.LogSeat.{LogSeat}
 use Rattle.embedded.specs.log_service.Places.{IsSeatOf}
-use Rattle.embedded.proofs.handler_threads.Crossing.{handler_pass_send, server_sync}
+use Rattle.embedded.proofs.handler_threads_laws.Crossing.{handler_pass_send, server_sync}
 use Rattle.embedded_run.proofs.job.SessionJob.TheSendSync as job
 use Rattle.embedded_run.proofs.seated.Seated.TheSendSync as seated
 use Rattle.embedded_run.proofs.joining.run_on.Goals as goal

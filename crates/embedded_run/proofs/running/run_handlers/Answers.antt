@@ -3,7 +3,7 @@ use Rattle.log_model.specs.Files.{IsSound}
 use Rattle.embedded.specs.wal_split.Moments.{During, WasOrAlike}
 use Rattle.run_model.specs.Headline.{KeepsThroughout}
 use Rattle.embedded.specs.region_calls.Store.{disk_now, handlers_of}
-use Rattle.embedded.proofs.region_calls.OwnNames.{own_name}
+use Rattle.embedded.proofs.region_calls_laws.OwnNames.{own_name}
 use Rattle.embedded.specs.Flushers.{callers}
 use Rattle.embedded.proofs.Flushing.{may_flush}
 use Rattle.embedded_run.specs.Ends.{disk_of}

@@ -1,5 +1,5 @@
 use Rattle.std.proofs.Common.{◌^◌}
-use Rattle.embedded.proofs.region_calls.OwnNames.{server_named, locks_named, service_named, versions_named}
+use Rattle.embedded.proofs.region_calls_laws.OwnNames.{server_named, locks_named, service_named, versions_named}
 use Rattle.embedded.specs.region_calls.Store.{handlers_of}
 use Rattle.embedded.specs.Flushers.{callers}
 use Rattle.embedded_run.proofs.running.run_handlers.Given as goal

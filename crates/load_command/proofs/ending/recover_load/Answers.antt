@@ -6,7 +6,7 @@ use Rattle.command_base.specs.Invocation.{invocation}
 use Rattle.command_base.specs.Status.{refusal_line, IsComplete, IsReadingEnd}
 use Rattle.command_base.specs.declared.status.Status.{Status}
 use Rattle.command_base.proofs.Readers.{lined}
-use Rattle.run_command.proofs.recover_command.Telling.{reads_refused, fault_refused}
+use Rattle.run_command.proofs.recover_command_laws.Telling.{reads_refused, fault_refused}
 use Rattle.run_command.specs.recover_command.Refusals.{refused_as}
 use Rattle.load_command.specs.Counted.{cells_of}
 use Rattle.load_command.specs.Ends.{EndsLoad}

@@ -4,4 +4,10 @@ use Rattle.region_lock.proofs.put.attempt.Goals as goal
 pub returns-in-Begun-clause-drawn : goal.returns-in-Begun-clause-drawn
 returns-in-Begun-clause-drawn g c =
     let t = c.in-Begun.ensures.tried in
-    (t.0, t.1, omega (arith, t.2, c.seen-seen.ensures), t.3, t.4)
+    record {
+      listed = t.listed;
+      told_same = t.told_same;
+      above_seen = omega (arith, t.above_seen, c.seen-seen.ensures);
+      limit = t.limit;
+      above_own = t.above_own;
+    }

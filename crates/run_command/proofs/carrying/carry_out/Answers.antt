@@ -4,7 +4,7 @@ use Rattle.script_model.specs.Calls.{Script}
 use Rattle.script_run.specs.region_calls.Names.{name_of}
 use Rattle.script_run.specs.region_calls.Seeds.{base_at, lasts_of}
 use Rattle.script_run.specs.region_calls.Store.{bases_of, disk_found, disk_now, handlers_of, regions_of}
-use Rattle.script_run.proofs.region_calls.OwnNames.{own_name}
+use Rattle.script_run.proofs.region_calls_laws.OwnNames.{own_name}
 use Rattle.run_model.specs.Closed.{flushes_in}
 use Rattle.recover_command.specs.wal_split.Moments.{During, WasOrAlike}
 use Rattle.run_model.specs.Headline.{KeepsFound, KeepsThroughout}

@@ -1,4 +1,4 @@
-use Rattle.script_run.proofs.region_calls.OwnNames.{server_named, locks_named, service_named, versions_named}
+use Rattle.script_run.proofs.region_calls_laws.OwnNames.{server_named, locks_named, service_named, versions_named}
 use Rattle.script_run.specs.region_calls.Store.{regions_of}
 use Rattle.run_model.specs.Closed.{flushes_in}
 use Rattle.script_run.specs.Rooms.{script_in}

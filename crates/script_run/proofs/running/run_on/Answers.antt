@@ -3,7 +3,7 @@ use Rattle.std.proofs.Common.{List, ◌∷◌, slice_index_or, sym, ap, ◌∙�
 use Rattle.std.proofs.Crossing.{crosses}
 use Rattle.script_handlers.specs.log_service.declared.seats.LogSeat.{LogSeat}
 use Rattle.script_handlers.specs.log_service.Places.{IsSeatOf}
-use Rattle.script_handlers.proofs.handler_threads.Crossing.{handler_pass_send, server_sync}
+use Rattle.script_handlers.proofs.handler_threads_laws.Crossing.{handler_pass_send, server_sync}
 use Rattle.script_handlers.proofs.calling.Calling.TheSendSync as calling
 use Rattle.script_handlers.proofs.handler.Handler.TheSendSync as handler
 use Rattle.script_run.proofs.running.run_on.Goals as goal
