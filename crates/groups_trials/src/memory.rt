@@ -1,14 +1,16 @@
 //! A run on two disks to which memory may be refused, over disks and streams that take none once they are made. With ample memory it is a plain
-//! test; the tests are run once for each allocation that is refused outside the gate.
+//! test; it is run once for each allocation that is refused outside the gate.
 
+use crate::gate::MeetingGate;
 use disk_fakes::{SafeDisk, SafeSink, SafeSource};
-use group_stores::GroupList;
+use groups_command::group_stores::GroupList;
 use groups_command::{GroupsStatus, run_groups};
-use kv_cell::NoMemory;
-use region_calls::FreeGate;
 use std::alloc::Global;
+use std::process::Abort;
 use std::str;
+use std::sync::Wait;
 use std::test::Fail as TestFail;
+use std::thread::Threads;
 
 /// Room for the calls and the bytes of a disk, and for the bytes of an output.
 const ROOM: usize = 8_192;
@@ -33,39 +35,49 @@ struct Given {
     sink: SafeSink,
 }
 
-fn prepare(alloc: Global) -> Result<Given, NoMemory> {
-    Ok(Given {
-        first: SafeDisk::new(alloc, ROOM)?,
-        second: SafeDisk::new(alloc, ROOM)?,
-        source: SafeSource::new(alloc, SCRIPT.as_bytes())?,
-        sink: SafeSink::new(alloc, ROOM)?,
+fn prepare(alloc: Global) -> Option<Given> {
+    Some(Given {
+        first: SafeDisk::new(alloc, ROOM).ok()?,
+        second: SafeDisk::new(alloc, ROOM).ok()?,
+        source: SafeSource::new(alloc, SCRIPT.as_bytes()).ok()?,
+        sink: SafeSink::new(alloc, ROOM).ok()?,
     })
 }
 
-// Where the trial itself wants memory, there is nothing to look at.
-#[test]
-fn refused_or_done(rt: HostRuntime) -> Result<(), TestFail> {
-    let alloc = rt.alloc();
-    let Ok(given) = prepare(alloc) else {
-        return Ok(());
-    };
+/// A run: its status, and what it printed.
+fn run_given<R: Threads + Wait + Sync + AllocGlobal>(
+    rt: &R,
+    given: Given,
+) -> (GroupsStatus, SafeSink) {
     let Given {
         first,
         second,
         mut source,
         mut sink,
     } = given;
+    let gate = MeetingGate::new(0);
     let disks = GroupList::of(first, Some(second), None, None);
-    let outcome = run_groups(&rt, alloc, &["2"], &mut source, disks, &mut sink, &FreeGate);
-    let text = str::from_utf8(sink.as_slice())?;
-    if outcome.status == GroupsStatus::Memory {
-        assert!(rt;
-            text == "refused memory\n" || text.ends_with("end 1\n"),
-            "{text}"
-        );
-    } else {
-        assert_eq!(rt; outcome.status, GroupsStatus::Done);
-        assert!(rt; text.ends_with("end 0\n"), "{text}");
+    let outcome = run_groups(rt, rt.alloc(), &["2"], &mut source, disks, &mut sink, &gate);
+    (outcome.status, sink)
+}
+
+/// Whether a run may end so: done, or refused memory, which the report tells or the one line in its place.
+fn may_end(status: GroupsStatus, text: &str) -> bool {
+    match status {
+        GroupsStatus::Done => text.ends_with("\nend 0\n"),
+        GroupsStatus::Memory => text.ends_with("\nend 1\n") || text == "refused memory\n",
+        _ => false,
     }
+}
+
+// Where the trial itself wants memory, there is nothing to look at.
+#[test]
+fn done_or_refused(rt: HostRuntime) -> Result<(), TestFail> {
+    let Some(given) = prepare(rt.alloc()) else {
+        return Ok(());
+    };
+    let (status, sink) = run_given(&rt, given);
+    let text = str::from_utf8(sink.as_slice())?;
+    assert!(rt; may_end(status, text), "{status:?}: {text}");
     Ok(())
 }

@@ -1,13 +1,15 @@
-//! Worked runs on two disks.
+//! Worked runs on two empty disks, and what a crash leaves of them.
 
-use crate::bench::{empty_disk, run_free, run_past};
-use disk_fakes::MemDisk;
-use disk_images::{Name, NameKind};
+use crate::bench::{Call, Pair, assert_ended, empty_pair, of_two, run_on};
 use groups_command::GroupsStatus;
-use region_calls::FreeGate;
+use std::alloc::Global;
+use std::process::Abort;
+use std::sync::Wait;
 use std::test::Fail as TestFail;
+use std::thread::Threads;
 
-const SCRIPT: &str = "time 1700000000000
+/// Each handler calls on a region of its own, so on a group of its own; the second one's roll ends the log of the second disk.
+pub(crate) const SCRIPT: &str = "time 1700000000000
 regions 2
 handlers 2
 put 1 1 sync 2
@@ -38,72 +40,123 @@ cell 1 k1 f q 5 put v
 end 0
 ";
 
-fn name(kind: NameKind, region: u32, number: u64) -> Name {
-    Name {
-        kind,
-        region,
-        number,
-    }
+const TWO_PUTS: &str = "time 1000
+regions 2
+handlers 2
+put 1 1 sync 1
+cell r f q 1 put v
+put 2 2 sync 1
+cell r f q 1 put w
+";
+
+const PUTS_REPORT: &str = "hwal 1
+region 1 base 0 0
+edit 1 1 1 done
+region 2 base 0 0
+edit 1 2 1 done
+reply 1 1 put ok 1
+reply 2 1 put ok 1
+end 0
+";
+
+const FAULT_REPORT: &str = "hwal 1
+region 1 base 0 0
+edit 1 1 1 failed
+region 2 base 0 0
+edit 1 2 1 done
+reply 1 1 put fault 1
+reply 2 1 put ok 1
+end 5
+";
+
+/// A script without calls: a run of it prints what was found.
+pub(crate) const NO_CALLS: &str = "time 1\nregions 2\nhandlers 1\n";
+
+/// What it prints behind the first script.
+pub(crate) const FOUND: &str = "hwal 1\nregion 1 base 1 2\nregion 2 base 1 1\nend 0\n";
+
+const BOTH: &str = "hwal 1\nregion 1 base 1 1\nregion 2 base 1 1\nend 0\n";
+
+const SECOND: &str = "hwal 1\nregion 1 base 0 0\nregion 2 base 1 1\nend 0\n";
+
+const NONE: &str = "hwal 1\nregion 1 base 0 0\nregion 2 base 0 0\nend 0\n";
+
+/// A run on empty disks: its word and script, how many puts wait for one another, and which sync of the first disk fails, counted from 1; its status
+/// and what it prints; and what is found of whatever a crash may leave then.
+type Row = (
+    &'static str,
+    &'static str,
+    u64,
+    u64,
+    GroupsStatus,
+    &'static str,
+    &'static str,
+);
+
+// In the second row each put is held behind its edit until the other's edit, in the other log, is logged too. In the third the first sync of the first
+// put's commit fails.
+const ROWS: [Row; 4] = [
+    ("2", SCRIPT, 0, 0, GroupsStatus::Done, REPORT, FOUND),
+    ("2", TWO_PUTS, 2, 0, GroupsStatus::Done, PUTS_REPORT, BOTH),
+    (
+        "2",
+        TWO_PUTS,
+        0,
+        2,
+        GroupsStatus::DiskFault,
+        FAULT_REPORT,
+        SECOND,
+    ),
+    (
+        "3",
+        TWO_PUTS,
+        0,
+        0,
+        GroupsStatus::Usage,
+        "refused usage\n",
+        NONE,
+    ),
+];
+
+/// What a crash at the last moment may leave.
+fn crash_of(alloc: Global, disks: &Pair, choice: u64) -> Result<Pair, TestFail> {
+    let first = disks.first.crash(alloc, disks.first.clock(), choice)?;
+    let second = disks.second.crash(alloc, disks.second.clock(), choice)?;
+    Ok(Pair { first, second })
 }
 
-/// Whether the disk has these two files and no other log or store of the regions.
-fn has_two(disk: &MemDisk, files: [Name; 2]) -> bool {
-    let mut count = 0;
-    for file in [
-        name(NameKind::Log, 0, 1),
-        name(NameKind::Log, 0, 2),
-        name(NameKind::Store, 1, 1),
-        name(NameKind::Store, 2, 1),
-    ] {
-        if disk.bytes(file).is_some() {
-            count += 1;
-        }
+fn assert_found<R: Threads + Wait + Sync + AllocGlobal + Abort>(
+    rt: &R,
+    disks: &Pair,
+    text: &str,
+) -> Result<(), TestFail> {
+    for choice in 0..4 {
+        let again = run_on(rt, of_two(NO_CALLS), crash_of(rt.alloc(), disks, choice)?)?;
+        assert_ended(rt, &again, GroupsStatus::Done, text);
     }
-    let [one, two] = files;
-    count == 2 && disk.bytes(one).is_some() && disk.bytes(two).is_some()
-}
-
-// The second handler's roll closes the log of the second disk, which has its own put alone.
-#[test]
-fn each_region_on_its_disk(rt: HostRuntime) -> Result<(), TestFail> {
-    let alloc = rt.alloc();
-    let ran = run_free(
-        &rt,
-        SCRIPT,
-        empty_disk(alloc, &[])?,
-        empty_disk(alloc, &[])?,
-    )?;
-    assert_eq!(rt; ran.status, GroupsStatus::Done);
-    assert_eq!(rt; ran.text.as_str(), REPORT);
-    let log = name(NameKind::Log, 0, 1);
-    assert!(rt; has_two(&ran.first, [log, name(NameKind::Store, 1, 1)]));
-    assert!(rt; has_two(&ran.second, [log, name(NameKind::Log, 0, 2)]));
-    // The disks in the other order.
-    let again = run_free(&rt, SCRIPT, ran.second, ran.first)?;
-    let wrong = GroupsStatus::WrongGroup { disk: 1, region: 2 };
-    assert_eq!(rt; again.status, wrong);
-    assert_eq!(rt; again.text.as_str(), "refused group 1 2\n");
-    // And in their own again.
-    let third = run_free(
-        &rt,
-        "time 1\nregions 2\nhandlers 1\n",
-        again.second,
-        again.first,
-    )?;
-    assert_eq!(rt; third.status, GroupsStatus::Done);
-    let report = "hwal 1\nregion 1 base 1 2\nregion 2 base 1 1\nend 0\n";
-    assert_eq!(rt; third.text.as_str(), report);
     Ok(())
 }
 
+fn assert_row<R: Threads + Wait + Sync + AllocGlobal + Abort>(
+    rt: &R,
+    row: Row,
+) -> Result<(), TestFail> {
+    let (word, script, meeting, failing, status, text, found) = row;
+    let call = Call {
+        word,
+        script,
+        meeting,
+    };
+    let ran = run_on(rt, call, empty_pair(rt.alloc(), failing)?)?;
+    assert_ended(rt, &ran, status, text);
+    assert_eq!(rt; ran.vain, 0);
+    assert_found(rt, &ran.disks, found)
+}
+
 #[test]
-fn words_name_the_disks(rt: HostRuntime) -> Result<(), TestFail> {
-    let alloc = rt.alloc();
-    for word in ["1", "3", "02", "two", ""] {
-        let (first, second) = (empty_disk(alloc, &[])?, empty_disk(alloc, &[])?);
-        let ran = run_past(&rt, word, SCRIPT, first, second, &FreeGate)?;
-        assert_eq!(rt; ran.status, GroupsStatus::Usage);
-        assert_eq!(rt; ran.text.as_str(), "refused usage\n");
+fn runs_on_empty_disks(rt: HostRuntime) -> Result<(), TestFail> {
+    for row in ROWS {
+        assert_row(&rt, row)?;
     }
     Ok(())
 }
