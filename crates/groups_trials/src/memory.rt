@@ -1,5 +1,5 @@
 //! A run on two disks to which memory may be refused, over disks and streams that take none once they are made. With ample memory it is a plain
-//! test; it is run once for each allocation that is refused outside the gate.
+//! test; `tools/refusals` runs the built test once for each allocation, and has that one refused.
 
 use crate::gate::MeetingGate;
 use disk_fakes::{SafeDisk, SafeSink, SafeSource};
