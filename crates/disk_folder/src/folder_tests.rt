@@ -247,6 +247,31 @@ fn one_program_writes(rt: HostRuntime) -> Result<(), Fail> {
 }
 
 #[test]
+fn named_folders_are_apart(rt: HostRuntime) -> Result<(), Fail> {
+    clear(&rt);
+    let alloc = rt.alloc();
+    let mut first = FolderDisk::new(&rt, alloc, Access::Writing);
+    let mut second = FolderDisk::named(&rt, alloc, "hwal-other", Access::Writing);
+    for (at, (step, other)) in [
+        (Create(Log(1)), Create(Log(1))),
+        (Write(Log(1), 0, b"one"), Write(Log(1), 0, b"two")),
+        (Create(Old(2)), Lacks(Old(2))),
+        (Remove(Old(2)), Create(Old(2))),
+        (Lacks(Old(2)), Has(Old(2), 0, b"")),
+        (Has(Log(1), 0, b"one"), Has(Log(1), 0, b"two")),
+    ]
+    .into_iter()
+    .enumerate()
+    {
+        assert!(rt; done(&mut first, step), "step {at}");
+        assert!(rt; done(&mut second, other), "step {at} of the other");
+    }
+    clear(&rt);
+    let _ = fs::remove_dir_all(&rt, "hwal-other");
+    Ok(())
+}
+
+#[test]
 fn reading_asks_for_no_write(rt: HostRuntime) -> Result<(), Fail> {
     clear(&rt);
     fs::create_dir(&rt, "hwal-store")?;

@@ -1,0 +1,162 @@
+//! Worked runs on two empty disks, and what a crash leaves of them.
+
+use crate::bench::{Call, Pair, assert_ended, empty_pair, of_two, run_on};
+use groups_command::GroupsStatus;
+use std::alloc::Global;
+use std::process::Abort;
+use std::sync::Wait;
+use std::test::Fail as TestFail;
+use std::thread::Threads;
+
+/// Each handler calls on a region of its own, so on a group of its own; the second one's roll ends the log of the second disk.
+pub(crate) const SCRIPT: &str = "time 1700000000000
+regions 2
+handlers 2
+put 1 1 sync 2
+cell user1 info name now put Ann
+cell user1 info mail now put ann@x
+put 2 2 sync 1
+cell k1 f q 5 put v
+scan 1 1 - -
+flush 1 1
+roll 2
+scan 2 2 k1 k2
+";
+
+const REPORT: &str = "hwal 1
+region 1 base 0 0
+edit 1 1 1 done
+region 2 base 0 0
+edit 1 2 1 done
+reply 1 1 put ok 1
+reply 1 2 scan 1 2
+cell 1 user1 info mail 1700000000000 put ann@x
+cell 1 user1 info name 1700000000000 put Ann
+reply 1 3 flush ok 1
+reply 2 1 put ok 1
+reply 2 2 roll ok 1 1
+reply 2 3 scan 1 1
+cell 1 k1 f q 5 put v
+end 0
+";
+
+const TWO_PUTS: &str = "time 1000
+regions 2
+handlers 2
+put 1 1 sync 1
+cell r f q 1 put v
+put 2 2 sync 1
+cell r f q 1 put w
+";
+
+const PUTS_REPORT: &str = "hwal 1
+region 1 base 0 0
+edit 1 1 1 done
+region 2 base 0 0
+edit 1 2 1 done
+reply 1 1 put ok 1
+reply 2 1 put ok 1
+end 0
+";
+
+const FAULT_REPORT: &str = "hwal 1
+region 1 base 0 0
+edit 1 1 1 failed
+region 2 base 0 0
+edit 1 2 1 done
+reply 1 1 put fault 1
+reply 2 1 put ok 1
+end 5
+";
+
+/// A script without calls: a run of it prints what was found.
+pub(crate) const NO_CALLS: &str = "time 1\nregions 2\nhandlers 1\n";
+
+/// What it prints behind the first script.
+pub(crate) const FOUND: &str = "hwal 1\nregion 1 base 1 2\nregion 2 base 1 1\nend 0\n";
+
+const BOTH: &str = "hwal 1\nregion 1 base 1 1\nregion 2 base 1 1\nend 0\n";
+
+const SECOND: &str = "hwal 1\nregion 1 base 0 0\nregion 2 base 1 1\nend 0\n";
+
+const NONE: &str = "hwal 1\nregion 1 base 0 0\nregion 2 base 0 0\nend 0\n";
+
+/// A run on empty disks: its word and script, how many puts wait for one another, and which sync of the first disk fails, counted from 1; its status
+/// and what it prints; and what is found of whatever a crash may leave then.
+type Row = (
+    &'static str,
+    &'static str,
+    u64,
+    u64,
+    GroupsStatus,
+    &'static str,
+    &'static str,
+);
+
+// In the second row each put is held behind its edit until the other's edit, in the other log, is logged too. In the third the first sync of the first
+// put's commit fails.
+const ROWS: [Row; 4] = [
+    ("2", SCRIPT, 0, 0, GroupsStatus::Done, REPORT, FOUND),
+    ("2", TWO_PUTS, 2, 0, GroupsStatus::Done, PUTS_REPORT, BOTH),
+    (
+        "2",
+        TWO_PUTS,
+        0,
+        2,
+        GroupsStatus::DiskFault,
+        FAULT_REPORT,
+        SECOND,
+    ),
+    (
+        "3",
+        TWO_PUTS,
+        0,
+        0,
+        GroupsStatus::Usage,
+        "refused usage\n",
+        NONE,
+    ),
+];
+
+/// What a crash at the last moment may leave.
+fn crash_of(alloc: Global, disks: &Pair, choice: u64) -> Result<Pair, TestFail> {
+    let first = disks.first.crash(alloc, disks.first.clock(), choice)?;
+    let second = disks.second.crash(alloc, disks.second.clock(), choice)?;
+    Ok(Pair { first, second })
+}
+
+fn assert_found<R: Threads + Wait + Sync + AllocGlobal + Abort>(
+    rt: &R,
+    disks: &Pair,
+    text: &str,
+) -> Result<(), TestFail> {
+    for choice in 0..4 {
+        let again = run_on(rt, of_two(NO_CALLS), crash_of(rt.alloc(), disks, choice)?)?;
+        assert_ended(rt, &again, GroupsStatus::Done, text);
+    }
+    Ok(())
+}
+
+fn assert_row<R: Threads + Wait + Sync + AllocGlobal + Abort>(
+    rt: &R,
+    row: Row,
+) -> Result<(), TestFail> {
+    let (word, script, meeting, failing, status, text, found) = row;
+    let call = Call {
+        word,
+        script,
+        meeting,
+    };
+    let ran = run_on(rt, call, empty_pair(rt.alloc(), failing)?)?;
+    assert_ended(rt, &ran, status, text);
+    assert_eq!(rt; ran.vain, 0);
+    assert_found(rt, &ran.disks, found)
+}
+
+#[test]
+fn runs_on_empty_disks(rt: HostRuntime) -> Result<(), TestFail> {
+    for row in ROWS {
+        assert_row(&rt, row)?;
+    }
+    Ok(())
+}
