@@ -1,3 +1,4 @@
+pub mod FaultLaws
 pub mod FewLaws
 pub mod FillingLaws
 pub mod GroupLaws
