@@ -66,11 +66,7 @@ fn take_turns(berth: &Berth<Counter>, mut seat: LogSeat) -> (LogSeat, u64, bool)
 }
 
 // Lets the ware fail by the second seat, and says whether the first one sees the fault then, and can't count up.
-fn fault_ends_the_raises(
-    berth: &Berth<Counter>,
-    first: &mut LogSeat,
-    second: &mut LogSeat,
-) -> bool
+fn fault_ends_the_raises(berth: &Berth<Counter>, first: &mut LogSeat, second: &mut LogSeat) -> bool
     requires berth { berth.now.regions ≡ 2 }
     requires first { (first.old.berth ≡ berth.now.id) × (first.old.knows.turn ≡ false) }
     requires second { (second.old.berth ≡ berth.now.id) × (second.old.knows.turn ≡ false) }
