@@ -65,21 +65,6 @@ fn take_turns(berth: &Berth<Counter>, mut seat: LogSeat) -> (LogSeat, u64, bool)
     (seat, counted, fell)
 }
 
-// Lets the ware fail by the second seat, and says whether the first one sees the fault then, and can't count up.
-fn fault_ends_the_raises(berth: &Berth<Counter>, first: &mut LogSeat, second: &mut LogSeat) -> bool
-    requires berth { berth.now.regions ≡ 2 }
-    requires first { (first.old.berth ≡ berth.now.id) × (first.old.knows.turn ≡ false) }
-    requires second { (second.old.berth ≡ berth.now.id) × (second.old.knows.turn ≡ false) }
-    ensures first { (first.new.berth ≡ first.old.berth) × (first.new.knows.turn ≡ false) }
-    ensures second { (second.new.berth ≡ second.old.berth) × (second.new.knows.turn ≡ false) }
-{
-    let was_broken = berth.broken(second);
-    let failed = fail(berth, second);
-    let is_broken = berth.broken(first);
-    let counted = count_up(berth, first);
-    !was_broken && failed && is_broken && !counted
-}
-
 #[test]
 fn two_seats_take_turns_until_a_fault(rt: HostRuntime) -> Result<(), Fail> {
     let ware = Counter {
@@ -91,7 +76,8 @@ fn two_seats_take_turns_until_a_fault(rt: HostRuntime) -> Result<(), Fail> {
         return Err("ample memory")?;
     };
     let (seats, mut first, second) = handed_out(&berth, seats);
-    assert!(rt; berth.seen(&mut first, 1) == 7 && berth.seen(&mut first, 2) == 3);
+    assert_eq!(rt; berth.seen(&mut first, 1), 7);
+    assert_eq!(rt; berth.seen(&mut first, 2), 3);
     let ((mut first, here, fell), (mut second, there, fell_too)) = thread::join(
         &rt,
         || take_turns(&berth, first),
@@ -99,8 +85,11 @@ fn two_seats_take_turns_until_a_fault(rt: HostRuntime) -> Result<(), Fail> {
     );
     assert!(rt; !fell && !fell_too);
     let raised = 7u64.saturating_add(here).saturating_add(there);
-    assert!(rt; berth.seen(&mut second, 1) == raised);
-    assert!(rt; fault_ends_the_raises(&berth, &mut first, &mut second));
+    assert_eq!(rt; berth.seen(&mut second, 1), raised);
+    assert!(rt; !berth.broken(&mut second));
+    assert!(rt; fail(&berth, &mut second));
+    assert!(rt; berth.broken(&mut first));
+    assert!(rt; !count_up(&berth, &mut first));
     let berthed = closed(berth, seats, first, second);
     assert_eq!(rt; berthed.synced.as_slice(), [raised, 3].as_slice());
     assert!(rt; berthed.broken && berthed.ware.first == raised);
