@@ -51,12 +51,12 @@ fn disks_in_the_other_order(rt: HostRuntime) -> Result<(), TestFail> {
     Ok(())
 }
 
-/// Makes a log that is none.
+/// Makes a log that is none, longer than one that a crash may cut short.
 fn spoil<R: Abort>(rt: &R, disk: &mut MemDisk) -> Result<(), TestFail> {
     disk.settle()?;
     assert!(rt; disk.bytes(LOG_1).is_none());
     disk.create(LOG_1)?;
-    disk.write_at(LOG_1, 0, b"no log")?;
+    disk.write_at(LOG_1, 0, b"this is no log of a store")?;
     Ok(())
 }
 
