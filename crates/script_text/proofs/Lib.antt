@@ -1,4 +1,3 @@
-pub mod FaultLaws
 pub mod FewLaws
 pub mod FillingLaws
 pub mod GroupLaws

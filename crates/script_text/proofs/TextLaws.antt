@@ -1,13 +1,13 @@
 -- Lines, words, numbers and tokens, a step at a time.
-use Rattle.std.proofs.Common.{◌≡◌, ◌≢◌, ◌⊎◌, inl, inr, ℕ, zero, suc, ◌+◌, ◌*◌, ◌-◌, ◌^◌, ◌<◌, ◌≤◌, Bool, true, false, ◌&&◌, List, [], ◌∷◌, ◌++◌, length, take, drop, get_or, filter, Option, Some, None, refl, sym, ap, ◌∙◌, arith, nat_eq, nat_lt, nat_le, append_assoc, append-nil, not, map, add-one}
+use Rattle.std.proofs.Common.{◌≡◌, ◌≢◌, ℕ, zero, suc, ◌+◌, ◌*◌, ◌-◌, ◌^◌, ◌<◌, ◌≤◌, Bool, true, false, ◌&&◌, List, [], ◌∷◌, ◌++◌, length, take, drop, get_or, filter, Option, Some, None, refl, sym, ap, ◌∙◌, arith, nat_eq, nat_lt, append_assoc, not, map, add-one}
 use Rattle.std.specs.Option.{option_map}
 use Rattle.std.specs.List.{list_all}
 use Rattle.std.proofs.lemmas.List.{map_push}
-use Rattle.std.proofs.lemmas.Bool.{ltb-true, ltb-false, ne_eqb, eq-eqb, le-ltb, le-leb, lt-leb}
+use Rattle.std.proofs.lemmas.Bool.{ltb-true, ltb-false, ne_eqb, eq-eqb, le-ltb}
 use Rattle.std.proofs.lemmas.Bool.Decides.{nat_tests}
 use Rattle.std.proofs.lemmas.List.{take-append-drop, take_more, length-take-le, take_all, drop_all}
 use Rattle.std.proofs.lemmas.List.Folds.{list_all_at, list_all_more}
-use Rattle.script_model.specs.Text.{lines_of, pieces_of, words_of, value_from, is_digit, is_number, is_plain, hex_of, unescaped}
+use Rattle.script_model.specs.Text.{lines_of, pieces_of, words_of, value_from, is_digit, is_number, is_plain, unescaped}
 
 -- a first piece ends in front of the first separator
 pub lines_cut : (bs : List ℕ) (n : ℕ) → n ≤ length bs → ((k : ℕ) → k < n → get_or bs k 0 ≢ 10) → (n < length bs → get_or bs n 0 ≡ 10) → 0 < length bs
@@ -101,31 +101,6 @@ not_number_over w i over =
 pub ruleset number_steps = (value_more, digits_more, not_digit_low, not_digit_high, not_number_over)
 
 -- ---- tokens
-pub plain_within : (b : ℕ) → 33 ≤ b → b ≤ 126 → not (nat_eq b 37) ≡ is_plain b
-plain_within b low high = rw (le-leb 33 b low, le-leb b 126 high) refl
-
-pub plain_without : (b : ℕ) → ((33 ≤ b) × (126 < b)) ⊎ (b < 33) → false ≡ is_plain b
-plain_without b (inl out) = rw (le-leb 33 b out.0, lt-leb b 126 out.1) refl
-plain_without b (inr low) = rw (lt-leb 33 b low) refl
-
-pub hex_digit : (b : ℕ) → 48 ≤ b → b ≤ 57 → hex_of b ≡ Some (b - 48)
-hex_digit b low high = rw (le-leb 48 b low, le-leb b 57 high) refl
-
-pub hex_upper : (b : ℕ) → 65 ≤ b → b ≤ 70 → hex_of b ≡ Some (b - 65 + 10)
-hex_upper b low high = rw (le-leb 48 b (omega arith), lt-leb b 57 (omega arith), le-leb 65 b low, le-leb b 70 high) (ap Some (omega arith))
-
-pub hex_lower : (b : ℕ) → 97 ≤ b → b ≤ 102 → hex_of b ≡ Some (b - 97 + 10)
-hex_lower b low high =
-    rw (le-leb 48 b (omega arith), lt-leb b 57 (omega arith), le-leb 65 b (omega arith), lt-leb b 70 (omega arith), le-leb 97 b low, le-leb b 102 high)
-    (ap Some (omega arith))
-
-within_not : (low high b : ℕ) → (b < low) ⊎ (high < b) → (nat_le low b && nat_le b high) ≡ false
-within_not low high b (inl out) = rw (lt-leb low b out) refl
-within_not low high b (inr out) = rw (lt-leb b high out) (and_false_last _)
-
-pub hex_none : (b : ℕ) → (b < 48) ⊎ (57 < b) → (b < 65) ⊎ (70 < b) → (b < 97) ⊎ (102 < b) → hex_of b ≡ None
-hex_none b digit upper lower = rw (within_not 48 57 b digit, within_not 65 70 b upper, within_not 97 102 b lower) refl
-
 pub unescaped_plain : (b : ℕ) (bs : List ℕ) → is_plain b ≡ true → unescaped (b ∷ bs) ≡ option_map (λ (t : List ℕ). b ∷ t) (unescaped bs)
 unescaped_plain b [] e = rw e refl
 unescaped_plain b (c ∷ []) e = rw e refl
@@ -142,14 +117,6 @@ pub plain_word : (bs : List ℕ) → ((k : ℕ) → k < length bs → is_plain (
 plain_word [] all = refl
 plain_word (b ∷ bs) all = unescaped_plain b bs (all 0 (omega arith)) ∙ ap (option_map (λ (t : List ℕ). b ∷ t)) (plain_word bs (λ k h. all (suc k) (omega arith)))
 
--- no byte so far
-pub none_yet : (acc : List ℕ) (o : Option (List ℕ)) → acc ≡ [] → o ≡ option_map (λ (t : List ℕ). acc ++ t) o
-none_yet acc o e = rw e (by o)
-  where
-    by : (o : Option (List ℕ)) → o ≡ option_map (λ (t : List ℕ). t) o
-    by None = refl
-    by (Some t) = refl
-
 -- one byte more
 pub prepend_more : (acc : List ℕ) (b : ℕ) (o : Option (List ℕ)) → option_map (λ (t : List ℕ). acc ++ t) (option_map (λ (t : List ℕ). b ∷ t) o) ≡ option_map (λ (t : List ℕ). (acc ++ b ∷ []) ++ t) o
 prepend_more acc b None = refl
@@ -160,8 +127,3 @@ pub unescaped_more : (word acc new rest behind : List ℕ) (b n : ℕ) → unesc
     → unescaped word ≡ option_map (λ (t : List ℕ). new ++ t) (unescaped behind)
 unescaped_more word acc new rest behind b n told step e at =
     told ∙ (λ i. option_map (λ (t : List ℕ). acc ++ t) (step i)) ∙ prepend_more acc b (unescaped (drop n rest)) ∙ (λ i. option_map (λ (t : List ℕ). sym e i ++ t) (unescaped (sym at i)))
-
--- all bytes are read
-pub all_read : (word acc rest bytes : List ℕ) → unescaped word ≡ option_map (λ (t : List ℕ). acc ++ t) (unescaped rest) → length rest ≡ 0 → bytes ≡ acc → unescaped word ≡ Some bytes
-all_read word acc [] bytes told none is = told ∙ ap Some (append-nil acc ∙ sym is)
-all_read word acc (b ∷ rest) bytes told none is = absurd (omega arith)
