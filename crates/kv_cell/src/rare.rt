@@ -9,9 +9,16 @@ use std::marker::Model;
 
 /// Bytes that few values have, as the tags of a cell: where there are none they take 16 bytes in the value itself, and no
 /// block of memory. Contracts see the list.
-#[derive(Debug, Drop)]
+#[derive(Debug)]
 pub struct RareOctets {
     bytes: Option<Box<Octets>>,
+}
+
+/// By hand, as that of `Octets`.
+impl Drop for RareOctets {
+    fn drop(self) {
+        let RareOctets { bytes: _ } = self;
+    }
 }
 
 impl Model for RareOctets {
