@@ -9,12 +9,13 @@ ghost use Rattle.region_calls.specs.Closes.{IsTaken};
 ghost use Rattle.region_calls.specs.Deals.{AllOf};
 ghost use Rattle.region_calls.specs.Passes.{knows};
 
+use crate::hands::RegionHands;
 use crate::meeting::meet_all;
 use crate::pass::Pass;
 use append_ring::RingKeys;
 use log_service::Item;
 use mem_segments::Base;
-use region_lock::Locked;
+use region_lock::{Locked, RegionPass};
 use region_state::Line;
 use std::sync::{Mutex, Wait};
 
@@ -26,12 +27,21 @@ pub(crate) struct Taken {
 }
 
 impl Taken {
-    /// The last number of its base.
-    fn last(&self) -> u64
-        ensures { result ≡ self.now.base.last }
+    /// The last number of its base. The rest is let go.
+    fn last(self) -> u64
+        ensures { result ≡ self.base.last }
     {
         self.base.last
     }
+}
+
+/// The hands of passes that weren't handed out, and the room for them, are let go: in a function of its own, since their drop is written out
+/// where it is.
+pub(crate) fn let_hands_go<N: region_lock::LockNaming + region_versions::VersionsNaming>(
+    hands: Vec<RegionHands<N>>,
+    rooms: Vec<Vec<RegionPass<N>>>,
+) {
+    let _all = (hands, rooms);
 }
 
 /// This holds. Where it doesn't, which no run shows, it waits for ever: it has no right answer, and a wrong one would be worse.

@@ -15,10 +15,9 @@ ghost use Rattle.server_model.specs.Closing.{IsClosedRegion, Survives, Leaves};
 ghost use Rattle.region_calls.specs.Backs.{AllBack, AreAll, AreSeats, device_seats, seats_of};
 ghost use Rattle.region_calls.specs.Closes.{HasElapsed, HasSurvived, IsLeft};
 ghost use Rattle.region_calls.specs.Deals.{AllOf, AreSeatsOf, passes_back};
-ghost use Rattle.region_calls.specs.Passes.{knows};
 ghost use Rattle.region_calls.specs.Wordings.{region_of};
 
-use crate::apart::{Taken, let_all_go, sure, take_all};
+use crate::apart::{Taken, let_all_go, let_hands_go, sure, take_all};
 use crate::closed::{CloseRefusal, ClosedRegion, ClosedServer};
 use crate::giving::{give_passes, give_seats};
 use crate::helpers::Helpers;
@@ -127,13 +126,14 @@ fn finish<
         rt: _,
     } = server;
     let Passes {
-        regions: _,
-        rooms: _,
+        regions: hands,
+        rooms,
         seats,
         handlers: _,
         out: _,
         mut back,
     } = passes;
+    let_hands_go(hands, rooms);
     let taken = take_all(rt, regions, &mut back, &mut places, room.taken);
     let ServiceClosed {
         disk,
@@ -237,13 +237,14 @@ impl<
             rt: _,
         } = server;
         let Passes {
-            regions: _,
-            rooms: _,
+            regions: hands,
+            rooms,
             seats,
             handlers,
             out: _,
             mut back,
         } = passes;
+        let_hands_go(hands, rooms);
         let all = are_all(back.as_slice(), handlers);
         sure(rt, all);
         let count = regions.len();

@@ -2,7 +2,7 @@
 
 ghost use Rattle.std.specs.Prelude.{◌≡◌, ◌≤◌, ◌+◌, [], length, IfOk, IfErr, vec_capacity};
 ghost use Rattle.append_ring.specs.Parts.{AreNew, AreOut};
-ghost use Rattle.log_service.specs.Places.{ServiceId};
+ghost use Rattle.log_service.specs.log_device.Whole.{disk_of};
 ghost use Rattle.region_calls.specs.Hands.{AreDeals};
 ghost use Rattle.region_calls.specs.Deals.{AreSeatsOf, AreRooms, ArePassesOf, passes_out, passes_back};
 ghost use Rattle.region_calls.specs.Named.{AreFrom, AreNamedSeeds};
@@ -25,7 +25,8 @@ use crate::unlocked::Unlocked;
 use append_ring::RingKeys;
 use disk_images::Disk;
 use kv_cell::NoMemory;
-use log_service::{Item, LogSeat, LogService, ServiceParts, ServiceRefusal};
+use log_service::log_device::Device;
+use log_service::{Item, LogSeat, LogService, Rings, ServiceParts, ServiceRefusal};
 use region_lock::{Locked, RegionPass};
 use std::alloc::Global;
 use std::sync::{Mutex, Wait};
@@ -46,7 +47,6 @@ pub struct Started<
 }
 
 /// All memory of a server under its name, but its log's.
-#[derive(Drop)]
 struct NamedRoom<
     'a,
     N: ServerNaming
@@ -61,6 +61,27 @@ struct NamedRoom<
     locks: Vec<Mutex<Locked<N, &'a R>>>,
     back: Vec<Pass<N>>,
     helpers: Vec<LogSeat>,
+}
+
+/// By hand, so that who drops it calls it: a derived one is written out there.
+impl<
+    'a,
+    N: ServerNaming
+        + region_lock::LockNaming
+        + log_service::ServiceNaming
+        + region_versions::VersionsNaming,
+    R: Wait,
+> Drop for NamedRoom<'a, N, R> {
+    fn drop(self) {
+        let NamedRoom {
+            unlocked: _,
+            hands: _,
+            rooms: _,
+            locks: _,
+            back: _,
+            helpers: _,
+        } = self;
+    }
 }
 
 /// Takes the memory.
@@ -129,73 +150,85 @@ fn lock_all<
     locks
 }
 
-/// Joins the log's service and the regions.
-fn join<
+impl<
     'a,
-    D: Disk,
     N: ServerNaming
         + region_lock::LockNaming
         + log_service::ServiceNaming
         + region_versions::VersionsNaming,
     R: Wait,
->(
-    rt: &'a R,
-    parts: ServiceParts<D, N>,
-    room: NamedRoom<'a, N, R>,
-    handlers: u32,
-) -> Started<'a, D, N, R>
-    requires handlers { (1 ≤ handlers) × (handlers ≤ 16) × (handlers ≡ N.handlers) }
-    requires served { IsBegun D.told N.name N.found N.handlers N.flushes N.ring N.lasts N.begun N.region_base parts.service }
-    requires passes { AreNew N.ring N.lasts 0 parts.passes × (length parts.passes ≡ parts.service.regions) }
-    requires seats { AreNewSeats parts.service (handlers + 2) parts.seats }
-    requires regions { AreFrom 1 room.unlocked.items × (length room.unlocked.items ≡ parts.service.regions)
-        × AreDeals 1 handlers room.hands.items × (length room.hands.items ≡ parts.service.regions) }
-    requires rooms { AreRooms parts.service.regions room.rooms.items × (length room.rooms.items ≡ handlers) }
-    requires locks { (room.locks.items ≡ []) × (parts.service.regions ≤ vec_capacity room.locks) }
-    requires back { (room.back.items ≡ []) × (handlers ≤ vec_capacity room.back) }
-    requires helpers { (room.helpers.items ≡ []) × (2 ≤ vec_capacity room.helpers) }
-    ensures server { result.server ≡ parts.service }
-    ensures passes { (passes_out result.passes ≡ 0) × (passes_back result.passes ≡ []) × ArePassesOf parts.service N.handlers result.passes }
-    ensures helpers { (length result.helpers ≡ 2) × AreSeatsOf parts.service result.helpers }
-{
-    let ServiceParts {
-        service,
-        passes: mut places,
-        mut seats,
-    } = parts;
-    let NamedRoom {
-        unlocked,
-        hands,
-        rooms,
-        locks,
-        back,
-        mut helpers,
-    } = room;
-    let regions = lock_all(&mut places, unlocked, locks);
-    let Some(first) = seats.next() else {
-        unreachable!()
-    };
-    let Some(second) = seats.next() else {
-        unreachable!()
-    };
-    helpers.push_reserved(first);
-    helpers.push_reserved(second);
-    Started {
-        server: Server {
+> NamedRoom<'a, N, R> {
+    /// Joins the log's service and the regions.
+    fn join<D: Disk>(
+        self,
+        rt: &'a R,
+        parts: ServiceParts<D, N>,
+        handlers: u32,
+    ) -> Started<'a, D, N, R>
+        requires handlers { (1 ≤ handlers) × (handlers ≤ 16) × (handlers ≡ N.handlers) }
+        requires served { IsBegun D.told N.name N.found N.handlers N.flushes N.ring N.lasts N.begun N.region_base parts.service }
+        requires passes { AreNew N.ring N.lasts 0 parts.passes × (length parts.passes ≡ parts.service.regions) }
+        requires seats { AreNewSeats parts.service (handlers + 2) parts.seats }
+        requires regions { AreFrom 1 self.unlocked.items × (length self.unlocked.items ≡ parts.service.regions)
+            × AreDeals 1 handlers self.hands.items × (length self.hands.items ≡ parts.service.regions) }
+        requires rooms { AreRooms parts.service.regions self.rooms.items × (length self.rooms.items ≡ handlers) }
+        requires locks { (self.locks.items ≡ []) × (parts.service.regions ≤ vec_capacity self.locks) }
+        requires back { (self.back.items ≡ []) × (handlers ≤ vec_capacity self.back) }
+        requires helpers { (self.helpers.items ≡ []) × (2 ≤ vec_capacity self.helpers) }
+        ensures server { result.server ≡ parts.service }
+        ensures passes { (passes_out result.passes ≡ 0) × (passes_back result.passes ≡ []) × ArePassesOf parts.service N.handlers result.passes }
+        ensures helpers { (length result.helpers ≡ 2) × AreSeatsOf parts.service result.helpers }
+    {
+        let ServiceParts {
             service,
-            regions,
-            places,
-            rt,
-        },
-        passes: Passes {
-            regions: hands,
+            passes: mut places,
+            mut seats,
+        } = parts;
+        let NamedRoom {
+            unlocked,
+            hands,
             rooms,
-            seats,
-            handlers,
-            out: 0,
+            locks,
             back,
-        },
-        helpers: Helpers { seats: helpers },
+            mut helpers,
+        } = self;
+        let regions = lock_all(&mut places, unlocked, locks);
+        let Some(first) = seats.next() else {
+            unreachable!()
+        };
+        let Some(second) = seats.next() else {
+            unreachable!()
+        };
+        helpers.push_reserved(first);
+        helpers.push_reserved(second);
+        Started {
+            server: Server {
+                service,
+                regions,
+                places,
+                rt,
+            },
+            passes: Passes {
+                regions: hands,
+                rooms,
+                seats,
+                handlers,
+                out: 0,
+                back,
+            },
+            helpers: Helpers { seats: helpers },
+        }
+    }
+}
+
+/// The refusal of a store for which there was no memory. The rings are let go.
+fn refused<D: Disk>(device: Device<D>, rings: Rings) -> StartRefusal<D>
+    ensures { (result.why ≡ StartWhy.Memory) × (result.disk ≡ disk_of device) }
+{
+    let _rings = rings;
+    StartRefusal {
+        why: StartWhy::Memory,
+        disk: device.into_disk(),
     }
 }
 
@@ -228,13 +261,10 @@ impl<D: Disk> OpenedStore<D> {
             split: _,
         } = self;
         let Ok(room) = make_room::<N, R>(rt, alloc, seeds, handlers) else {
-            return Err(StartRefusal {
-                why: StartWhy::Memory,
-                disk: device.into_disk(),
-            });
+            return Err(refused(device, rings));
         };
         match LogService::start(alloc, rings, device, regions, handlers + 2) {
-            Ok(parts) => Ok(join(rt, parts, room, handlers)),
+            Ok(parts) => Ok(room.join(rt, parts, handlers)),
             Err(ServiceRefusal { device }) => Err(StartRefusal {
                 why: StartWhy::Memory,
                 disk: device.into_disk(),

@@ -86,3 +86,6 @@ pub note-requires : goal.note-requires
 note-requires g c =
     let inv = c.letting.invariant in
     omega (arith, inv.place, inv.lasts, c.requires.room, ap length inv.rest, length-append c.letting.yielded (into_iter_items c.letting.lock-iterator), ap length c.in-Some.ensures.steps.0, c.requires.places.2)
+
+pub returns-clause-of : goal.returns-clause-of
+returns-clause-of g c the a = c.letting.invariant.of the a

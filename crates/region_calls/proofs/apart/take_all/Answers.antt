@@ -71,3 +71,9 @@ taking-preserved g c =
       len = omega (arith, c.in-Some.ensures.steps.1, ap length steps, inv.len);
       room = omega (arith, inv.room, c.push_reserved.ensures.capacity);
     }
+
+pub returns-clause-taken : goal.returns-clause-taken
+returns-clause-taken g c k t at = c.taking.invariant.taken k t at
+
+pub returns-clause-of : goal.returns-clause-of
+returns-clause-of g c the a = c.taking.invariant.of the a

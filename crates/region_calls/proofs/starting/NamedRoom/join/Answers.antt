@@ -8,13 +8,13 @@ use Rattle.region_calls.specs.Hands.{AreDeals}
 use Rattle.region_calls.specs.Passes.{knows}
 use Rattle.region_calls.specs.Deals.{AreSeatsOf, AllOf}
 use Rattle.region_calls.proofs.Seated.{back_less, back_replicate}
-use Rattle.region_calls.proofs.starting.join.Goals as goal
+use Rattle.region_calls.proofs.starting.NamedRoom.join.Goals as goal
 
 pub returns-clause-passes : goal.returns-clause-passes
 returns-clause-passes g c =
     let place = c.args.parts.service in
     let seats = c.args.parts.seats in
-    let room = c.args.room in
+    let room = c.args.self in
     let h = c.args.handlers in
     let H = g.N.LockNaming.handlers in
     let of : h ≡ H = c.requires.handlers.2 in
