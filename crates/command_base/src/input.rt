@@ -6,7 +6,6 @@ ghost use Rattle.command_base.specs.declared.input.InputError.TheVariants.{Memor
 
 use disk_images::Source;
 use std::alloc::{AllocError, Global};
-use thiserror::Error;
 
 /// No more bytes than that are read: a script has at most one fewer.
 const MAX_READ: usize = 16_777_217;
@@ -14,11 +13,11 @@ const MAX_READ: usize = 16_777_217;
 const PIECE: usize = 16_384;
 
 /// Why a source could not be read to its end.
-#[derive(Clone, Copy, Debug, PartialEq, Eq, Error)]
+#[derive(Clone, Copy)]
 pub enum InputError {
-    #[error("a read failed")]
+    /// A read failed.
     Failed,
-    #[error("no memory")]
+    /// Memory was refused.
     Memory,
 }
 

@@ -15,7 +15,7 @@ pub struct FileKey {
 }
 
 /// What is known of a file however its bytes go on.
-#[derive(Clone, Copy, Debug, PartialEq, Eq)]
+#[derive(Clone, Copy, Debug)]
 pub(crate) enum Phase {
     /// Entries may follow.
     Open,

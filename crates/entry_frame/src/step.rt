@@ -16,7 +16,7 @@ use kv_cell::u32_at;
 use log_model::OPEN_GATE;
 
 /// What a reader does next.
-#[derive(Debug, Drop)]
+#[derive(Drop)]
 pub(crate) enum Step<'a> {
     /// It takes this entry of a text of this version, 1 or 2, and goes so many bytes on.
     Entry {

@@ -22,7 +22,7 @@ impl Piece {
 }
 
 /// What stands before the next part of a text that is cut at each opening brace.
-#[derive(Clone, Copy, Debug, PartialEq, Eq)]
+#[derive(Clone, Copy)]
 enum Before {
     Nothing,
     Brace,

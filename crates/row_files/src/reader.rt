@@ -10,7 +10,7 @@ use crate::words::{LineKind, kind_of, parted, words_of};
 use std::alloc::Global;
 
 /// Where in a row the next line stands.
-#[derive(Clone, Copy, Debug, PartialEq, Eq)]
+#[derive(Clone, Copy, PartialEq, Eq)]
 enum Place {
     /// Before the first step.
     Head,

@@ -8,7 +8,7 @@ use std::alloc::Global;
 const MOST_TURNS: u64 = 1_000_000;
 
 /// A line of the script or of the output.
-#[derive(Debug, Drop)]
+#[derive(Drop)]
 pub struct StreamLine {
     pub line: u64,
     pub kind: LineKind,
@@ -16,7 +16,7 @@ pub struct StreamLine {
 }
 
 /// Lines that come again, turn by turn.
-#[derive(Debug, Drop)]
+#[derive(Drop)]
 pub struct Block {
     pub turns: u64,
     pub lines: Vec<StreamLine>,

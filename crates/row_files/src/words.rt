@@ -8,7 +8,7 @@ use disk_images::Name;
 use std::alloc::Global;
 
 /// What a line of a row is.
-#[derive(Clone, Copy, Debug, PartialEq, Eq)]
+#[derive(Clone, Copy, PartialEq, Eq)]
 pub enum LineKind {
     Call,
     Script,

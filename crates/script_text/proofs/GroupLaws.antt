@@ -5,7 +5,7 @@ use Rattle.std.proofs.lemmas.Bool.{ne_eqb, eq-eqb}
 use Rattle.region_model.specs.Calls.{Call}
 use Rattle.std.proofs.lemmas.List.Elements.{All-nil, All-cons, All-head, All-tail, All-weaker}
 use Rattle.script_model.specs.Calls.{calls_of, by_handler, IsScript, IsAmong}
-use Rattle.script_text.specs.Spoken.{IsCallOf}
+use Rattle.script_lines.specs.Spoken.{IsCallOf}
 use Rattle.script_text.specs.Grouping.{IsOfHandler}
 use Rattle.script_text.specs.State.{handler_call}
 use Rattle.script_text.specs.declared.state.HandlerCall.{HandlerCall}

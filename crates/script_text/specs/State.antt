@@ -5,7 +5,7 @@ use Rattle.cell_model.specs.Batch.{Batch, are_untagged, body_length}
 use Rattle.cell_model.specs.declared.form.Form.TheVariants.{Tagged}
 use Rattle.region_model.specs.Calls.{Call}
 use Rattle.script_calls.specs.Calls.{call_of}
-use Rattle.script_text.specs.Spoken.{IsCallOf}
+use Rattle.script_lines.specs.Spoken.{IsCallOf}
 use Rattle.script_text.specs.declared.state.HandlerCall.{HandlerCall}
 
 abbrev pub handler_call : HandlerCall → ℕ × Call

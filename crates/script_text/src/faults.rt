@@ -3,27 +3,9 @@
 ghost use Rattle.std.specs.Prelude.{◌≡◌};
 
 use kv_cell::NoMemory;
-pub use script_model::{CellField, ScriptWhy};
+pub use script_lines::{CellField, ScriptWhy};
 use std::error::Error;
 use std::fmt;
-
-/// Why a line cannot be read.
-#[derive(Clone, Copy, Debug, PartialEq, Eq)]
-pub enum LineError {
-    Memory,
-    Wrong(ScriptWhy),
-}
-
-impl From<NoMemory> for LineError {
-    ghost use Rattle.std.specs.Prelude.{◌≡◌};
-    ghost use Rattle.script_text.specs.declared.faults.LineError.TheVariants.{Memory};
-
-    ghost from_gives = { λ _ e. e ≡ Memory };
-
-    fn from(_e: NoMemory) -> LineError {
-        LineError::Memory
-    }
-}
 
 /// Why a script is refused.
 #[derive(Clone, Copy, Debug, PartialEq, Eq)]

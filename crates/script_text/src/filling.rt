@@ -3,10 +3,10 @@
 ghost use Rattle.std.specs.Prelude.{◌≡◌, ◌==◌, ◌+◌, ◌<◌, ◌≤◌, [], IfOk, OnErr, OnOk, length, not};
 ghost use Rattle.cell_model.specs.Batch.{batch_of, body_length, is_plain};
 ghost use Rattle.script_model.specs.Fields.{one_more, room_fault};
-ghost use Rattle.script_text.specs.Why.{Tells};
+ghost use Rattle.script_lines.specs.Why.{Tells};
 
-use crate::faults::{LineError, ScriptWhy};
 use kv_cell::{Batch, BatchError, Cell, NoMemory, Octets};
+use script_lines::{LineError, ScriptWhy};
 use std::alloc::Global;
 use std::marker::Model;
 
@@ -15,7 +15,7 @@ use std::marker::Model;
 /// How long the body of the put's log entry is follows from two things that each cell adds to, so that no cell is
 /// looked at again for the cells behind it: while there is neither a name nor tags it is 24 bytes and the plain
 /// spellings, each two bytes shorter than the tagged one, else 25 bytes, the name, and the tagged spellings of all cells.
-#[derive(Debug, Drop)]
+#[derive(Drop)]
 pub struct Filling {
     table: Octets,
     cells: Vec<Cell>,

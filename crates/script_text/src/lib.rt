@@ -3,26 +3,19 @@
 //! decided here.
 #![tactic(auto)]
 
-mod calls;
 mod cells;
 mod faults;
-mod fields;
 mod filling;
-mod flushes;
 mod grouping;
-mod here;
-mod numbers;
 mod parse;
 mod pieces;
-mod reads;
 mod saying;
 mod state;
 mod table;
-mod tokens;
 mod walk;
 
 pub use faults::{CellField, ParseRefusal, ScriptWhy};
-pub use numbers::number;
 pub use parse::parse_script;
 pub use script_calls::{Call, CallList, HandlerList, Script};
+pub use script_lines::number;
 pub use script_model::Command;

@@ -3,13 +3,12 @@
 ghost use Rattle.std.specs.Prelude.{◌≡◌, ◌<◌, OnOk, Some, map};
 ghost use Rattle.script_model.specs.Script.{after_cell, after_spoken, batch_so_far, end_fault, named_fault, say, words_fault};
 ghost use Rattle.script_model.specs.Tables.{begins_with, call_fault, cell_in, due_fault, spoken_of, table_in};
-ghost use Rattle.script_text.specs.Why.{Tells};
+ghost use Rattle.script_lines.specs.Why.{Tells};
 
-use crate::calls::{Spoken, call_line};
 use crate::cells::due_line;
-use crate::faults::{LineError, ScriptWhy};
 use crate::state::State;
 use crate::table::table_line;
+use script_lines::{LineError, ScriptWhy, Spoken, call_line};
 use script_model::Command;
 use std::alloc::Global;
 

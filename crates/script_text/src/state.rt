@@ -7,22 +7,21 @@ ghost use Rattle.script_model.specs.Fields.{one_more};
 ghost use Rattle.script_model.specs.Script.{batch_so_far, end_fault, is_head_alone, nothing_said, with_call, with_cell};
 ghost use Rattle.script_model.specs.Tables.{counted_fault, head_fault, second_number};
 ghost use Rattle.script_calls.specs.Calls.{call_of, is_sync};
-ghost use Rattle.script_text.specs.Spoken.{IsCallOf};
+ghost use Rattle.script_lines.specs.Spoken.{IsCallOf};
 ghost use Rattle.script_text.specs.State.{InScript, handler_call};
-ghost use Rattle.script_text.specs.Why.{Tells};
+ghost use Rattle.script_lines.specs.Why.{Tells};
 
-use crate::calls::{counted_line, head_line};
-use crate::faults::LineError;
 use crate::filling::Filling;
 use crate::grouping::group;
 use kv_cell::{Cell, Durability, NoMemory, Octets};
 use script_calls::{Call, Script};
+use script_lines::{LineError, counted_line, head_line};
 use script_model::Command;
 use std::alloc::Global;
 use std::marker::Model;
 
 /// A call with its handler.
-#[derive(Debug, Drop)]
+#[derive(Drop)]
 pub struct HandlerCall {
     pub handler: u64,
     pub call: Call,
@@ -30,7 +29,7 @@ pub struct HandlerCall {
 
 /// The head lines so far, the calls so far, and the put whose cells are not all there. The name of the table stands
 /// with the cells of that put.
-#[derive(Debug, Drop)]
+#[derive(Drop)]
 pub struct State {
     time: Option<u64>,
     regions: Option<u32>,

@@ -3,12 +3,10 @@
 ghost use Rattle.std.specs.Prelude.{◌≡◌, ◌≤◌, IfOk, length, map};
 ghost use Rattle.script_model.specs.Fields.{bytes_of, table_name_fault};
 ghost use Rattle.script_model.specs.Tables.{table_fault, table_in};
-ghost use Rattle.script_text.specs.Why.{Tells};
+ghost use Rattle.script_lines.specs.Why.{Tells};
 
-use crate::faults::{LineError, ScriptWhy};
-use crate::here::here;
-use crate::tokens::token;
 use kv_cell::Octets;
+use script_lines::{LineError, ScriptWhy, here, token};
 use script_model::Command;
 use std::alloc::Global;
 

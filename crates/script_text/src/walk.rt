@@ -3,11 +3,13 @@
 ghost use Rattle.std.specs.Prelude.{◌≡◌, ◌≤◌, None, OnOk, length};
 ghost use Rattle.script_model.specs.Script.{after_line, end_fault, first_wrong, line_fault, said_by};
 ghost use Rattle.script_model.specs.Text.{lines_of};
-ghost use Rattle.script_text.specs.Why.{Tells, TellsLine};
+ghost use Rattle.script_lines.specs.Why.{Tells};
+ghost use Rattle.script_text.specs.Why.{TellsLine};
 
-use crate::faults::{LineError, ParseRefusal, ScriptWhy};
+use crate::faults::ParseRefusal;
 use crate::pieces::{next_line, split_words};
 use crate::state::State;
+use script_lines::{LineError, ScriptWhy};
 use script_model::Command;
 use std::alloc::Global;
 

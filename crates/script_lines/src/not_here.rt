@@ -4,7 +4,7 @@ ghost use Rattle.std.specs.Prelude.{◌≡◌, codes};
 ghost use Rattle.kv_cell.specs.Kind.{code_of as kind_code};
 ghost use Rattle.script_model.specs.Fields.{code_of, here_fault, is, kind_here_fault, mode_here_fault, one_here_fault};
 ghost use Rattle.script_calls.specs.Calls.{is_sync};
-ghost use Rattle.script_text.specs.Why.{Tells};
+ghost use Rattle.script_lines.specs.Why.{Tells};
 
 use crate::faults::{LineError, ScriptWhy};
 use kv_cell::{Durability, Kind};

@@ -4,8 +4,8 @@ use Rattle.region_model.specs.Calls.{Call as TheCall}
 use Rattle.script_model.specs.Calls.{IsAmong}
 use Rattle.script_model.specs.Tables.{Spoken as TheSpoken, Calls, Opens}
 use Rattle.script_calls.specs.Calls.{call_of, is_sync}
-use Rattle.script_text.specs.declared.calls.Spoken.{Spoken}
-use Rattle.script_text.specs.declared.calls.Spoken.TheVariants as code
+use Rattle.script_lines.specs.declared.calls.Spoken.{Spoken}
+use Rattle.script_lines.specs.declared.calls.Spoken.TheVariants as code
 
 abbrev pub spoken : Spoken → TheSpoken
 spoken (code.Calls handler call) = Calls handler (call_of call)

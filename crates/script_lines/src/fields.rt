@@ -8,8 +8,8 @@ ghost use Rattle.script_model.specs.Fields.{ts_of};
 ghost use Rattle.script_model.specs.Text.{number_of};
 ghost use Rattle.script_calls.specs.Calls.{is_sync};
 ghost use Rattle.script_model.specs.Why.{limit_of, why_of};
-ghost use Rattle.script_text.specs.Stamps.{stamp_fault, stamp_of};
-ghost use Rattle.script_text.specs.Why.{Tells};
+ghost use Rattle.script_lines.specs.Stamps.{stamp_fault, stamp_of};
+ghost use Rattle.script_lines.specs.Why.{Tells};
 
 use crate::faults::{CellField, LineError, ScriptWhy};
 use crate::numbers::number;

@@ -1,7 +1,7 @@
 use Rattle.std.proofs.Common.{◌≡◌, ◌<◌, ◌^◌, true, take}
 use Rattle.std.specs.List.{list_all}
 use Rattle.script_model.specs.Text.{value_from, is_digit}
-use Rattle.script_text.proofs.numbers.number.Given as goal
+use Rattle.script_lines.proofs.numbers.number.Given as goal
 
 abbrev pub invariant-loop-b : goal.invariant-loop-b
 invariant-loop-b l = record {

@@ -1,6 +1,6 @@
 use Rattle.std.proofs.Common.{◌+◌, arith}
-use Rattle.script_text.proofs.TextLaws.{not_number_over, value_more}
-use Rattle.script_text.proofs.numbers.number.Goals as goal
+use Rattle.script_lines.proofs.WordLaws.{not_number_over, value_more}
+use Rattle.script_lines.proofs.numbers.number.Goals as goal
 
 pub returns-then-n-gt18446744073709551615 : goal.returns-then-n-gt18446744073709551615
 returns-then-n-gt18446744073709551615 c =

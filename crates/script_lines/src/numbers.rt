@@ -4,7 +4,7 @@ ghost use Rattle.std.specs.Prelude.{◌≡◌, true, false, MatchOption};
 ghost use Rattle.script_model.specs.Text.{is_number, number_of};
 
 /// The number that a word is. It counts in 128 bits, and stops as soon as the number is too large.
-#[tactic(auto, using(crate::proofs::TextLaws::number_steps))]
+#[tactic(auto, using(crate::proofs::WordLaws::number_steps))]
 pub fn number(word: &[u8]) -> Option<u64>
     ensures { MatchOption result (is_number word.now ≡ false) (λ n. (is_number word.now ≡ true) × (n ≡ number_of word.now)) }
 {

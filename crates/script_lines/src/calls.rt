@@ -4,13 +4,13 @@ ghost use Rattle.std.specs.Prelude.{◌≡◌, ◌≤◌, [], ◌∷◌, IfOk, S
 ghost use Rattle.script_model.specs.Fields.{is};
 ghost use Rattle.script_model.specs.Tables.{Opens, call_fault, counted_fault, handler_fault, head_fault, put_fault, region_fault, second_number, spoken_of};
 ghost use Rattle.script_model.specs.Text.{number_of};
-ghost use Rattle.script_text.specs.Spoken.{InRange, spoken};
-ghost use Rattle.script_text.specs.Why.{Tells};
+ghost use Rattle.script_lines.specs.Spoken.{InRange, spoken};
+ghost use Rattle.script_lines.specs.Why.{Tells};
 
 use crate::faults::{LineError, ScriptWhy};
 use crate::fields::{mode, ranged};
 use crate::flushes::{family_line, flush_line};
-use crate::here::{here, mode_here, one_here};
+use crate::not_here::{here, mode_here, one_here};
 use crate::reads::{get_line, scan_line};
 use kv_cell::Durability;
 use script_calls::Call;
@@ -18,7 +18,7 @@ use script_model::Command;
 use std::alloc::Global;
 
 /// What a line of calls says: a call of a handler, or a put whose cells follow.
-#[derive(Debug, Drop)]
+#[derive(Drop)]
 pub enum Spoken {
     Calls {
         handler: u64,

@@ -2,13 +2,13 @@
 
 ghost use Rattle.std.specs.Prelude.{◌≡◌, [], ◌∷◌, IfOk, Some};
 ghost use Rattle.script_model.specs.Tables.{call_fault, spoken_of};
-ghost use Rattle.script_text.specs.Spoken.{InRange, spoken};
-ghost use Rattle.script_text.specs.Why.{Tells};
+ghost use Rattle.script_lines.specs.Spoken.{InRange, spoken};
+ghost use Rattle.script_lines.specs.Why.{Tells};
 
 use crate::calls::{Spoken, handler_of, region_of};
 use crate::faults::{CellField, LineError, ScriptWhy};
 use crate::fields::sized;
-use crate::here::here;
+use crate::not_here::here;
 use script_calls::Call;
 use script_model::Command;
 use std::alloc::Global;

@@ -5,13 +5,13 @@ ghost use Rattle.region_model.specs.Calls.{Scan, Raw, get_call};
 ghost use Rattle.script_model.specs.Fields.{bytes_of};
 ghost use Rattle.script_model.specs.Tables.{Calls, get_fault, scan_fault};
 ghost use Rattle.script_model.specs.Text.{number_of};
-ghost use Rattle.script_text.specs.Spoken.{InRange, spoken};
-ghost use Rattle.script_text.specs.Why.{Tells};
+ghost use Rattle.script_lines.specs.Spoken.{InRange, spoken};
+ghost use Rattle.script_lines.specs.Why.{Tells};
 
 use crate::calls::{Spoken, handler_of, region_of};
 use crate::faults::{CellField, LineError, ScriptWhy};
 use crate::fields::{any_token, ranged, sized};
-use crate::here::here;
+use crate::not_here::here;
 use script_calls::Call;
 use script_model::Command;
 use std::alloc::Global;

@@ -1,0 +1,3 @@
+pub mod Spoken
+pub mod Stamps
+pub mod Why
