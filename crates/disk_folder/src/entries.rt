@@ -27,9 +27,13 @@ pub fn length_of<R: Files>(
     name: Name,
 ) -> io::Result<Option<u64>> {
     let path = path_of(alloc, folder, name)?;
-    match fs::metadata(rt, path.as_str()) {
-        Ok(metadata) if metadata.is_file() => Ok(Some(metadata.len())),
-        Ok(_) => Ok(None),
+    length_at(rt, path.as_str())
+}
+
+/// The same of the file at this path.
+fn length_at<R: Files>(rt: &R, path: &str) -> io::Result<Option<u64>> {
+    match fs::metadata(rt, path) {
+        Ok(metadata) => Ok(metadata.is_file().then_some(metadata.len())),
         Err(e) if e.kind() == io::ErrorKind::NotFound => Ok(None),
         Err(e) => Err(e),
     }

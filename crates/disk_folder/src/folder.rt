@@ -66,8 +66,10 @@ impl<'a, R> FolderDisk<'a, R> {
         }
     }
 
-    #[cfg(test)]
-    pub(crate) fn faults(&self) -> u64 {
+    /// How many faults were counted so far.
+    pub fn faults(&self) -> u64
+        ensures { result ≡ self.now.faults }
+    {
         self.faults
     }
 }

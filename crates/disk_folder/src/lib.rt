@@ -18,8 +18,3 @@ pub use folder::{Access, FolderDisk};
 pub use laws::one_name;
 pub use spelling::{Spelled, name_of};
 pub use streams::{ReaderSource, WriterSink};
-
-#[cfg(test)]
-mod folder_tests;
-#[cfg(test)]
-mod stream_tests;

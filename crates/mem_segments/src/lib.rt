@@ -26,6 +26,3 @@ pub use page::Page;
 pub use row::Row;
 pub use segment::{Base, Segment};
 pub use shared::SharedCells;
-
-#[cfg(test)]
-mod tests;

@@ -97,6 +97,11 @@ impl Row {
         self.shared.cell()
     }
 
+    /// How many share the cell, this row too. A cell of a batch is shared with all that keep the batch.
+    pub fn sharers(&self) -> usize {
+        self.shared.sharers()
+    }
+
     /// The order of numbered cells: row, family and qualifier rise, and timestamp, type and number fall.
     pub fn compare(&self, other: &Row) -> Ordering
         ensures { result ≡ numbered_cmp self.now other.now }

@@ -76,4 +76,11 @@ impl SharedCell {
             Block::OfBatch(place, batch) => &batch.as_slice()[usize::from(*place)],
         }
     }
+    /// How many share what the cell is kept in.
+    pub(crate) fn sharers(&self) -> usize {
+        match &self.block {
+            Block::Own(cell) => Arc::strong_count(cell),
+            Block::OfBatch(_, batch) => Arc::strong_count(batch),
+        }
+    }
 }

@@ -1,6 +1,6 @@
 //! Streams that a signal interrupts.
 
-use super::*;
+use disk_folder::{ReaderSource, WriterSink};
 use disk_images::{Sink, Source};
 use std::io::{self, ErrorKind, Read, Write};
 use std::test::*;
