@@ -4,8 +4,9 @@ ghost use Rattle.std.specs.Prelude.{◌≡◌, ◌≤◌, length};
 ghost use Rattle.region_calls.specs.Names.{IsNameOf};
 ghost use Rattle.region_calls.specs.Store.{IsStore, handlers_of};
 
-use crate::asking::{Asked, ask};
+use crate::asking::ask;
 use crate::name::ServerName;
+use crate::telling::tell_closed;
 use disk_fakes::MemDisk;
 use disk_images::Disk;
 use region_calls::{ClosedServer, OpenedStore, StartRefusal, Started, open};
@@ -14,23 +15,13 @@ use std::marker::Brand;
 use std::sync::Wait;
 use std::test::*;
 
-/// What is left of a server that was closed.
-#[derive(Drop)]
-struct Served<D> {
-    disk: D,
-    asked: Option<Asked>,
-    // Of the region: how many edits it has, and up to which sequence id they are durable.
-    edits: usize,
-    synced: u64,
-    broken: bool,
-}
-
-/// Has the handlers ask, and closes the server. None where it was out of memory.
+/// Has the handlers ask, closes the server, and tells what is left. None where it was out of memory.
 fn serve<N: ServerName, R: Wait, D: Disk + Drop>(
     rt: &R,
     alloc: Global,
     opened: OpenedStore<D>,
-) -> Option<Served<D>>
+    told: &mut Vec<u8>,
+) -> Option<()>
     requires few { handlers_of opened ≡ 2 }
     requires regions_there { 1 ≤ length N.lasts }
     // The name is the store's.
@@ -58,26 +49,17 @@ fn serve<N: ServerName, R: Wait, D: Disk + Drop>(
     let Some(mut reader) = passes.next() else {
         unreachable!()
     };
-    let asked = ask(rt, alloc, &server, &mut writer, &mut reader);
+    let asked = ask(rt, alloc, &server, &mut writer, &mut reader, told);
     passes.put_back(writer);
     passes.put_back(reader);
     match server.close(rt, alloc, passes, helpers) {
         Ok(
             ClosedServer {
-                disk,
+                disk: _disk,
                 regions,
                 broken,
             },
-        ) => {
-            let region = regions.as_slice().first()?;
-            Some(Served {
-                disk,
-                asked,
-                edits: region.lines.len(),
-                synced: region.synced,
-                broken,
-            })
-        }
+        ) => asked.and(tell_closed(told, regions.as_slice(), broken)),
         Err(refusal) => {
             let _disk = refusal.into_disk(rt);
             None
@@ -86,9 +68,14 @@ fn serve<N: ServerName, R: Wait, D: Disk + Drop>(
 }
 
 /// Opens a disk for one region and two handlers, and serves it. None where it was out of memory, or the disk failed.
-fn open_and_serve<R: Wait, D: Disk + Drop>(rt: &R, alloc: Global, disk: D) -> Option<Served<D>> {
+fn open_and_serve<R: Wait, D: Disk + Drop>(
+    rt: &R,
+    alloc: Global,
+    disk: D,
+    told: &mut Vec<u8>,
+) -> Option<()> {
     match open(alloc, disk, 1, 2) {
-        Ok(opened) => serve::<Brand, R, D>(rt, alloc, opened),
+        Ok(opened) => serve::<Brand, R, D>(rt, alloc, opened, told),
         Err(
             StartRefusal {
                 why: _,
@@ -98,18 +85,17 @@ fn open_and_serve<R: Wait, D: Disk + Drop>(rt: &R, alloc: Global, disk: D) -> Op
     }
 }
 
+/// The points are 0, 1 and 2, and the puts get the sequence ids 1 and 2. The scan that was begun between them never shows `b`; the one
+/// begun behind both does, in pages and at once. Both edits are left, durable, in a log that is whole.
 #[test]
 fn a_scan_in_pages_keeps_its_point(rt: HostRuntime) -> Result<(), Fail> {
     let alloc = rt.alloc();
     let disk = MemDisk::new(alloc, &[])?;
-    let served = open_and_serve(&rt, alloc, disk).ok_or("memory is ample")?;
-    assert_eq!(rt; (served.edits, served.synced, served.broken), (2, 2, false));
-    let asked = served.asked.ok_or("memory is ample")?;
-    assert_eq!(rt; asked.numbers, (1, 2));
-    assert_eq!(rt; asked.points, (0, 1, 2));
-    assert_eq!(rt; asked.whole.0.as_slice(), b"1a1c".as_slice());
-    assert_eq!(rt; asked.early.as_slice(), b"1a|1c.".as_slice());
-    assert_eq!(rt; asked.whole.1.as_slice(), b"1a2b1c".as_slice());
-    assert_eq!(rt; asked.late.as_slice(), b"1a2b|1c.".as_slice());
+    let mut told = Vec::new(alloc);
+    open_and_serve(&rt, alloc, disk, &mut told).ok_or("memory is ample")?;
+    assert_eq!(rt;
+        told.as_slice(),
+        b"0 1 1 1a1c 1a| 2 1c. 1a2b| 1c. 2 1a2b1c 2 2 .".as_slice()
+    );
     Ok(())
 }

@@ -9,4 +9,6 @@ mod region;
 #[cfg(test)]
 mod telling;
 #[cfg(test)]
+mod trial;
+#[cfg(test)]
 mod viewing;

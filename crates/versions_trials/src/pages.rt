@@ -1,53 +1,46 @@
 //! A scan of a version in pages.
 
-use crate::region::empty_region;
-use kv_cell::{Batch, Cell};
-use mem_segments::Draft;
+use crate::region::{batch_of, empty_region, put};
+use kv_cell::{Cell, NoMemory};
 use region_calls::Scanner;
-use region_state::{Caller, Ended, Version};
+use region_state::Version;
 use std::alloc::Global;
 use std::sync::Arc;
 use std::test::Fail;
 
 /// A version that shows the rows `a`, `b` and `c`, each with one cell.
 fn three_rows(alloc: Global) -> Result<Arc<Version, Global>, Fail> {
-    let mut cells = Vec::new(alloc);
-    for row in [b"a", b"b", b"c"] {
-        cells.push(Cell::new(alloc, row, b"f", b"q", 1, 4, b"v")?)?;
-    }
-    let batch = Arc::new(alloc, Batch::new(cells)?)?;
-    let draft = Draft::new(alloc, &batch)?;
     let mut state = empty_region(alloc)?;
-    state.ready()?;
-    let caller = Caller {
-        handler: 1,
-        call: 1,
-    };
-    let entry = state.begin_edit(caller, 1000, batch, draft);
-    state.end_edit(entry, Ended::Done);
+    let batch = batch_of(alloc, b"abc").ok_or(NoMemory)?;
+    put(alloc, &mut state, 1, batch)?;
     Ok(state.next_version(alloc)?)
 }
 
-/// The cells of a scan by pages of two, each told by its row and the last digit of its time, with a bar behind each page that isn't
-/// the last and a dot behind those that are done.
-fn read_pages(alloc: Global, scanner: Scanner, pages: u32) -> Result<Vec<u8>, Fail> {
-    let mut scanner = scanner;
-    let mut told = Vec::new(alloc);
-    for _ in 0..pages {
-        let page = scanner.next(alloc, 2)?;
-        for (_, cell) in page.cells.into_vec() {
-            told.extend_from_slice(cell.row.as_slice())?;
-            told.push(b'0' + (cell.ts % 10) as u8)?;
-        }
-        told.push(if page.done { b'.' } else { b'|' })?;
+/// Tells each cell by its row and the last digit of its time.
+fn tell_cells(told: &mut Vec<u8>, cells: &[(u64, Cell)]) -> Result<(), NoMemory> {
+    for (_, cell) in cells {
+        told.extend_from_slice(cell.row.as_slice())?;
+        told.push(b'0' + (cell.ts % 10) as u8)?;
     }
-    Ok(told)
+    Ok(())
+}
+
+/// Tells the next two cells, with a bar behind a page that isn't the last and a dot behind those that are done.
+fn tell_page(alloc: Global, told: &mut Vec<u8>, scanner: &mut Scanner) -> Result<(), NoMemory> {
+    let page = scanner.next(alloc, 2)?;
+    tell_cells(told, page.cells.as_slice())?;
+    told.push(if page.done { b'.' } else { b'|' })?;
+    Ok(())
 }
 
 /// The pages of a scan of those rows.
 fn pages_of_two(alloc: Global, from: &[u8], to: &[u8], pages: u32) -> Result<Vec<u8>, Fail> {
-    let version = three_rows(alloc)?;
-    read_pages(alloc, Scanner::of_version(alloc, version, from, to)?, pages)
+    let mut scanner = Scanner::of_version(alloc, three_rows(alloc)?, from, to)?;
+    let mut told = Vec::new(alloc);
+    for _ in 0..pages {
+        tell_page(alloc, &mut told, &mut scanner)?;
+    }
+    Ok(told)
 }
 
 #[test]

@@ -1,43 +1,17 @@
-//! A region with its history and the one that shows its versions.
+//! A region whose lines are put, added to its history and shown. Its parts are lent, so that nothing here drops them.
 
 ghost use Rattle.std.specs.Prelude.{◌≡◌, [], ◌+◌, ◌<◌, ◌^◌, length, IfOk, OnOk};
 ghost use Rattle.region_state.specs.Calls.{AreBelow};
 ghost use Rattle.region_state.specs.States.{write_point};
-ghost use Rattle.versions_trials.specs.AllShown.{IsOneMore};
+ghost use Rattle.versions_trials.specs.AllShown.{IsAllShown, IsOneMore};
 
 use kv_cell::{Batch, Cell, NoMemory};
 use mem_segments::{Base, Draft, Segment};
 use region_state::{Caller, Ended, RegionState};
-use region_versions::{
-    History, NewHistory, Shower, Told, VersionParts, VersionsNaming, Viewer, versions,
-};
+use region_versions::{History, Shower, VersionsNaming};
 use std::alloc::Global;
-use std::marker::Model;
 use std::sync::{Arc, Wait};
 use std::test::Fail;
-
-/// A region all of whose lines are completed, in its history and shown, and the cells that it is to be given.
-#[derive(Drop)]
-pub(crate) struct Region<N: VersionsNaming, W: Wait + Drop> {
-    state: RegionState,
-    history: History<N>,
-    shower: Shower<N, W>,
-    alloc: Global,
-    batch: Arc<Batch, Global>,
-}
-
-impl<N: VersionsNaming, W: Wait + Drop> Model for Region<N, W> {
-    ghost use Rattle.region_versions.specs.Histories.{Beginning, coded_beginning};
-    ghost use Rattle.versions_trials.specs.AllShown.{IsAllShown};
-
-    ghost Value = { Beginning };
-
-    ghost coded = { coded_beginning };
-
-    ghost view = { λ r. r.history };
-
-    ghost invariant = { λ r. IsAllShown (N.region_base r.history.region) r.state r.history r.shower.shown };
-}
 
 /// A region with no cell.
 pub(crate) fn empty_region(alloc: Global) -> Result<RegionState, Fail>
@@ -51,15 +25,24 @@ pub(crate) fn empty_region(alloc: Global) -> Result<RegionState, Fail>
     Ok(RegionState::new(alloc, 1, base)?)
 }
 
-/// One cell.
-fn one_cell(alloc: Global) -> Result<Arc<Batch, Global>, Fail> {
+/// Adds a cell in this row.
+fn push_cell(alloc: Global, cells: &mut Vec<Cell>, row: u8) -> Option<()> {
+    let cell = Cell::new(alloc, &[row], b"f", b"q", 1, 4, b"v").ok()?;
+    cells.push(cell).ok()
+}
+
+/// A batch of one cell in each of these rows. None is out of memory, or that there is no row.
+pub(crate) fn batch_of(alloc: Global, rows: &[u8]) -> Option<Arc<Batch, Global>> {
     let mut cells = Vec::new(alloc);
-    cells.push(Cell::new(alloc, b"r", b"f", b"q", 1, 4, b"v")?)?;
-    Ok(Arc::new(alloc, Batch::new(cells)?)?)
+    for row in rows {
+        push_cell(alloc, &mut cells, *row)?;
+    }
+    let batch = Batch::new(cells).ok()?;
+    Arc::new(alloc, batch).ok()
 }
 
 /// Puts these cells, as the call of this number.
-fn put(
+pub(crate) fn put(
     alloc: Global,
     state: &mut RegionState,
     call: u32,
@@ -80,93 +63,27 @@ fn put(
     Ok(())
 }
 
-/// Puts the cells again, and shows them. An error is out of memory, or a call that isn't the next one, which no run
-/// shows.
+/// Puts a cell, and shows it. An error is out of memory, or a call that isn't the next one, which no run shows.
 pub(crate) fn show_next<N: VersionsNaming, W: Wait + Drop>(
-    region: Region<N, W>,
+    alloc: Global,
+    state: &mut RegionState,
+    history: &mut History<N>,
+    shower: &mut Shower<N, W>,
     call: u32,
-) -> Result<Region<N, W>, NoMemory>
-    ensures region { IfOk result (λ r. r.region ≡ region.region) }
+) -> Result<(), NoMemory>
+    requires shown { IsAllShown (N.region_base history.old.region) state.old history.old shower.old.shown }
+    ensures region { history.new.region ≡ history.old.region }
+    ensures shown { OnOk result (IsAllShown (N.region_base history.new.region) state.new history.new shower.new.shown) }
 {
-    let Region {
-        mut state,
-        mut history,
-        mut shower,
-        alloc,
-        batch,
-    } = region;
     if state.journal().len() + 1 != call as usize || state.next_number().is_none() {
         return Err(NoMemory);
     }
-    put(alloc, &mut state, call, Arc::try_clone(&batch)?)?;
+    let batch = batch_of(alloc, b"r").ok_or(NoMemory)?;
+    put(alloc, state, call, batch)?;
     let version = state.next_version(alloc)?;
     let lines = state.journal();
     if version.point() != state.write_point() || !history.push(&lines[lines.len() - 1]) {
         return Err(NoMemory);
     }
-    shower.show(version, history.front())?;
-    Ok(Region {
-        state,
-        history,
-        shower,
-        alloc,
-        batch,
-    })
-}
-
-impl<N: VersionsNaming, W: Wait + Drop> Region<N, W> {
-    /// Tells what is shown.
-    pub(crate) fn tell(&mut self) -> Told<N>
-        ensures told { result.sight ≡ self.old }
-        ensures same { self.new ≡ self.old }
-    {
-        self.shower.tell()
-    }
-}
-
-/// A region that shows its first version, and three that view it.
-#[derive(Drop)]
-pub(crate) struct Beginners<N: VersionsNaming, W: Wait + Drop> {
-    pub(crate) region: Region<N, W>,
-    pub(crate) one: Viewer<N>,
-    pub(crate) two: Viewer<N>,
-    pub(crate) idle: Viewer<N>,
-}
-
-/// Shows the first version of an empty region.
-pub(crate) fn begin<N: VersionsNaming, W: Wait + Drop>(
-    rt: W,
-    alloc: Global,
-    opened: NewHistory,
-    mut state: RegionState,
-) -> Result<Beginners<N, W>, Fail>
-    requires book { opened.seen.book ≡ N.book 1 }
-    requires base { state.base ≡ N.region_base 1 }
-    requires lines { state.lines ≡ [] }
-    ensures region { IfOk result (λ b. b.region.region ≡ 1) }
-    ensures viewers { IfOk result (λ b. (b.one.region ≡ 1) × (b.two.region ≡ 1) × (b.idle.region ≡ 1)) }
-{
-    let batch = one_cell(alloc)?;
-    let history = opened.named::<N>(1);
-    let first = state.next_version(alloc)?;
-    let VersionParts {
-        shower,
-        mut viewers,
-    } = versions::<N, W>(rt, alloc, first, history.front(), 3)?;
-    let (Some(one), Some(two), Some(idle)) = (viewers.next(), viewers.next(), viewers.next()) else {
-        return Err(Fail::from("three viewers"));
-    };
-    let region = Region {
-        state,
-        history,
-        shower,
-        alloc,
-        batch,
-    };
-    Ok(Beginners {
-        region,
-        one,
-        two,
-        idle,
-    })
+    shower.show(version, history.front())
 }

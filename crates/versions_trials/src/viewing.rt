@@ -1,13 +1,14 @@
 //! Two threads view while a third shows.
 
-ghost use Rattle.std.specs.Prelude.{◌≡◌, []};
+ghost use Rattle.std.specs.Prelude.{◌≡◌, length};
+ghost use Rattle.versions_trials.specs.AllShown.{IsAllShown};
 
-use crate::region::{Beginners, Region, begin, empty_region, show_next};
+use crate::region::show_next;
+use crate::trial::{Trial, try_region};
 use kv_cell::NoMemory;
 use region_state::RegionState;
-use region_versions::{NewHistory, VersionsNaming, Viewer};
+use region_versions::{History, Shower, VersionsNaming, Viewer};
 use std::alloc::Global;
-use std::marker::Brand;
 use std::process::Abort;
 use std::sync::Wait;
 use std::test::Fail;
@@ -19,81 +20,98 @@ const VIEWS: u32 = 100_000;
 
 /// Shows three versions, with the points 1, 2 and 3.
 fn show_three<N: VersionsNaming, W: Wait + Drop>(
-    region: Region<N, W>,
-) -> Result<Region<N, W>, NoMemory> {
-    let first = show_next(region, 1)?;
-    let second = show_next(first, 2)?;
-    show_next(second, 3)
+    alloc: Global,
+    state: &mut RegionState,
+    history: &mut History<N>,
+    shower: &mut Shower<N, W>,
+) -> Result<(), NoMemory>
+    requires shown { IsAllShown (N.region_base history.old.region) state.old history.old shower.old.shown }
+{
+    show_next(alloc, state, history, shower, 1)?;
+    show_next(alloc, state, history, shower, 2)?;
+    show_next(alloc, state, history, shower, 3)
+}
+
+/// The point of what it views, or this one where memory is refused.
+pub(crate) fn view_point<N: VersionsNaming>(viewer: &mut Viewer<N>, otherwise: u64) -> u64 {
+    match viewer.view() {
+        Ok(version) => version.point(),
+        Err(_) => otherwise,
+    }
 }
 
 /// Views until it finds the third version, and says whether a point fell.
-fn view_many<N: VersionsNaming>(mut viewer: Viewer<N>) -> (Viewer<N>, bool) {
+fn view_many<N: VersionsNaming>(viewer: &mut Viewer<N>) -> bool {
     let mut fell = false;
     let mut last = 0;
     for _ in 0..VIEWS {
-        if let Ok(version) = viewer.view() {
-            fell = fell || version.point() < last;
-            last = version.point();
-        }
+        let point = view_point(viewer, last);
+        fell = fell || point < last;
+        last = point;
         if last == 3 {
             break;
         }
         thread::yield_now();
     }
-    (viewer, fell)
+    fell
 }
-
-type Viewed<N> = ((Viewer<N>, bool), (Viewer<N>, bool));
 
 /// Views in two threads.
 fn view_both<N: VersionsNaming + Send + Sync, R: Threads + Sync>(
     rt: &R,
-    one: Viewer<N>,
-    two: Viewer<N>,
-) -> Viewed<N> {
+    one: &mut Viewer<N>,
+    two: &mut Viewer<N>,
+) -> (bool, bool) {
     join(rt, || view_many(one), || view_many(two))
 }
 
-/// Shows in one thread, and views in two.
-fn show_and_view<N: VersionsNaming + Send + Sync, R: Threads + Sync, W: Wait + Drop + Send>(
+/// Views in two threads, and shows in this one.
+fn view_and_show<N: VersionsNaming + Send + Sync, R: Threads + Sync, W: Wait + Drop>(
     rt: &R,
-    region: Region<N, W>,
-    one: Viewer<N>,
-    two: Viewer<N>,
-) -> (Result<Region<N, W>, NoMemory>, Viewed<N>) {
-    join(rt, || show_three(region), || view_both(rt, one, two))
+    alloc: Global,
+    state: &mut RegionState,
+    history: &mut History<N>,
+    shower: &mut Shower<N, W>,
+    one: &mut Viewer<N>,
+    two: &mut Viewer<N>,
+) -> ((bool, bool), Result<(), NoMemory>)
+    requires shown { IsAllShown (N.region_base history.old.region) state.old history.old shower.old.shown }
+{
+    join(
+        rt,
+        || view_both(rt, one, two),
+        || show_three(alloc, state, history, shower),
+    )
 }
 
 /// Nothing is told to a viewer, so that it finds the third version by its own looks alone.
-fn run<N: VersionsNaming + Send + Sync, R: Threads + Wait + Abort + Sync>(
+pub(crate) fn view_three<
+    N: VersionsNaming + Send + Sync,
+    R: Threads + Abort + Sync,
+    W: Wait + Drop,
+>(
     rt: &R,
     alloc: Global,
-    opened: NewHistory,
-    state: RegionState,
-) -> Result<(), Fail>
-    requires book { opened.seen.book ≡ N.book 1 }
-    requires base { state.base ≡ N.region_base 1 }
-    requires lines { state.lines ≡ [] }
+    state: &mut RegionState,
+    history: &mut History<N>,
+    shower: &mut Shower<N, W>,
+    viewers: &mut [Viewer<N>],
+)
+    requires shown { IsAllShown (N.region_base history.old.region) state.old history.old shower.old.shown }
+    requires three { length viewers.old ≡ 3 }
 {
-    let Beginners {
-        region,
-        one,
-        two,
-        mut idle,
-    } = begin::<N, &R>(rt, alloc, opened, state)?;
-    let (shown, ((mut one, one_fell), (mut two, two_fell))) = show_and_view(rt, region, one, two);
+    let [one, two, idle] = viewers else {
+        unreachable!()
+    };
+    let (fell, shown) = view_and_show(rt, alloc, state, history, shower, one, two);
     assert!(rt; shown.is_ok());
-    assert_eq!(rt; (one_fell, two_fell), (false, false));
-    assert_eq!(rt; (one.view()?.point(), two.view()?.point()), (3, 3));
-    assert_eq!(rt; (one.point(), two.seen()), (3, 3));
-    assert_eq!(rt; (idle.seen(), idle.point(), idle.seen()), (0, 3, 3));
-    drop(shown);
-    Ok(())
+    assert!(rt; matches!(fell, (false, false)));
+    assert!(rt; view_point(one, 0) == 3 && view_point(two, 0) == 3);
+    assert!(rt; one.point() == 3 && two.seen() == 3);
+    assert!(rt; idle.seen() == 0 && idle.point() == 3 && idle.seen() == 3);
 }
 
 #[test]
 fn three_versions_while_two_threads_view(rt: HostRuntime) -> Result<(), Fail> {
-    let alloc = rt.alloc();
-    let state = empty_region(alloc)?;
-    run::<Brand, _>(&rt, alloc, NewHistory::new(), state)
+    try_region(&rt, rt.alloc(), Trial::Viewing)
 }
