@@ -1,142 +1,69 @@
-//! A plain judge of reports of scripts that were made here, where nothing failed and no memory was refused.
+//! A plain judge of the replies in a report of a script that was made here, where nothing failed and no memory was refused.
 
+use crate::bench::expect;
+use crate::journals::{Edit, step_at};
 use crate::plans::{Kind, ROWS, Step};
 use crate::report::{number, word};
 use std::alloc::Global;
 use std::process::Abort;
 use std::test::Fail as TestFail;
 
-/// An edit line of a report: its region and number, and the put that it is of.
-#[derive(Clone, Copy)]
-pub(crate) struct Edit {
-    pub(crate) region: u64,
-    pub(crate) number: u64,
-    step: Step,
+/// Whether this line is the cell of an edit.
+fn is_cell(alloc: Global, line: &str, edit: Edit) -> Result<bool, TestFail> {
+    let Step {
+        handler,
+        call,
+        row,
+        ..
+    } = edit.step;
+    let number = edit.number;
+    let cell = format!(in alloc; "cell {number} r{row} f q 1 put {handler}-{call}")?;
+    Ok(line == cell.as_str())
 }
 
-/// The call of this handler with this number.
-fn step_at(steps: &[Step], handler: u64, call: u64) -> Option<Step> {
-    for step in steps {
-        if step.handler == handler && step.call == call {
-            return Some(*step);
-        }
-    }
-    None
-}
-
-/// The edits of a report, each done, and each that of a put of its region.
-pub(crate) fn read_edits<R: AllocGlobal + Abort>(
-    rt: &R,
-    steps: &[Step],
-    report: &str,
-) -> Result<Vec<Edit>, TestFail> {
-    let mut edits = Vec::new(rt.alloc());
-    let mut region = 0;
-    for line in report.lines() {
-        if word(line, 0) == "region" {
-            region = number(line, 1);
-        }
-        if word(line, 0) == "edit" {
-            let step = step_at(steps, number(line, 2), number(line, 3)).ok_or("nobody's edit")?;
-            assert!(rt; step.is_put() && step.region == region, "{line}");
-            assert_eq!(rt; word(line, 4), "done", "{line}");
-            edits.push(Edit {
-                region,
-                number: number(line, 1),
-                step,
-            })?;
-        }
-    }
-    Ok(edits)
-}
-
-/// How many edits are of a region.
-pub(crate) fn count_of(edits: &[Edit], region: u64) -> u64 {
-    let mut count: u64 = 0;
-    for edit in edits {
-        if edit.region == region {
-            count = count.wrapping_add(1);
-        }
-    }
-    count
-}
-
-/// Whether each of these edits that is of that one's region and handler is of an earlier call.
-fn are_earlier(edits: &[Edit], last: Edit) -> bool {
-    for edit in edits {
-        let is_like = edit.region == last.region && edit.step.handler == last.step.handler;
-        if is_like && edit.step.call >= last.step.call {
-            return false;
-        }
-    }
-    true
-}
-
-/// How many calls are puts.
-fn count_puts(steps: &[Step]) -> usize {
-    let mut count: usize = 0;
-    for step in steps {
-        if step.is_put() {
-            count = count.wrapping_add(1);
-        }
-    }
-    count
-}
-
-/// Asserts that the edits of each region are numbered 1, 2 and so on, and have each put once, those of a handler in the order
-/// of its calls.
-pub(crate) fn assert_journals<R: Abort>(rt: &R, steps: &[Step], edits: &[Edit]) {
-    for (i, edit) in edits.iter().enumerate() {
-        let before = &edits[..i];
-        assert_eq!(rt; edit.number, count_of(before, edit.region).wrapping_add(1));
-        assert!(rt; are_earlier(before, *edit), "at {i}");
-    }
-    assert_eq!(rt; edits.len(), count_puts(steps));
-}
-
-/// Adds the cell lines of a row up to a point, the newest first.
-fn add_row(
-    alloc: Global,
-    lines: &mut Vec<String>,
-    edits: &[Edit],
-    region: u64,
-    point: u64,
-    row: u64,
-) -> Result<(), TestFail> {
-    for edit in edits.iter().rev() {
-        if edit.region == region && edit.number <= point && edit.step.row == row {
-            let (number, handler, call) = (edit.number, edit.step.handler, edit.step.call);
-            lines.push(format!(in alloc; "cell {number} r{row} f q 1 put {handler}-{call}")?)?;
-        }
-    }
-    Ok(())
-}
-
-/// The cell lines that a scan or a get has at a point. All puts of a row have one timestamp, so a get sees the last one alone.
-fn cells_at(
+/// Counts the cells of a row up to a point, with which these lines begin, the newest first. All puts of a row have one timestamp, so
+/// a get sees the last one alone.
+fn count_row(
     alloc: Global,
     edits: &[Edit],
     scan: Step,
     point: u64,
-) -> Result<Vec<String>, TestFail> {
-    let mut lines = Vec::new(alloc);
-    for row in 0..ROWS {
-        if scan.is_of_row(row) {
-            add_row(alloc, &mut lines, edits, scan.region, point, row)?;
+    row: u64,
+    lines: &[&str],
+) -> Result<usize, TestFail> {
+    let mut count: usize = 0;
+    for edit in edits.iter().rev() {
+        let is_seen = edit.region == scan.region && edit.number <= point && edit.step.row == row;
+        if is_seen && (scan.kind != Kind::Get || count == 0) {
+            let line = lines.get(count).copied().unwrap_or("");
+            if !is_cell(alloc, line, *edit)? {
+                return Err(TestFail::new("a cell is missing"));
+            }
+            count = count.wrapping_add(1);
         }
     }
-    if scan.kind == Kind::Get {
-        lines.truncate(1);
-    }
-    Ok(lines)
+    Ok(count)
 }
 
-/// Asserts that these lines begin with a scan's or a get's cells.
-fn assert_cells<R: Abort>(rt: &R, cells: &[String], lines: &[&str]) {
-    assert!(rt; cells.len() <= lines.len());
-    for (cell, line) in cells.iter().zip(lines) {
-        assert_eq!(rt; cell.as_str(), *line);
+/// Counts the cells that a scan or a get has at a point, with which these lines begin.
+fn count_cells(
+    alloc: Global,
+    edits: &[Edit],
+    scan: Step,
+    point: u64,
+    lines: &[&str],
+) -> Result<usize, TestFail> {
+    let mut count: usize = 0;
+    for row in 0..ROWS {
+        if scan.is_of_row(row) {
+            let Some(rest) = lines.get(count..) else {
+                return Err(TestFail::new("a cell is missing"));
+            };
+            let more = count_row(alloc, edits, scan, point, row, rest)?;
+            count = count.wrapping_add(more);
+        }
     }
+    Ok(count)
 }
 
 /// For each region, of up to 64, the greatest number that a handler has seen in it.
@@ -161,66 +88,77 @@ impl Places {
     }
 }
 
-/// Asserts that a put is the edit of its number, which is above its handler's place.
-fn assert_put<R: Abort>(rt: &R, edits: &[Edit], step: Step, line: &str, places: &mut Places) {
-    assert!(rt; word(line, 3) == "put" && word(line, 4) == "ok", "{line}");
-    let number = number(line, 5);
-    assert!(rt; number > places.of(step.region), "{line}");
-    assert!(rt; has_edit(edits, step, number), "{line}");
-    places.set(step.region, number);
-}
-
 fn has_edit(edits: &[Edit], step: Step, number: u64) -> bool {
     for edit in edits {
-        if edit.step == step {
+        if edit.step.handler == step.handler && edit.step.call == step.call {
             return edit.number == number;
         }
     }
     false
 }
 
-/// Asserts that a scan or a get has the cells of its point, which isn't below its handler's place. Answers how many lines they take.
-fn assert_scan<R: AllocGlobal + Abort>(
-    rt: &R,
-    edits: &[Edit],
-    step: Step,
-    line: &str,
-    rest: &[&str],
-    places: &mut Places,
-) -> Result<usize, TestFail> {
+/// Whether a put is the edit of its number, which is above its handler's place.
+fn fits_put(edits: &[Edit], step: Step, line: &str, place: u64) -> bool {
+    let number = number(line, 5);
+    let is_done = word(line, 3) == "put" && word(line, 4) == "ok";
+    is_done && number > place && has_edit(edits, step, number)
+}
+
+/// Whether a scan or a get has a point that isn't below its handler's place.
+fn fits_scan(step: Step, line: &str, place: u64) -> bool {
     let name = if step.kind == Kind::Get {
         "get"
     } else {
         "scan"
     };
-    assert_eq!(rt; word(line, 3), name, "{line}");
-    let point = number(line, 4);
-    assert!(rt; point >= places.of(step.region), "{line}");
-    let cells = cells_at(rt.alloc(), edits, step, point)?;
-    assert_eq!(rt; number(line, 5), cells.len() as u64, "{line}");
-    assert_cells(rt, &cells, rest);
-    places.set(step.region, point);
-    Ok(cells.len())
+    word(line, 3) == name && number(line, 4) >= place
 }
 
-/// Asserts that a flush reached its handler's place, or met another handler's flush of the region. No cell has the family g.
-fn assert_flush<R: Abort>(rt: &R, steps: &[Step], step: Step, line: &str, places: &Places) {
-    assert_eq!(rt; word(line, 3), "flush", "{line}");
-    if word(line, 4) == "busy" {
-        let other = step_at(steps, number(line, 5), number(line, 6));
-        let is_other =
-            matches!(other, Some(by) if by.kind == Kind::Flush && by.region == step.region && by.handler != step.handler);
-        assert!(rt; is_other, "{line}");
-        return;
+/// Whether this call is another handler's flush of the region.
+fn is_other_flush(other: Option<Step>, step: Step) -> bool {
+    match other {
+        Some(by) => by.kind == Kind::Flush
+            && by.region == step.region
+            && by.handler != step.handler,
+        None => false,
     }
-    assert!(rt;
-        word(line, 4) == "nothing" || (word(line, 4) == "ok" && step.row != 2),
-        "{line}"
-    );
-    assert!(rt; number(line, 5) >= places.of(step.region), "{line}");
 }
 
-/// Asserts that the first of these lines is the reply that fits a call. Answers how many lines of cells follow it.
+/// Whether a flush reached its handler's place, or met another handler's flush of the region. No cell has the family g.
+fn fits_flush(steps: &[Step], step: Step, line: &str, place: u64) -> bool {
+    let answer = word(line, 4);
+    if answer == "busy" {
+        return is_other_flush(step_at(steps, number(line, 5), number(line, 6)), step);
+    }
+    let is_flushed = answer == "nothing" || (answer == "ok" && step.row != 2);
+    is_flushed && number(line, 5) >= place
+}
+
+/// Whether this line is the reply to a call whose handler has this place in its region.
+fn fits(steps: &[Step], edits: &[Edit], step: Step, line: &str, place: u64) -> bool {
+    if word(line, 0) != "reply" || number(line, 1) != step.handler || number(line, 2) != step.call {
+        return false;
+    }
+    match step.kind {
+        Kind::SyncPut | Kind::AsyncPut => fits_put(edits, step, line, place),
+        Kind::Scan | Kind::Get => fits_scan(step, line, place),
+        Kind::Flush => word(line, 3) == "flush" && fits_flush(steps, step, line, place),
+        Kind::Roll => word(line, 3) == "roll"
+            && (word(line, 4) == "ok" || word(line, 4) == "nothing"),
+    }
+}
+
+/// The place of a handler in a region behind a call that this line answers.
+fn place_behind(step: Step, line: &str, place: u64) -> u64 {
+    match step.kind {
+        Kind::SyncPut | Kind::AsyncPut => number(line, 5),
+        Kind::Scan | Kind::Get => number(line, 4),
+        Kind::Flush | Kind::Roll => place,
+    }
+}
+
+/// Asserts that the first of these lines is the reply that fits a call. Answers how many lines of cells follow it: none but behind a
+/// scan or a get, whose reply tells them.
 fn assert_reply<R: AllocGlobal + Abort>(
     rt: &R,
     steps: &[Step],
@@ -229,37 +167,29 @@ fn assert_reply<R: AllocGlobal + Abort>(
     lines: &[&str],
     places: &mut Places,
 ) -> Result<usize, TestFail> {
-    let (line, rest) = lines.split_first().ok_or("a reply is missing")?;
-    assert_eq!(rt; word(line, 0), "reply", "{line}");
-    assert_eq!(rt;
-        (number(line, 1), number(line, 2)),
-        (step.handler, step.call),
-        "{line}"
-    );
-    match step.kind {
-        Kind::SyncPut | Kind::AsyncPut => assert_put(rt, edits, step, line, places),
-        Kind::Scan | Kind::Get => return assert_scan(rt, edits, step, line, rest, places),
-        Kind::Flush => assert_flush(rt, steps, step, line, places),
-        Kind::Roll => {
-            assert_eq!(rt; word(line, 3), "roll", "{line}");
-            assert!(rt;
-                word(line, 4) == "ok" || word(line, 4) == "nothing",
-                "{line}"
-            );
-        }
+    let Some((line, rest)) = lines.split_first() else {
+        return Err(TestFail::new("a reply is missing"));
+    };
+    let place = places.of(step.region);
+    expect(rt, fits(steps, edits, step, line, place), line);
+    places.set(step.region, place_behind(step, line, place));
+    if step.kind != Kind::Scan && step.kind != Kind::Get {
+        return Ok(0);
     }
-    Ok(0)
+    let count = count_cells(rt.alloc(), edits, step, number(line, 4), rest)?;
+    expect(rt, number(line, 5) == count as u64, line);
+    Ok(count)
 }
 
 /// The lines of a report from its first reply on.
-fn reply_lines(alloc: Global, report: &str) -> Result<Vec<&str>, TestFail> {
+fn reply_lines(alloc: Global, report: &'static str) -> Result<&'static [&'static str], TestFail> {
     let mut lines = Vec::new(alloc);
     for line in report.lines() {
         if !lines.is_empty() || word(line, 0) == "reply" {
             lines.push(line)?;
         }
     }
-    Ok(lines)
+    Ok(lines.leak())
 }
 
 /// Asserts that there is one reply for each call, each fits its call, and the last line tells the end.
@@ -267,7 +197,7 @@ pub(crate) fn assert_replies<R: AllocGlobal + Abort>(
     rt: &R,
     steps: &[Step],
     edits: &[Edit],
-    report: &str,
+    report: &'static str,
 ) -> Result<(), TestFail> {
     let lines = reply_lines(rt.alloc(), report)?;
     let mut places = Places::none();
@@ -276,11 +206,13 @@ pub(crate) fn assert_replies<R: AllocGlobal + Abort>(
         if step.call == 1 {
             places = Places::none();
         }
-        let rest = lines.as_slice().get(at..).ok_or("a reply is missing")?;
+        let Some(rest) = lines.get(at..) else {
+            return Err(TestFail::new("a reply is missing"));
+        };
         let cells = assert_reply(rt, steps, edits, *step, rest, &mut places)?;
         at = at.wrapping_add(cells).wrapping_add(1);
     }
-    assert_eq!(rt; at.wrapping_add(1), lines.len());
-    assert!(rt; report.ends_with("\nend 0\n"));
+    let is_whole = at.wrapping_add(1) == lines.len() && report.ends_with("\nend 0\n");
+    expect(rt, is_whole, report);
     Ok(())
 }

@@ -1,8 +1,8 @@
-//! Gates that hold handlers, each for a bounded time.
+//! A gate that holds handlers, for a bounded time.
 
 use load_run::Gate;
+use std::sync::Wait;
 use std::sync::atomic::{AtomicU64, Ordering};
-use std::sync::{Arc, Wait};
 use std::thread;
 
 const TURNS: u64 = 1_000_000;
@@ -18,134 +18,44 @@ fn reaches(word: &AtomicU64, wanted: u64) -> bool {
     false
 }
 
-/// Waits for the word, and counts a wait that was in vain.
-fn hold(word: &AtomicU64, wanted: u64, vain: &AtomicU64) {
-    if !reaches(word, wanted) {
-        vain.fetch_add(1, Ordering::SeqCst);
-    }
+/// Which calls of handlers are held, and what they wait for.
+#[derive(Clone, Copy)]
+pub(crate) enum Hold {
+    /// None.
+    Nobody,
+    /// Each put that is logged, until the disk has seen so many syncs.
+    UntilSyncs(u64),
+    /// Each put that is logged, until so many are.
+    UntilLogged(u64),
+    /// Each call of all handlers but the first, until the first one comes to this call.
+    UntilCall(u32),
+    /// The disk's syncs from the first handler's call on, and the second handler's first call until so many syncs were begun. The disk
+    /// goes on at the second handler's next call.
+    Disk(u32, u64),
 }
 
-/// Holds each put that is logged until the disk has seen so many syncs.
+/// All runs pass such a gate, so that a run is built once.
 #[derive(Drop)]
-pub(crate) struct SyncGate {
-    seen: Arc<AtomicU64>,
-    wanted: u64,
-    vain: AtomicU64,
-}
-
-impl SyncGate {
-    pub(crate) fn new(seen: Arc<AtomicU64>, wanted: u64) -> SyncGate {
-        SyncGate {
-            seen,
-            wanted,
-            vain: AtomicU64::new(0),
-        }
-    }
-
-    /// How many waits were in vain.
-    pub(crate) fn vain(&self) -> u64 {
-        self.vain.load(Ordering::SeqCst)
-    }
-}
-
-impl Gate for SyncGate {
-    fn before<R: Wait>(&self, _rt: &R, _handler: u32, _call: u32) {}
-
-    fn logged<R: Wait>(&self, _rt: &R, _handler: u32, _call: u32) {
-        hold(&self.seen, self.wanted, &self.vain);
-    }
-}
-
-/// Holds each put that is logged until so many are.
-#[derive(Drop)]
-pub(crate) struct MeetingGate {
+pub(crate) struct HoldGate {
+    hold: Hold,
+    /// How many syncs the disk has begun, and whether it is held in one.
+    seen: &'static AtomicU64,
+    held: &'static AtomicU64,
+    /// How many puts are logged, and whether the first handler has come to its call.
+    logged: AtomicU64,
     came: AtomicU64,
-    wanted: u64,
-    vain: AtomicU64,
-}
-
-impl MeetingGate {
-    pub(crate) fn new(wanted: u64) -> MeetingGate {
-        MeetingGate {
-            came: AtomicU64::new(0),
-            wanted,
-            vain: AtomicU64::new(0),
-        }
-    }
-
     /// How many waits were in vain.
-    pub(crate) fn vain(&self) -> u64 {
-        self.vain.load(Ordering::SeqCst)
-    }
-}
-
-impl Gate for MeetingGate {
-    fn before<R: Wait>(&self, _rt: &R, _handler: u32, _call: u32) {}
-
-    fn logged<R: Wait>(&self, _rt: &R, _handler: u32, _call: u32) {
-        self.came.fetch_add(1, Ordering::SeqCst);
-        hold(&self.came, self.wanted, &self.vain);
-    }
-}
-
-/// Holds all handlers but the first before each call until the first one comes to this call.
-#[derive(Drop)]
-pub(crate) struct TurnGate {
-    call: u32,
-    came: AtomicU64,
     vain: AtomicU64,
 }
 
-impl TurnGate {
-    pub(crate) fn new(call: u32) -> TurnGate {
-        TurnGate {
-            call,
-            came: AtomicU64::new(0),
-            vain: AtomicU64::new(0),
-        }
-    }
-
-    /// How many waits were in vain.
-    pub(crate) fn vain(&self) -> u64 {
-        self.vain.load(Ordering::SeqCst)
-    }
-}
-
-impl Gate for TurnGate {
-    fn before<R: Wait>(&self, _rt: &R, handler: u32, call: u32) {
-        if handler != 1 {
-            hold(&self.came, 1, &self.vain);
-        } else if call == self.call {
-            self.came.store(1, Ordering::SeqCst);
-        }
-    }
-
-    fn logged<R: Wait>(&self, _rt: &R, _handler: u32, _call: u32) {}
-}
-
-/// Holds the disk's syncs from the first handler's call on, the second handler's first call until so many syncs were begun,
-/// and lets the disk go on at the second handler's next call.
-#[derive(Drop)]
-pub(crate) struct DiskGate {
-    seen: Arc<AtomicU64>,
-    held: Arc<AtomicU64>,
-    call: u32,
-    wanted: u64,
-    vain: AtomicU64,
-}
-
-impl DiskGate {
-    pub(crate) fn new(
-        seen: Arc<AtomicU64>,
-        held: Arc<AtomicU64>,
-        call: u32,
-        wanted: u64,
-    ) -> DiskGate {
-        DiskGate {
+impl HoldGate {
+    pub(crate) fn new(hold: Hold, seen: &'static AtomicU64, held: &'static AtomicU64) -> HoldGate {
+        HoldGate {
+            hold,
             seen,
             held,
-            call,
-            wanted,
+            logged: AtomicU64::new(0),
+            came: AtomicU64::new(0),
             vain: AtomicU64::new(0),
         }
     }
@@ -154,20 +64,51 @@ impl DiskGate {
     pub(crate) fn vain(&self) -> u64 {
         self.vain.load(Ordering::SeqCst)
     }
-}
 
-impl Gate for DiskGate {
-    fn before<R: Wait>(&self, _rt: &R, handler: u32, call: u32) {
+    /// Waits for the word, and counts a wait that was in vain.
+    fn wait(&self, word: &AtomicU64, wanted: u64) {
+        if !reaches(word, wanted) {
+            self.vain.fetch_add(1, Ordering::SeqCst);
+        }
+    }
+
+    /// The first handler holds the disk at this call; another one comes behind so many syncs, and lets it go at its next call.
+    fn hold_disk(&self, handler: u32, call: u32, at: u32, syncs: u64) {
         if handler == 1 {
-            if call == self.call {
+            if call == at {
                 self.held.store(1, Ordering::SeqCst);
             }
         } else if call == 1 {
-            hold(&self.seen, self.wanted, &self.vain);
+            self.wait(self.seen, syncs);
         } else {
             self.held.store(0, Ordering::SeqCst);
         }
     }
+}
 
-    fn logged<R: Wait>(&self, _rt: &R, _handler: u32, _call: u32) {}
+impl Gate for HoldGate {
+    fn before<R: Wait>(&self, _rt: &R, handler: u32, call: u32) {
+        match self.hold {
+            Hold::UntilCall(at) => {
+                if handler != 1 {
+                    self.wait(&self.came, 1);
+                } else if call == at {
+                    self.came.store(1, Ordering::SeqCst);
+                }
+            }
+            Hold::Disk(at, syncs) => self.hold_disk(handler, call, at, syncs),
+            Hold::Nobody | Hold::UntilSyncs(_) | Hold::UntilLogged(_) => {}
+        }
+    }
+
+    fn logged<R: Wait>(&self, _rt: &R, _handler: u32, _call: u32) {
+        match self.hold {
+            Hold::UntilSyncs(syncs) => self.wait(self.seen, syncs),
+            Hold::UntilLogged(puts) => {
+                self.logged.fetch_add(1, Ordering::SeqCst);
+                self.wait(&self.logged, puts);
+            }
+            Hold::Nobody | Hold::UntilCall(_) | Hold::Disk(_, _) => {}
+        }
+    }
 }

@@ -1,6 +1,6 @@
 //! Scripts that are made from a number.
 
-use std::alloc::Global;
+use std::alloc::{AllocError, Global};
 use std::fmt::Write;
 use std::test::Fail as TestFail;
 
@@ -17,7 +17,7 @@ pub(crate) enum Kind {
 /// A call of a script. A put has one cell in the row, with its handler and call as the value; a scan is of all rows, or of `r1` and `r2`
 /// where the row isn't 0; a get is of the newest version of the row; a flush is of family f where the row is
 /// 1, of g, which no cell has, where it is 2, and else of all.
-#[derive(Clone, Copy, PartialEq, Eq)]
+#[derive(Clone, Copy)]
 pub(crate) struct Step {
     pub(crate) handler: u64,
     pub(crate) call: u64,
@@ -52,21 +52,12 @@ pub(crate) struct Plan {
 /// The rows of cells.
 pub(crate) const ROWS: u64 = 4;
 
-// Numbers that follow one another by a rule, and look like none.
-#[derive(Drop)]
-struct Numbers {
-    state: u64,
-}
-
-impl Numbers {
-    /// A number from 0 to 2^31-1.
-    fn next(&mut self) -> u64 {
-        self.state = self
-            .state
-            .wrapping_mul(6_364_136_223_846_793_005)
-            .wrapping_add(1_442_695_040_888_963_407);
-        self.state >> 33
-    }
+/// The next of numbers that follow one another by a rule, and look like none: from 0 to 2^31-1.
+fn next(state: &mut u64) -> u64 {
+    *state = (*state)
+        .wrapping_mul(6_364_136_223_846_793_005)
+        .wrapping_add(1_442_695_040_888_963_407);
+    *state >> 33
 }
 
 /// Half of the calls are puts, a quarter scans and gets.
@@ -81,29 +72,32 @@ fn kind_of(number: u64) -> Kind {
     }
 }
 
+/// A call that the next numbers make.
+fn step_of(state: &mut u64, regions: u64, handler: u64, call: u64) -> Step {
+    let before = next(state).checked_rem(regions).unwrap_or(0);
+    Step {
+        handler,
+        call,
+        region: before.wrapping_add(1),
+        row: next(state) % ROWS,
+        kind: kind_of(next(state)),
+    }
+}
+
 /// The calls of a script, handler by handler.
-pub(crate) fn steps_of(alloc: Global, plan: Plan) -> Result<Vec<Step>, TestFail> {
-    let mut numbers = Numbers { state: plan.start };
+pub(crate) fn steps_of(alloc: Global, plan: Plan) -> Result<&'static [Step], TestFail> {
+    let mut state = plan.start;
     let mut steps = Vec::new(alloc);
     for handler in 0..plan.handlers {
         for call in 0..plan.calls {
-            steps.push(Step {
-                handler: handler.wrapping_add(1),
-                call: call.wrapping_add(1),
-                region: numbers
-                    .next()
-                    .checked_rem(plan.regions)
-                    .unwrap_or(0)
-                    .wrapping_add(1),
-                row: numbers.next() % ROWS,
-                kind: kind_of(numbers.next()),
-            })?;
+            let (one, other) = (handler.wrapping_add(1), call.wrapping_add(1));
+            steps.push(step_of(&mut state, plan.regions, one, other))?;
         }
     }
-    Ok(steps)
+    Ok(steps.leak())
 }
 
-fn write_step(text: &mut String, step: Step) -> Result<(), TestFail> {
+fn write_put(text: &mut String, step: Step) -> Result<(), AllocError> {
     let Step {
         handler,
         call,
@@ -111,43 +105,56 @@ fn write_step(text: &mut String, step: Step) -> Result<(), TestFail> {
         row,
         kind,
     } = step;
-    let (from, to) = if row == 0 { ("-", "-") } else { ("r1", "r3") };
-    match kind {
-        Kind::SyncPut => writeln!(
-            text,
-            "put {handler} {region} sync 1\ncell r{row} f q 1 put {handler}-{call}"
-        )?,
-        Kind::AsyncPut => writeln!(
-            text,
-            "put {handler} {region} async 1\ncell r{row} f q 1 put {handler}-{call}"
-        )?,
-        Kind::Scan => writeln!(text, "scan {handler} {region} {from} {to}")?,
-        Kind::Get => writeln!(text, "get {handler} {region} r{row} 1")?,
-        Kind::Flush => {
-            let family = if row == 1 {
-                " f"
-            } else if row == 2 {
-                " g"
-            } else {
-                ""
-            };
-            writeln!(text, "flush {handler} {region}{family}")?
-        }
-        Kind::Roll => writeln!(text, "roll {handler}")?,
+    let mode = if kind == Kind::SyncPut {
+        "sync"
+    } else {
+        "async"
+    };
+    writeln!(
+        text,
+        "put {handler} {region} {mode} 1\ncell r{row} f q 1 put {handler}-{call}"
+    )
+}
+
+fn write_step(text: &mut String, step: Step) -> Result<(), AllocError> {
+    let Step {
+        handler,
+        region,
+        row,
+        ..
+    } = step;
+    match (step.kind, row) {
+        (Kind::SyncPut | Kind::AsyncPut, _) => write_put(text, step),
+        (Kind::Scan, 0) => writeln!(text, "scan {handler} {region} - -"),
+        (Kind::Scan, _) => writeln!(text, "scan {handler} {region} r1 r3"),
+        (Kind::Get, _) => writeln!(text, "get {handler} {region} r{row} 1"),
+        (Kind::Flush, 1) => writeln!(text, "flush {handler} {region} f"),
+        (Kind::Flush, 2) => writeln!(text, "flush {handler} {region} g"),
+        (Kind::Flush, _) => writeln!(text, "flush {handler} {region}"),
+        (Kind::Roll, _) => writeln!(text, "roll {handler}"),
+    }
+}
+
+fn write_steps(text: &mut String, steps: &[Step]) -> Result<(), AllocError> {
+    for step in steps {
+        write_step(text, *step)?;
     }
     Ok(())
 }
 
 /// The text of a script.
-pub(crate) fn script_of(alloc: Global, plan: Plan, steps: &[Step]) -> Result<String, TestFail> {
+pub(crate) fn script_of(
+    alloc: Global,
+    plan: Plan,
+    steps: &[Step],
+) -> Result<&'static str, TestFail> {
     let Plan {
         handlers,
         regions,
         ..
     } = plan;
     let mut text = format!(in alloc; "time 1000\nregions {regions}\nhandlers {handlers}\n")?;
-    for step in steps {
-        write_step(&mut text, *step)?;
-    }
-    Ok(text)
+    write_steps(&mut text, steps)?;
+    let text: &'static String = Box::leak(Box::new(alloc, text)?);
+    Ok(text.as_str())
 }

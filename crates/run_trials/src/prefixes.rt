@@ -1,8 +1,6 @@
 //! A script of two regions with three edits each, and what stands of them where a crash has left the first ones alone.
 
 use crate::report::{number, word};
-use std::alloc::Global;
-use std::test::Fail as TestFail;
 
 /// Handler 1 puts into region 1 alone, and handler 2 into region 2. The second call of each is the put that doesn't wait for the log.
 /// Entries with a tag stand beside entries without any.
@@ -35,20 +33,28 @@ scan 1 1 - -
 scan 1 2 - -
 ";
 
-/// How many cells the first edits of a region have, from none to three of them, and their lines: by column, the newer time first, then
-/// the delete, then the later edit.
-type Prefixes = [(u64, &'static str); 4];
+/// What the scans print of a region where its first edits stand, from none to three of them: the line with its last number and how many
+/// cells it has, and the reply with these: by column, the newer time first, then the delete, then the later edit.
+type Prefixes = [(&'static str, &'static str); 4];
 
 const FIRST: Prefixes = [
-    (0, ""),
-    (2, "cell 1 a f q 1 put v\ncell 1 b f q 1 put v ab\n"),
+    ("region 1 base 0 0\n", "reply 1 1 scan 0 0\n"),
     (
-        3,
-        "cell 2 a f q 1 put w\ncell 1 a f q 1 put v\ncell 1 b f q 1 put v ab\n",
+        "region 1 base 1 2\n",
+        "reply 1 1 scan 1 2\ncell 1 a f q 1 put v\ncell 1 b f q 1 put v ab\n",
     ),
     (
-        4,
-        "cell 3 a f p 1 put v ef
+        "region 1 base 2 3\n",
+        "reply 1 1 scan 2 3
+cell 2 a f q 1 put w
+cell 1 a f q 1 put v
+cell 1 b f q 1 put v ab
+",
+    ),
+    (
+        "region 1 base 3 4\n",
+        "reply 1 1 scan 3 4
+cell 3 a f p 1 put v ef
 cell 2 a f q 1 put w
 cell 1 a f q 1 put v
 cell 1 b f q 1 put v ab
@@ -57,15 +63,23 @@ cell 1 b f q 1 put v ab
 ];
 
 const SECOND: Prefixes = [
-    (0, ""),
-    (1, "cell 1 a f q 5 put v\n"),
+    ("region 2 base 0 0\n", "reply 1 2 scan 0 0\n"),
     (
-        3,
-        "cell 2 a f q 5 delete -\ncell 1 a f q 5 put v\ncell 2 c f q 1000 put w cd\n",
+        "region 2 base 1 1\n",
+        "reply 1 2 scan 1 1\ncell 1 a f q 5 put v\n",
     ),
     (
-        4,
-        "cell 3 a f q 6 put v
+        "region 2 base 2 3\n",
+        "reply 1 2 scan 2 3
+cell 2 a f q 5 delete -
+cell 1 a f q 5 put v
+cell 2 c f q 1000 put w cd
+",
+    ),
+    (
+        "region 2 base 3 4\n",
+        "reply 1 2 scan 3 4
+cell 3 a f q 6 put v
 cell 2 a f q 5 delete -
 cell 1 a f q 5 put v
 cell 2 c f q 1000 put w cd
@@ -73,25 +87,27 @@ cell 2 c f q 1000 put w cd
     ),
 ];
 
-/// The cells of so many edits.
-fn of(prefixes: Prefixes, edits: u64) -> Result<(u64, &'static str), TestFail> {
-    let cells = prefixes.get(edits as usize).ok_or("more than three edits")?;
-    Ok(*cells)
+/// Whether a text is these parts, one behind the other.
+fn is_made_of(text: &str, parts: &[&str]) -> bool {
+    let mut rest = text;
+    for part in parts {
+        match rest.strip_prefix(*part) {
+            Some(behind) => rest = behind,
+            None => return false,
+        }
+    }
+    rest.is_empty()
 }
 
-/// What the scans print where so many edits of each region stand.
-pub(crate) fn shown(alloc: Global, first: u64, second: u64) -> Result<String, TestFail> {
-    let (one, cells) = of(FIRST, first)?;
-    let (two, others) = of(SECOND, second)?;
-    Ok(format!(in alloc;
-        "hwal 1
-region 1 base {first} {one}
-region 2 base {second} {two}
-reply 1 1 scan {first} {one}
-{cells}reply 1 2 scan {second} {two}
-{others}end 0
-"
-    )?)
+/// Whether the scans print this where so many edits of each region stand.
+pub(crate) fn is_shown(text: &str, first: u64, second: u64) -> bool {
+    let Some((one, cells)) = FIRST.get(first as usize) else {
+        return false;
+    };
+    let Some((other, more)) = SECOND.get(second as usize) else {
+        return false;
+    };
+    is_made_of(text, &["hwal 1\n", one, other, cells, more, "end 0\n"])
 }
 
 /// Whether a reply line says that its region is durable up to a number: that of a flush, or of a put that waits for the log.

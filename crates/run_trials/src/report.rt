@@ -15,6 +15,16 @@ pub(crate) fn number(line: &str, at: usize) -> u64 {
     word(line, at).parse::<u64>().unwrap_or(0)
 }
 
+/// Whether the output has this line.
+pub(crate) fn has_line(text: &str, wanted: &str) -> bool {
+    for line in text.lines() {
+        if line == wanted {
+            return true;
+        }
+    }
+    false
+}
+
 /// The last number of a region's edits, or of what was there before them.
 pub(crate) fn journal_last(report: &str, region: u64) -> u64 {
     let mut at = 0;
@@ -33,12 +43,12 @@ pub(crate) fn journal_last(report: &str, region: u64) -> u64 {
     last
 }
 
-/// The last number and the count of cells that `recover` printed of a region.
-pub(crate) fn recovered(text: &str, region: u64) -> (u64, u64) {
+/// Whether `recover` printed of a region so many edits and cells; of a region without any it prints nothing.
+pub(crate) fn has_recovered(text: &str, region: u64, count: u64) -> bool {
     for line in text.lines() {
         if word(line, 0) == "recovered" && number(line, 1) == region {
-            return (number(line, 2), number(line, 3));
+            return number(line, 2) == count && number(line, 3) == count;
         }
     }
-    (0, 0)
+    count == 0
 }

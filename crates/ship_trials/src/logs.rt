@@ -1,7 +1,5 @@
-//! A disk with two logs: the first is closed and an old log by now, the second goes on.
-
-ghost use Rattle.std.specs.Prelude.{◌≡◌, ◌<◌, length};
-ghost use Rattle.disk_fakes.specs.Views.{view_of};
+//! A disk with two logs: the first is closed and an old log by now, the second goes on. It is never dropped, nor are the texts: no trial
+//! shows how.
 
 use disk_fakes::MemDisk;
 use disk_images::{Disk, Name, NameKind};
@@ -9,7 +7,7 @@ use std::alloc::Global;
 use std::test::Fail;
 
 /// How many entries the first of two logs has, and both. They are numbered from 1 on.
-#[derive(Clone, Copy, Debug, PartialEq, Eq)]
+#[derive(Clone, Copy)]
 pub(crate) struct Logs {
     pub(crate) in_first: u64,
     pub(crate) all: u64,
@@ -36,9 +34,8 @@ const BEHIND: [u8; 36] = [
     0, 0, 0, 0, 0, 0, 1, 4, b'v',
 ];
 
-/// The header of a log of version 1, and entries with the numbers from one to another.
-fn entries_text(alloc: Global, log: u64, from: u64, to: u64) -> Result<Vec<u8>, Fail> {
-    let mut text = Vec::new(alloc);
+/// Writes the header of a log of version 1, and entries with the numbers from one to another.
+fn write_entries(text: &mut Vec<u8>, log: u64, from: u64, to: u64) -> Result<(), Fail> {
     text.extend_from_slice(&[b'H', b'W', b'L', b'1', 0, 0, 0, 1])?;
     text.extend_from_slice(&log.to_be_bytes())?;
     for number in from..=to {
@@ -46,54 +43,44 @@ fn entries_text(alloc: Global, log: u64, from: u64, to: u64) -> Result<Vec<u8>, 
         text.extend_from_slice(&number.to_be_bytes())?;
         text.extend_from_slice(&BEHIND)?;
     }
-    Ok(text)
+    Ok(())
 }
 
-/// Makes a file with these bytes.
-fn add(disk: &mut MemDisk, name: Name, bytes: &[u8]) -> Result<(), Fail>
-    requires log { name.region ≡ 0 }
-    requires none_gone { (m : _) → ¬ (view_of disk.old).gone m }
-    ensures none_gone { (m : _) → ¬ (view_of disk.new).gone m }
-{
-    if disk.bytes(name).is_some() {
-        return Err("it is there")?;
+fn new_text(alloc: Global) -> Result<&'static mut Vec<u8>, Fail> {
+    let text: Vec<u8> = Vec::new(alloc);
+    Ok(Box::leak(Box::new(alloc, text)?))
+}
+
+/// Makes a log or an old log with these bytes.
+fn add(disk: &mut MemDisk, kind: NameKind, number: u64, bytes: &[u8]) -> Result<(), Fail> {
+    let name = Name {
+        kind,
+        region: 0,
+        number,
+    };
+    disk.settle()?;
+    if bytes.is_empty() || disk.bytes(name).is_some() {
+        return Err(Fail::new("no such file can be made"));
     }
     disk.create(name)?;
-    write(disk, name, bytes)
-}
-
-fn write(disk: &mut MemDisk, name: Name, bytes: &[u8]) -> Result<(), Fail>
-    requires none_gone { (m : _) → ¬ (view_of disk.old).gone m }
-    ensures none_gone { (m : _) → ¬ (view_of disk.new).gone m }
-{
-    if bytes.is_empty() || disk.bytes(name).is_none() {
-        return Err("it isn't there")?;
-    }
     disk.write_at(name, 0, bytes)?;
     disk.sync(name)?;
     Ok(())
 }
 
 /// A disk with both logs.
-pub(crate) fn disk_of(alloc: Global, logs: Logs) -> Result<MemDisk, Fail> {
-    let mut disk = MemDisk::new(alloc, &[])?;
-    let mut old = entries_text(alloc, 1, 1, logs.in_first)?;
+pub(crate) fn disk_of(alloc: Global, logs: Logs) -> Result<&'static mut MemDisk, Fail> {
+    let disk = MemDisk::new(alloc, &[])?;
+    let disk: &'static mut MemDisk = Box::leak(Box::new(alloc, disk)?);
+    let old = new_text(alloc)?;
+    write_entries(old, 1, 1, logs.in_first)?;
     old.extend_from_slice(&[0xA5, 2, 0, 0, 0, 8])?;
     old.extend_from_slice(&logs.in_first.to_be_bytes())?;
     old.push(0)?;
-    let old_name = Name {
-        kind: NameKind::Old,
-        region: 0,
-        number: 1,
-    };
-    add(&mut disk, old_name, old.as_slice())?;
-    let mut log = entries_text(alloc, 2, logs.in_first.saturating_add(1), logs.all)?;
+    add(disk, NameKind::Old, 1, old.as_slice())?;
+    let log = new_text(alloc)?;
+    write_entries(log, 2, logs.in_first.saturating_add(1), logs.all)?;
     log.push(0)?;
-    let log_name = Name {
-        kind: NameKind::Log,
-        region: 0,
-        number: 2,
-    };
-    add(&mut disk, log_name, log.as_slice())?;
+    add(disk, NameKind::Log, 2, log.as_slice())?;
     Ok(disk)
 }

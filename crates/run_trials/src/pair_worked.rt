@@ -1,8 +1,10 @@
 //! Worked runs on two empty disks, and what a crash leaves of them.
 
-use crate::bench::{Call, Pair, assert_ended, empty_pair, of_two, run_on};
+use crate::bench::{crash_at, empty_disk, expect};
+use crate::gates::Hold;
+use crate::pairs::{PairEnded, run_pair, run_pair_free};
+use disk_fakes::{CallKind, Fail};
 use groups_command::GroupsStatus;
-use std::alloc::Global;
 use std::process::Abort;
 use std::sync::Wait;
 use std::test::Fail as TestFail;
@@ -81,12 +83,12 @@ const SECOND: &str = "hwal 1\nregion 1 base 0 0\nregion 2 base 1 1\nend 0\n";
 
 const NONE: &str = "hwal 1\nregion 1 base 0 0\nregion 2 base 0 0\nend 0\n";
 
-/// A run on empty disks: its word and script, how many puts wait for one another, and which sync of the first disk fails, counted from 1; its status
-/// and what it prints; and what is found of whatever a crash may leave then.
+/// A run on empty disks: its word and script, how its handlers are held, and which sync of the first disk fails, counted from 1, or 0 for
+/// none; its status and what it prints; and what is found of whatever a crash may leave then.
 type Row = (
     &'static str,
     &'static str,
-    u64,
+    Hold,
     u64,
     GroupsStatus,
     &'static str,
@@ -96,12 +98,28 @@ type Row = (
 // In the second row each put is held behind its edit until the other's edit, in the other log, is logged too. In the third the first sync of the first
 // put's commit fails.
 const ROWS: [Row; 4] = [
-    ("2", SCRIPT, 0, 0, GroupsStatus::Done, REPORT, FOUND),
-    ("2", TWO_PUTS, 2, 0, GroupsStatus::Done, PUTS_REPORT, BOTH),
+    (
+        "2",
+        SCRIPT,
+        Hold::Nobody,
+        0,
+        GroupsStatus::Done,
+        REPORT,
+        FOUND,
+    ),
     (
         "2",
         TWO_PUTS,
+        Hold::UntilLogged(2),
         0,
+        GroupsStatus::Done,
+        PUTS_REPORT,
+        BOTH,
+    ),
+    (
+        "2",
+        TWO_PUTS,
+        Hold::Nobody,
         2,
         GroupsStatus::DiskFault,
         FAULT_REPORT,
@@ -110,7 +128,7 @@ const ROWS: [Row; 4] = [
     (
         "3",
         TWO_PUTS,
-        0,
+        Hold::Nobody,
         0,
         GroupsStatus::Usage,
         "refused usage\n",
@@ -118,44 +136,44 @@ const ROWS: [Row; 4] = [
     ),
 ];
 
-/// What a crash at the last moment may leave.
-fn crash_of(alloc: Global, disks: &Pair, choice: u64) -> Result<Pair, TestFail> {
-    let first = disks.first.crash(alloc, disks.first.clock(), choice)?;
-    let second = disks.second.crash(alloc, disks.second.clock(), choice)?;
-    Ok(Pair { first, second })
-}
-
+/// Asserts what is found of what a crash at the last moment may leave.
 fn assert_found<R: Threads + Wait + Sync + AllocGlobal + Abort>(
     rt: &R,
-    disks: &Pair,
-    text: &str,
+    ran: PairEnded,
+    choice: u64,
+    found: &str,
 ) -> Result<(), TestFail> {
-    for choice in 0..4 {
-        let again = run_on(rt, of_two(NO_CALLS), crash_of(rt.alloc(), disks, choice)?)?;
-        assert_ended(rt, &again, GroupsStatus::Done, text);
-    }
+    let alloc = rt.alloc();
+    let first = crash_at(alloc, ran.first, ran.first.clock(), choice)?;
+    let second = crash_at(alloc, ran.second, ran.second.clock(), choice)?;
+    let again = run_pair_free(rt, NO_CALLS, first, second)?;
+    let holds = again.status == GroupsStatus::Done && again.text == found;
+    expect(rt, holds, again.text);
     Ok(())
 }
 
 fn assert_row<R: Threads + Wait + Sync + AllocGlobal + Abort>(
     rt: &R,
-    row: Row,
+    row: &Row,
 ) -> Result<(), TestFail> {
-    let (word, script, meeting, failing, status, text, found) = row;
-    let call = Call {
-        word,
-        script,
-        meeting,
+    let (word, script, hold, nth, status, text, found) = row;
+    let fail = Fail {
+        call: CallKind::Sync,
+        nth: *nth,
     };
-    let ran = run_on(rt, call, empty_pair(rt.alloc(), failing)?)?;
-    assert_ended(rt, &ran, status, text);
-    assert_eq!(rt; ran.vain, 0);
-    assert_found(rt, &ran.disks, found)
+    let first = empty_disk(rt.alloc(), &[fail])?;
+    let second = empty_disk(rt.alloc(), &[])?;
+    let ran = run_pair(rt, word, script, first, second, *hold)?;
+    expect(rt, ran.status == *status && ran.text == *text, ran.text);
+    for choice in 0..4 {
+        assert_found(rt, ran, choice, found)?;
+    }
+    Ok(())
 }
 
 #[test]
 fn runs_on_empty_disks(rt: HostRuntime) -> Result<(), TestFail> {
-    for row in ROWS {
+    for row in &ROWS {
         assert_row(&rt, row)?;
     }
     Ok(())
