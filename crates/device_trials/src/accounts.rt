@@ -118,44 +118,65 @@ fn next_lower(accounting: &Accounting, after: u64) -> Option<(u64, bool)> {
     }
 }
 
+/// Notes two entries while a flush of region 1 up to 5 is under way: the oldest number stays.
+fn note_beside(rt: &impl Abort, alloc: Global, accounting: &mut Accounting, first: &Flushing)
+    ensures { accounting.new.flushing ≡ accounting.old.flushing }
+{
+    assert!(rt; first.region() == 1 && first.number() == 5);
+    note(rt, alloc, accounting, 1, 8);
+    note(rt, alloc, accounting, 1, 9);
+    assert!(rt; accounting.oldest_unflushed(1, b"f") == Some(3));
+}
+
+/// Notes, flushes, and asserts the oldest number of region 1 on the way.
+fn assert_oldest(rt: &impl Abort, alloc: Global, accounting: &mut Accounting)
+    requires { IsIdle accounting.old.flushing }
+{
+    assert!(rt; accounting.oldest_unflushed(1, b"f").is_none());
+    note(rt, alloc, accounting, 1, 3);
+    note(rt, alloc, accounting, 1, 5);
+    assert!(rt; accounting.oldest_unflushed(1, b"f") == Some(3));
+    let first = start(rt, alloc, accounting, 1, None);
+    note_beside(rt, alloc, accounting, &first);
+    complete(accounting, first);
+    assert!(rt;
+        accounting.oldest_unflushed(1, b"f") == Some(8) && accounting.flushed(1, b"f") == 5
+    );
+    flush(rt, alloc, accounting, 1);
+    assert!(rt; accounting.oldest_unflushed(1, b"f").is_none() && accounting.flushed(1, b"f") == 9);
+}
+
 #[test]
 fn oldest_while_a_flush_is_under_way(rt: HostRuntime) -> Result<(), Fail> {
     let alloc = rt.alloc();
     let mut accounting = three_regions(alloc)?;
-    assert_eq!(rt; accounting.oldest_unflushed(1, b"f"), None);
-    note(&rt, alloc, &mut accounting, 1, 3);
-    note(&rt, alloc, &mut accounting, 1, 5);
-    assert_eq!(rt; accounting.oldest_unflushed(1, b"f"), Some(3));
-    let first = start(&rt, alloc, &mut accounting, 1, None);
-    assert_eq!(rt; (first.region(), first.number()), (1, 5));
-    note(&rt, alloc, &mut accounting, 1, 8);
-    note(&rt, alloc, &mut accounting, 1, 9);
-    assert_eq!(rt; accounting.oldest_unflushed(1, b"f"), Some(3));
-    complete(&mut accounting, first);
-    assert_eq!(rt; accounting.oldest_unflushed(1, b"f"), Some(8));
-    assert_eq!(rt; accounting.flushed(1, b"f"), 5);
-    flush(&rt, alloc, &mut accounting, 1);
-    assert_eq!(rt; accounting.oldest_unflushed(1, b"f"), None);
-    assert_eq!(rt; accounting.flushed(1, b"f"), 9);
+    assert_oldest(&rt, alloc, &mut accounting);
     Ok(())
+}
+
+/// Gives up a flush of region 3, and asserts that what is flushed stays until another flush.
+fn assert_kept(rt: &impl Abort, alloc: Global, accounting: &mut Accounting)
+    requires idle { IsIdle accounting.old.flushing }
+    requires last { accounting.old.last ≡ 0 }
+{
+    assert!(rt; accounting.oldest_unflushed(3, b"f").is_none());
+    note(rt, alloc, accounting, 3, 9);
+    close(rt, accounting, 1);
+    let first = start(rt, alloc, accounting, 3, None);
+    note(rt, alloc, accounting, 3, 12);
+    give_up(accounting, first);
+    assert!(rt; accounting.flushed(3, b"f") == 7 && accounting.noted(3) == 12);
+    assert!(rt; accounting.oldest_unflushed(3, b"f") == Some(9));
+    assert!(rt; next_lower(accounting, 0) == Some((1, false)));
+    flush(rt, alloc, accounting, 3);
+    assert!(rt; accounting.flushed(3, b"f") == 12);
+    assert!(rt; next_lower(accounting, 0) == Some((1, true)));
 }
 
 #[test]
 fn aborted_flush_keeps_what_is_flushed(rt: HostRuntime) -> Result<(), Fail> {
     let alloc = rt.alloc();
     let mut accounting = three_regions(alloc)?;
-    assert_eq!(rt; accounting.oldest_unflushed(3, b"f"), None);
-    note(&rt, alloc, &mut accounting, 3, 9);
-    close(&rt, &mut accounting, 1);
-    let first = start(&rt, alloc, &mut accounting, 3, None);
-    note(&rt, alloc, &mut accounting, 3, 12);
-    give_up(&mut accounting, first);
-    assert_eq!(rt; accounting.flushed(3, b"f"), 7);
-    assert_eq!(rt; accounting.noted(3), 12);
-    assert_eq!(rt; accounting.oldest_unflushed(3, b"f"), Some(9));
-    assert_eq!(rt; next_lower(&accounting, 0), Some((1, false)));
-    flush(&rt, alloc, &mut accounting, 3);
-    assert_eq!(rt; accounting.flushed(3, b"f"), 12);
-    assert_eq!(rt; next_lower(&accounting, 0), Some((1, true)));
+    assert_kept(&rt, alloc, &mut accounting);
     Ok(())
 }

@@ -5,7 +5,7 @@ use crate::entries::{start, two_regions};
 use crate::image::{Mark, assert_images};
 use crate::script::{ANSWERS, Answer, SCRIPT, Step, numbers, take};
 use disk_fakes::{CallKind, Fail, MemDisk};
-use log_device::DeviceWhy;
+use log_device::{DeviceRefusal, DeviceWhy};
 use std::alloc::Global;
 use std::process::Abort;
 use std::test::Fail as TestFail;
@@ -137,24 +137,43 @@ fn assert_broken<R: Abort>(
 /// Asserts what comes of a script whose step of this number has a disk call that fails. What a crash leaves at a moment
 /// before that step is what it leaves of a script without a fault, as the disk calls are the same up to there.
 fn assert_faulty<R: Abort>(rt: &R, alloc: Global, fail: Fail, step: usize) -> Result<(), TestFail> {
-    let mut marks = Vec::new(alloc);
     match start(alloc, &[fail])? {
-        Err(refusal) => {
-            assert_eq!(rt; step, 0);
-            assert_eq!(rt; refusal.why, DeviceWhy::DiskFault);
-            assert_images(rt, alloc, &refusal.disk, &marks, 0)
-        }
+        Err(refusal) => assert_refused(rt, alloc, &refusal, step),
         Ok(bench) => {
             let mut bench = bench;
-            assert_eq!(rt; run(alloc, &mut bench, &mut marks)?, step);
-            assert_broken(rt, alloc, &mut bench)?;
-            let first = match marks.last() {
-                Some(mark) => mark.clock,
-                None => 0,
-            };
-            assert_images(rt, alloc, bench.device.disk(), &marks, first)
+            let mut marks = Vec::new(alloc);
+            assert_stops(rt, alloc, &mut bench, &mut marks, step)
         }
     }
+}
+
+/// Asserts what comes of a start that is refused.
+fn assert_refused<R: Abort>(
+    rt: &R,
+    alloc: Global,
+    refusal: &DeviceRefusal<MemDisk>,
+    step: usize,
+) -> Result<(), TestFail> {
+    assert_eq!(rt; step, 0);
+    assert_eq!(rt; refusal.why, DeviceWhy::DiskFault);
+    assert_images(rt, alloc, &refusal.disk, &[], 0)
+}
+
+/// Asserts what comes of the script on a device whose disk fails in this step.
+fn assert_stops<R: Abort>(
+    rt: &R,
+    alloc: Global,
+    bench: &mut Bench<MemDisk>,
+    marks: &mut Vec<Mark>,
+    step: usize,
+) -> Result<(), TestFail> {
+    assert_eq!(rt; run(alloc, bench, marks)?, step);
+    assert_broken(rt, alloc, bench)?;
+    let first = match marks.last() {
+        Some(mark) => mark.clock,
+        None => 0,
+    };
+    assert_images(rt, alloc, bench.device.disk(), marks.as_slice(), first)
 }
 
 /// How many calls of this kind the script makes.
@@ -185,23 +204,42 @@ fn assert_calls<R: Abort>(rt: &R, disk: &MemDisk) -> Result<(), TestFail> {
     Ok(())
 }
 
+/// Asserts what comes of the script without a fault.
+fn assert_whole<R: Abort>(
+    rt: &R,
+    alloc: Global,
+    bench: &mut Bench<MemDisk>,
+    marks: &mut Vec<Mark>,
+) -> Result<(), TestFail> {
+    assert_eq!(rt; run(alloc, bench, marks)?, 0);
+    assert_calls(rt, bench.device.disk())?;
+    assert_images(rt, alloc, bench.device.disk(), marks.as_slice(), 0)
+}
+
 #[test]
 fn stopped_at_each_moment(rt: HostRuntime) -> Result<(), TestFail> {
     let alloc = rt.alloc();
-    let mut marks = Vec::new(alloc);
     let mut bench = two_regions(alloc)?;
-    assert_eq!(rt; run(alloc, &mut bench, &mut marks)?, 0);
-    assert_calls(&rt, bench.device.disk())?;
-    assert_images(&rt, alloc, bench.device.disk(), &marks, 0)
+    let mut marks = Vec::new(alloc);
+    assert_whole(&rt, alloc, &mut bench, &mut marks)
+}
+
+/// Asserts what the device answers to each step, and its numbers then.
+fn assert_numbers<R: Abort>(
+    rt: &R,
+    alloc: Global,
+    bench: &mut Bench<MemDisk>,
+) -> Result<(), TestFail> {
+    for (step, (answer, after)) in SCRIPT.into_iter().zip(ANSWERS) {
+        assert_eq!(rt; take(alloc, bench, step)?, answer, "{step:?}");
+        assert_eq!(rt; numbers(bench), after, "{step:?}");
+    }
+    Ok(())
 }
 
 #[test]
 fn numbers_rise_step_by_step(rt: HostRuntime) -> Result<(), TestFail> {
     let alloc = rt.alloc();
     let mut bench = two_regions(alloc)?;
-    for (step, (answer, after)) in SCRIPT.into_iter().zip(ANSWERS) {
-        assert_eq!(rt; take(alloc, &mut bench, step)?, answer, "{step:?}");
-        assert_eq!(rt; numbers(&bench), after, "{step:?}");
-    }
-    Ok(())
+    assert_numbers(&rt, alloc, &mut bench)
 }

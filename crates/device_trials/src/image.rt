@@ -6,6 +6,7 @@ use crate::entries::value_of;
 use crate::script::EDITS;
 use disk_fakes::MemDisk;
 use disk_images::{Disk, Name, NameKind};
+use entry_frame::Entry;
 use kv_cell::Cell;
 use log_file::{LogText, read_log};
 use std::alloc::Global;
@@ -47,13 +48,18 @@ impl Content {
 
     /// Takes note of what a store file holds, where it is there.
     fn add_store(&mut self, alloc: Global, disk: &mut MemDisk, name: Name) -> Result<(), TestFail> {
+        let place = place_of(name.region)?;
         let Some(text) = store_text(alloc, disk, name)? else {
             return Ok(());
         };
-        let place = place_of(name.region)?;
         self.flushed[place] = self.flushed[place].max(text.to);
-        for (number, cell) in text.cells.as_slice() {
-            self.add(name.region, *number, cell)?;
+        self.add_cells(name.region, text.cells.as_slice())
+    }
+
+    /// Takes note of a region's cells.
+    fn add_cells(&mut self, region: u32, cells: &[(u64, Cell)]) -> Result<(), TestFail> {
+        for (number, cell) in cells {
+            self.add(region, *number, cell)?;
         }
         Ok(())
     }
@@ -66,7 +72,12 @@ impl Content {
         }
         let text = log_text(alloc, disk, name)?;
         self.is_open = text.ended.is_none();
-        for entry in text.entries.as_slice() {
+        self.add_entries(text.entries.as_slice())
+    }
+
+    /// Takes note of the entries that no store covers.
+    fn add_entries(&mut self, entries: &[Entry]) -> Result<(), TestFail> {
+        for entry in entries {
             let place = place_of(entry.region)?;
             if entry.number > self.flushed[place] {
                 let cell = entry.batch.as_slice().first().ok_or("a cell")?;
@@ -148,22 +159,33 @@ fn is_cell_of(region: u32, number: u64, cell: &Cell) -> bool {
 /// How many of the edits the files of an image recover to.
 fn recovered(alloc: Global, disk: &mut MemDisk) -> Result<usize, TestFail> {
     let names = disk.names(alloc)?;
+    recovered_of(alloc, disk, names.as_slice())
+}
+
+/// How many of the edits the files of these names recover to.
+fn recovered_of(alloc: Global, disk: &mut MemDisk, names: &[Name]) -> Result<usize, TestFail> {
     let mut content = Content {
         edits: [false; 5],
         flushed: [0; 2],
         is_open: false,
     };
-    for name in names.as_slice() {
+    for name in names {
         if name.kind == NameKind::Store {
             content.add_store(alloc, disk, *name)?;
         }
     }
-    for name in names.as_slice() {
+    for name in names {
         if name.kind == NameKind::Log {
             content.add_log(alloc, disk, *name)?;
         }
     }
     content.count()
+}
+
+/// How many of the edits a crash at this moment leaves, by this choice.
+fn left_at(alloc: Global, disk: &MemDisk, moment: u64, choice: u64) -> Result<usize, TestFail> {
+    let mut image = crash_at(alloc, disk, moment, choice)?;
+    recovered(alloc, &mut image)
 }
 
 /// How many of the edits have to be there so that all that was synced by this moment is.
@@ -206,8 +228,7 @@ pub(crate) fn assert_images<R: Abort>(
         let fewest = fewest_at(marks, moment);
         let most = most_at(marks, moment);
         for choice in 0..4 {
-            let mut image = crash_at(alloc, disk, moment, choice)?;
-            let count = recovered(alloc, &mut image)?;
+            let count = left_at(alloc, disk, moment, choice)?;
             assert!(rt;
                 fewest <= count && count <= most,
                 "moment {moment} choice {choice}: {fewest} {count} {most}"

@@ -7,6 +7,7 @@ use crate::script::{SCRIPT, take};
 use disk_fakes::MemDisk;
 use log_tail::{Position, Tail};
 use ship_queue::{MemPeer, ship_all};
+use std::alloc::Global;
 use std::process::Abort;
 use std::sync::Wait;
 use std::test::Fail;
@@ -58,8 +59,7 @@ fn ship_now<R: Threads + Wait + Sync + AllocGlobal>(
     peer: &mut MemPeer,
 ) -> Result<(), Fail> {
     let disk = bench.device.disk();
-    let mut image = crash_at(rt.alloc(), disk, disk.clock(), 0)?;
-    ship(rt, &mut image, peer)
+    ship_at(rt, disk, peer, disk.clock())
 }
 
 /// Asserts that so many of the script's edits were shipped, each once and in order, and that this position is recorded.
@@ -74,6 +74,26 @@ fn assert_shipped<R: Abort>(rt: &R, peer: &MemPeer, want: (usize, u64, u64)) {
 }
 
 /// Takes a device through the script, and ships behind the steps with these numbers and at the end.
+fn ship_steps<R: Threads + Wait + Sync + AllocGlobal + Abort>(
+    rt: &R,
+    bench: &mut Bench<MemDisk>,
+    peer: &mut MemPeer,
+    first: usize,
+    second: usize,
+) -> Result<(), Fail> {
+    for i in 0..11 {
+        take(rt.alloc(), bench, SCRIPT[i])?;
+        if i == first || i == second {
+            ship_now(rt, bench, peer)?;
+            assert_shipped(rt, peer, BEHIND[i]);
+        }
+    }
+    ship_now(rt, bench, peer)?;
+    assert_shipped(rt, peer, BEHIND[10]);
+    Ok(())
+}
+
+/// The same with a device and a peer that begin here.
 fn ship_behind<R: Threads + Wait + Sync + AllocGlobal + Abort>(
     rt: &R,
     first: usize,
@@ -82,16 +102,7 @@ fn ship_behind<R: Threads + Wait + Sync + AllocGlobal + Abort>(
     let alloc = rt.alloc();
     let mut bench = two_regions(alloc)?;
     let mut peer = MemPeer::new(alloc);
-    for i in 0..11 {
-        take(alloc, &mut bench, SCRIPT[i])?;
-        if i == first || i == second {
-            ship_now(rt, &bench, &mut peer)?;
-            assert_shipped(rt, &peer, BEHIND[i]);
-        }
-    }
-    ship_now(rt, &bench, &mut peer)?;
-    assert_shipped(rt, &peer, BEHIND[10]);
-    Ok(())
+    ship_steps(rt, &mut bench, &mut peer, first, second)
 }
 
 #[test]
@@ -102,19 +113,43 @@ fn shipped_behind_each_two_steps(rt: HostRuntime) -> Result<(), Fail> {
     Ok(())
 }
 
+/// Ships what a crash at this moment leaves.
+fn ship_at<R: Threads + Wait + Sync + AllocGlobal>(
+    rt: &R,
+    disk: &MemDisk,
+    peer: &mut MemPeer,
+    moment: u64,
+) -> Result<(), Fail> {
+    let mut image = crash_at(rt.alloc(), disk, moment, 0)?;
+    ship(rt, &mut image, peer)
+}
+
+/// Takes a device through the script.
+fn take_all(alloc: Global, bench: &mut Bench<MemDisk>) -> Result<(), Fail> {
+    for step in &SCRIPT {
+        take(alloc, bench, *step)?;
+    }
+    Ok(())
+}
+
+/// Ships at each moment of a disk, and asserts what was shipped.
+fn ship_moments<R: Threads + Wait + Sync + AllocGlobal + Abort>(
+    rt: &R,
+    disk: &MemDisk,
+    peer: &mut MemPeer,
+) -> Result<(), Fail> {
+    for moment in 0..disk.clock().saturating_add(1) {
+        ship_at(rt, disk, peer, moment)?;
+    }
+    assert_shipped(rt, peer, BEHIND[10]);
+    Ok(())
+}
+
 #[test]
 fn shipped_at_each_moment(rt: HostRuntime) -> Result<(), Fail> {
     let alloc = rt.alloc();
     let mut bench = two_regions(alloc)?;
-    for step in &SCRIPT {
-        take(alloc, &mut bench, *step)?;
-    }
-    let disk = bench.device.disk();
+    take_all(alloc, &mut bench)?;
     let mut peer = MemPeer::new(alloc);
-    for moment in 0..disk.clock().saturating_add(1) {
-        let mut image = crash_at(alloc, disk, moment, 0)?;
-        ship(&rt, &mut image, &mut peer)?;
-    }
-    assert_shipped(&rt, &peer, BEHIND[10]);
-    Ok(())
+    ship_moments(&rt, bench.device.disk(), &mut peer)
 }

@@ -1,9 +1,12 @@
 // Each call of a run fails in turn. What is read then, and what a crash at each moment leaves, is what the rules allow.
 
+ghost use Rattle.disk_fakes.specs.Views.{view_of};
+
 use crate::calls::{A, B, C, make_calls};
 use disk_fakes::{CallKind, Fail, MemDisk};
 use disk_images::Name;
 use std::alloc::Global;
+use std::process::Abort;
 use std::test::Fail as TestFail;
 
 // What a crash at each moment may leave, as folders parted by |. A folder has the files that are there, each with its
@@ -160,14 +163,30 @@ fn is_left(disk: &MemDisk, alloc: Global, calls: u64, clock: u64, folders: &str)
         && leaves_images(disk, alloc)
 }
 
+/// Whether the run ends with the call of this number and kind, and leaves what it may.
+fn ends_with(
+    disk: &mut MemDisk,
+    alloc: Global,
+    place: u64,
+    call: CallKind,
+    nth: u64,
+    clock: u64,
+    folders: &str,
+) -> bool
+    requires { (m : _) → ¬ (view_of disk.old).gone m }
+{
+    make_calls(disk, alloc).is_err()
+        && disk.calls(call) == nth
+        && is_left(disk, alloc, place, clock, folders)
+}
+
 #[test]
 fn each_call_fails_in_turn(rt: HostRuntime) -> Result<(), TestFail> {
+    let alloc = rt.alloc();
     for (place, call, nth, clock, folders) in CALLS {
-        let mut disk = MemDisk::new(rt.alloc(), &[Fail { call, nth }])?;
-        assert!(rt; make_calls(&mut disk, rt.alloc()).is_err());
-        assert!(rt; disk.calls(call) == nth, "{place}");
+        let mut disk = MemDisk::new(alloc, &[Fail { call, nth }])?;
         assert!(rt;
-            is_left(&disk, rt.alloc(), place, clock, folders),
+            ends_with(&mut disk, alloc, place, call, nth, clock, folders),
             "{place}"
         );
     }
@@ -227,17 +246,22 @@ fn is_cut_short(disk: &MemDisk, alloc: Global) -> bool {
     is_cut
 }
 
-#[test]
-fn no_call_fails(rt: HostRuntime) -> Result<(), TestFail> {
-    let mut disk = MemDisk::new(rt.alloc(), &[])?;
-    make_calls(&mut disk, rt.alloc())?;
-    assert!(rt; is_left(&disk, rt.alloc(), 26, 20, ""));
+/// Asserts what a crash leaves by each choice that is looked at.
+fn assert_exact<R: Abort>(rt: &R, disk: &MemDisk, alloc: Global) {
     for (moment, choice, name, bytes) in EXACT {
         assert!(rt;
-            leaves(&disk, rt.alloc(), moment, choice, name, bytes),
+            leaves(disk, alloc, moment, choice, name, bytes),
             "moment {moment} choice {choice}"
         );
     }
-    assert!(rt; is_cut_short(&disk, rt.alloc()));
+}
+
+#[test]
+fn no_call_fails(rt: HostRuntime) -> Result<(), TestFail> {
+    let alloc = rt.alloc();
+    let mut disk = MemDisk::new(alloc, &[])?;
+    let made = make_calls(&mut disk, alloc).is_ok();
+    assert!(rt; made && is_left(&disk, alloc, 26, 20, "") && is_cut_short(&disk, alloc));
+    assert_exact(&rt, &disk, alloc);
     Ok(())
 }

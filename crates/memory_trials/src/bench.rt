@@ -50,35 +50,53 @@ pub(crate) fn call<R: Threads + Wait + Sync + AllocGlobal>(
     run(rt, rt.alloc(), &[word], source, disk, sink, &FreeGate)
 }
 
-/// A disk that was recovered, and what was printed then.
+/// What a disk is recovered with, once or twice.
 #[derive(Drop)]
-pub(crate) struct Recovered {
-    pub(crate) disk: SafeDisk,
-    pub(crate) streams: Streams,
+pub(crate) struct Recovery {
+    first: Streams,
+    second: Streams,
 }
 
-/// Recovers a disk, and once more where memory was refused: there is enough the second time.
-pub(crate) fn recover<R: Threads + Wait + Sync + AllocGlobal + Abort>(
-    rt: &R,
-    disk: SafeDisk,
-    mut first: Streams,
-    mut second: Streams,
-) -> Result<Recovered, TestFail> {
-    let once = call(rt, "recover", disk, &mut first);
-    if once.status == Status::Memory {
-        assert_eq!(rt; first.text()?, REFUSED);
-        let again = call(rt, "recover", once.disk, &mut second);
-        assert_eq!(rt; again.status, Status::Done);
-        return Ok(Recovered {
-            disk: again.disk,
-            streams: second,
-        });
+/// How a recovery ended, and how the second one that was made where the first was refused memory.
+#[derive(Clone, Copy)]
+pub(crate) struct Ends {
+    once: Status,
+    again: Option<Status>,
+}
+
+impl Recovery {
+    pub(crate) fn new(alloc: Global) -> Result<Recovery, NoMemory> {
+        Ok(Recovery {
+            first: Streams::new(alloc, "")?,
+            second: Streams::new(alloc, "")?,
+        })
     }
-    assert_eq!(rt; once.status, Status::Done);
-    Ok(Recovered {
-        disk: once.disk,
-        streams: first,
-    })
+
+    /// Recovers a disk, and once more where memory was refused: there is enough the second time.
+    pub(crate) fn recover<R: Threads + Wait + Sync + AllocGlobal>(
+        &mut self,
+        rt: &R,
+        disk: SafeDisk,
+    ) -> (Ends, SafeDisk) {
+        let Outcome { status: once, disk } = call(rt, "recover", disk, &mut self.first);
+        if once != Status::Memory {
+            return (Ends { once, again: None }, disk);
+        }
+        let Outcome { status, disk } = call(rt, "recover", disk, &mut self.second);
+        let again = Some(status);
+        (Ends { once, again }, disk)
+    }
+
+    /// What the last one printed. Asserts that it was done, and that one before it printed the refusal alone.
+    pub(crate) fn text<R: Abort>(&self, rt: &R, ends: Ends) -> Result<&str, TestFail> {
+        let Some(again) = ends.again else {
+            assert_eq!(rt; ends.once, Status::Done);
+            return self.first.text();
+        };
+        assert_eq!(rt; self.first.text()?, REFUSED);
+        assert_eq!(rt; again, Status::Done);
+        self.second.text()
+    }
 }
 
 /// What is printed where nothing else was.

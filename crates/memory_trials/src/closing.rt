@@ -1,6 +1,6 @@
 //! A server whose close may be refused memory.
 
-use crate::bench::{Streams, empty_disk, recover};
+use crate::bench::{Recovery, empty_disk};
 use command_base::read_script;
 use disk_fakes::{SafeDisk, SafeSource};
 use kv_cell::NoMemory;
@@ -64,22 +64,22 @@ impl Gate for CountingGate {
     fn logged<R: Wait>(&self, _rt: &R, _handler: u32, _call: u32) {}
 }
 
-/// What a trial takes before it begins.
+/// What a trial takes before it begins, beside its disk.
 #[derive(Drop)]
 struct Given {
-    disk: SafeDisk,
     source: SafeSource,
-    first: Streams,
-    second: Streams,
+    recovery: Recovery,
 }
 
-fn prepare(alloc: Global) -> Result<Given, NoMemory> {
-    Ok(Given {
-        disk: empty_disk(alloc)?,
-        source: SafeSource::new(alloc, SCRIPT.as_bytes())?,
-        first: Streams::new(alloc, "")?,
-        second: Streams::new(alloc, "")?,
-    })
+fn prepare(alloc: Global) -> Result<(SafeDisk, Given), NoMemory> {
+    let disk = empty_disk(alloc)?;
+    Ok((
+        disk,
+        Given {
+            source: SafeSource::new(alloc, SCRIPT.as_bytes())?,
+            recovery: Recovery::new(alloc)?,
+        },
+    ))
 }
 
 /// The disk of a server that was refused memory for its close: the handler made all its calls, and no server was closed. It
@@ -123,20 +123,15 @@ fn is_among(texts: &[&str], wanted: &str) -> bool {
 /// answered.
 fn close_and_recover<R: Threads + Wait + Sync + AllocGlobal + Abort + Print>(
     rt: &R,
-    given: Given,
+    disk: SafeDisk,
+    given: &mut Given,
 ) -> Result<(), TestFail> {
-    let Given {
-        disk,
-        mut source,
-        first,
-        second,
-    } = given;
-    let Some(disk) = refused_close(rt, disk, &mut source) else {
+    let Some(disk) = refused_close(rt, disk, &mut given.source) else {
         return Ok(());
     };
+    let ends = given.recovery.recover(rt, disk).0;
     println!(rt; "the close was refused")?;
-    let left = recover(rt, disk, first, second)?;
-    let found = left.streams.text()?;
+    let found = given.recovery.text(rt, ends)?;
     assert!(rt; is_among(&FOUND, found), "{found}");
     Ok(())
 }
@@ -144,8 +139,8 @@ fn close_and_recover<R: Threads + Wait + Sync + AllocGlobal + Abort + Print>(
 // Where the trial itself wants memory, there is nothing to look at.
 #[test]
 fn close_without_memory(rt: HostRuntime) -> Result<(), TestFail> {
-    match prepare(rt.alloc()) {
-        Ok(given) => close_and_recover(&rt, given),
-        Err(NoMemory) => Ok(()),
-    }
+    let Ok((disk, mut given)) = prepare(rt.alloc()) else {
+        return Ok(());
+    };
+    close_and_recover(&rt, disk, &mut given)
 }

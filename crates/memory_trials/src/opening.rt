@@ -1,6 +1,6 @@
 //! A second opening, to which memory may be refused, of a store whose first opening was stopped.
 
-use crate::bench::{Streams, empty_disk, recover};
+use crate::bench::{Ends, Recovery, empty_disk};
 use disk_fakes::SafeDisk;
 use disk_images::{Disk, Name, NameKind};
 use kv_cell::NoMemory;
@@ -58,48 +58,36 @@ fn stop_first<R: Abort>(rt: &R, disk: &mut SafeDisk) -> Result<(), TestFail> {
     Ok(())
 }
 
-/// What a trial takes before it begins.
-#[derive(Drop)]
-struct Given {
-    disk: SafeDisk,
-    first: Streams,
-    second: Streams,
+fn prepare(alloc: Global) -> Result<(SafeDisk, Recovery), NoMemory> {
+    let disk = empty_disk(alloc)?;
+    Ok((disk, Recovery::new(alloc)?))
 }
 
-fn prepare(alloc: Global) -> Result<Given, NoMemory> {
-    Ok(Given {
-        disk: empty_disk(alloc)?,
-        first: Streams::new(alloc, "")?,
-        second: Streams::new(alloc, "")?,
-    })
-}
-
-/// Opens the store a second time, and a third time where memory was refused.
+/// Opens the store a second time, and a third time where memory was refused. Its disk then.
 fn open_again<R: Threads + Wait + Sync + AllocGlobal + Abort>(
     rt: &R,
-    given: Given,
-) -> Result<(), TestFail> {
-    let Given {
-        mut disk,
-        first,
-        second,
-    } = given;
+    mut disk: SafeDisk,
+    recovery: &mut Recovery,
+) -> Result<(Ends, SafeDisk), TestFail> {
     stop_first(rt, &mut disk)?;
-    let mut left = recover(rt, disk, first, second)?;
-    assert_eq!(rt;
-        left.streams.text()?,
-        "recovered 1 1 1\nrecovered 2 1 1\nend 0\n"
-    );
-    assert_eq!(rt; left.disk.size(LOG_1)?, None);
-    assert_eq!(rt; left.disk.size(EDITS_1_2)?, None);
+    Ok(recovery.recover(rt, disk))
+}
+
+/// Asserts what was recovered, and that the files of the first opening are gone.
+fn assert_opened<R: Abort>(rt: &R, disk: &mut SafeDisk, found: &str) -> Result<(), TestFail> {
+    assert_eq!(rt; found, "recovered 1 1 1\nrecovered 2 1 1\nend 0\n");
+    assert_eq!(rt; disk.size(LOG_1)?, None);
+    assert_eq!(rt; disk.size(EDITS_1_2)?, None);
     Ok(())
 }
 
 // Where the trial itself wants memory, there is nothing to look at.
 #[test]
 fn second_recovery(rt: HostRuntime) -> Result<(), TestFail> {
-    match prepare(rt.alloc()) {
-        Ok(given) => open_again(&rt, given),
-        Err(NoMemory) => Ok(()),
-    }
+    let Ok((disk, mut recovery)) = prepare(rt.alloc()) else {
+        return Ok(());
+    };
+    let (ends, mut disk) = open_again(&rt, disk, &mut recovery)?;
+    let found = recovery.text(&rt, ends)?;
+    assert_opened(&rt, &mut disk, found)
 }

@@ -1,32 +1,32 @@
 //! A run to which memory may be refused.
 
-use crate::bench::{REFUSED, Streams, call, empty_disk, recover};
+use crate::bench::{REFUSED, Recovery, Streams, call, empty_disk};
 use crate::report::{SCRIPT, Told, is_kept, read_report};
 use disk_fakes::SafeDisk;
 use kv_cell::NoMemory;
-use load_run::Status;
+use load_run::{Outcome, Status};
 use std::alloc::Global;
 use std::process::Abort;
 use std::sync::Wait;
 use std::test::Fail as TestFail;
 use std::thread::Threads;
 
-/// What a trial takes before it begins.
+/// What a trial takes before it begins, beside its disk.
 #[derive(Drop)]
 struct Given {
-    disk: SafeDisk,
     ran: Streams,
-    first: Streams,
-    second: Streams,
+    recovery: Recovery,
 }
 
-fn prepare(alloc: Global) -> Result<Given, NoMemory> {
-    Ok(Given {
-        disk: empty_disk(alloc)?,
-        ran: Streams::new(alloc, SCRIPT)?,
-        first: Streams::new(alloc, "")?,
-        second: Streams::new(alloc, "")?,
-    })
+fn prepare(alloc: Global) -> Result<(SafeDisk, Given), NoMemory> {
+    let disk = empty_disk(alloc)?;
+    Ok((
+        disk,
+        Given {
+            ran: Streams::new(alloc, SCRIPT)?,
+            recovery: Recovery::new(alloc)?,
+        },
+    ))
 }
 
 const ALL: Told = Told {
@@ -46,32 +46,31 @@ fn may_end(status: Status, told: Option<Told>, text: &str) -> bool {
     }
 }
 
+/// Asserts that a run that ended so told what it may, and that its disk was recovered to that.
+fn assert_told<R: Abort>(rt: &R, status: Status, ran: &str, found: &str) {
+    let told = read_report(ran);
+    assert!(rt; may_end(status, told, ran), "{ran}");
+    assert!(rt; is_kept(told, found), "{found} behind {ran}");
+}
+
 /// Runs the script, and then recovers the disk that it left.
 fn run_and_recover<R: Threads + Wait + Sync + AllocGlobal + Abort>(
     rt: &R,
-    given: Given,
+    disk: SafeDisk,
+    given: &mut Given,
 ) -> Result<(), TestFail> {
-    let Given {
-        disk,
-        mut ran,
-        first,
-        second,
-    } = given;
-    let ended = call(rt, "run", disk, &mut ran);
-    let text = ran.text()?;
-    let told = read_report(text);
-    assert!(rt; may_end(ended.status, told, text), "{text}");
-    let left = recover(rt, ended.disk, first, second)?;
-    let found = left.streams.text()?;
-    assert!(rt; is_kept(told, found), "{found} behind {text}");
+    let Outcome { status, disk } = call(rt, "run", disk, &mut given.ran);
+    let ends = given.recovery.recover(rt, disk).0;
+    let found = given.recovery.text(rt, ends)?;
+    assert_told(rt, status, given.ran.text()?, found);
     Ok(())
 }
 
 // Where the trial itself wants memory, there is nothing to look at.
 #[test]
 fn two_handlers(rt: HostRuntime) -> Result<(), TestFail> {
-    match prepare(rt.alloc()) {
-        Ok(given) => run_and_recover(&rt, given),
-        Err(NoMemory) => Ok(()),
-    }
+    let Ok((disk, mut given)) = prepare(rt.alloc()) else {
+        return Ok(());
+    };
+    run_and_recover(&rt, disk, &mut given)
 }

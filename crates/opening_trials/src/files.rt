@@ -90,8 +90,8 @@ pub(crate) fn assert_files<R: Abort>(
     disk: &mut MemDisk,
     files: &[File],
 ) -> Result<(), TestFail> {
-    let names = disk.names(alloc)?;
-    assert_eq!(rt; names.as_slice().len(), files.len());
+    let count = disk.names(alloc)?.as_slice().len();
+    assert_eq!(rt; count, files.len());
     for file in files {
         let name = name_of(*file);
         assert_eq!(rt; disk.bytes(name), Some(file.3), "{name:?}");

@@ -5,8 +5,6 @@
 #[cfg(test)]
 mod files;
 #[cfg(test)]
-mod many;
-#[cfg(test)]
 mod opened;
 #[cfg(test)]
 mod replays;

@@ -2,7 +2,7 @@
 
 use crate::files::File;
 use disk_fakes::MemDisk;
-use disk_images::{Disk, NameKind};
+use disk_images::{Disk, Name, NameKind};
 use region_replay::{Replayed, recover_all};
 use std::alloc::Global;
 use std::process::Abort;
@@ -62,6 +62,16 @@ fn assert_all_edits<R: Abort>(rt: &R, replayed: &[Replayed], regions: &[Kept]) {
     }
 }
 
+/// Whether none of these is a log's or an edits file's name.
+fn are_none_logged(names: &[Name]) -> bool {
+    for name in names {
+        if name.kind == NameKind::Log || name.kind == NameKind::Edits {
+            return false;
+        }
+    }
+    true
+}
+
 /// Asserts that no log and no edits file is there.
 pub(crate) fn assert_none_logged<R: Abort>(
     rt: &R,
@@ -69,12 +79,7 @@ pub(crate) fn assert_none_logged<R: Abort>(
     disk: &mut MemDisk,
 ) -> Result<(), TestFail> {
     let names = disk.names(alloc)?;
-    for name in names.as_slice() {
-        assert!(rt;
-            name.kind == NameKind::Old || name.kind == NameKind::Store,
-            "{name:?}"
-        );
-    }
+    assert!(rt; are_none_logged(names.as_slice()));
     Ok(())
 }
 

@@ -5,7 +5,7 @@ ghost use Rattle.log_model.specs.declared.name.NameKind.TheVariants as kinds;
 ghost use Rattle.disk_fakes.specs.Views.{view_of};
 
 use crate::files::{File, assert_files, disk_of, name_of};
-use crate::opened::{Kept, ONE_EDIT, assert_kept, kept_at};
+use crate::opened::{Kept, ONE_EDIT, Want, assert_kept, kept_at};
 use crate::texts::{LOG_1, LOG_2, OTHER_LOG_2, STORE_OF_1, STORE_OF_2};
 use crate::versions::OF_BOTH_VERSIONS;
 use crate::worked::WORKED;
@@ -107,14 +107,24 @@ fn refusal_of(alloc: Global, disk: &mut MemDisk, region: u32) -> Result<SplitRef
     }
 }
 
+/// Splits a store and replays each region, and asserts what there is then.
+fn assert_replayed<R: Abort>(
+    rt: &R,
+    alloc: Global,
+    disk: &mut MemDisk,
+    want: &Want,
+) -> Result<(), TestFail> {
+    split_whole(alloc, disk)?;
+    assert_all_replay(rt, alloc, disk, want.regions)?;
+    assert_files(rt, alloc, disk, want.files)
+}
+
 #[test]
 fn split_and_each_region_replayed(rt: HostRuntime) -> Result<(), TestFail> {
     let alloc = rt.alloc();
     for (files, want) in WORKED.iter().chain(&OF_BOTH_VERSIONS) {
         let mut disk = disk_of(alloc, files, &[])?;
-        split_whole(alloc, &mut disk)?;
-        assert_all_replay(&rt, alloc, &mut disk, want.regions)?;
-        assert_files(&rt, alloc, &mut disk, want.files)?;
+        assert_replayed(&rt, alloc, &mut disk, want)?;
     }
     Ok(())
 }

@@ -157,19 +157,37 @@ fn assert_moment<R: Abort>(
     regions: &[Kept],
 ) -> Result<(), TestFail> {
     for choice in 0..4 {
-        let mut image = crash_at(alloc, disk, moment, choice)?;
-        assert_opens_again(rt, alloc, &mut image, regions)?;
+        assert_image(rt, alloc, disk, moment, choice, regions)?;
     }
     Ok(())
 }
 
-/// Asserts it of each moment of the step.
-fn assert_moments<R: Abort>(rt: &R, alloc: Global, trial: &Trial) -> Result<(), TestFail> {
-    let mut disk = begin(alloc, trial, &[])?;
+/// Asserts what this image of this moment is opened to.
+fn assert_image<R: Abort>(
+    rt: &R,
+    alloc: Global,
+    disk: &MemDisk,
+    moment: u64,
+    choice: u64,
+    regions: &[Kept],
+) -> Result<(), TestFail> {
+    let mut image = crash_at(alloc, disk, moment, choice)?;
+    assert_opens_again(rt, alloc, &mut image, regions)
+}
+
+/// Does the step, and asserts it of each moment of it.
+fn assert_moments<R: Abort>(
+    rt: &R,
+    alloc: Global,
+    disk: &mut MemDisk,
+    trial: &Trial,
+) -> Result<(), TestFail>
+    requires { (m : _) → m.kind ≡ kinds.Store → ¬ (view_of disk.old).gone m }
+{
     let first = disk.clock();
-    assert_step(rt, alloc, &mut disk, trial.step, None)?;
+    assert_step(rt, alloc, disk, trial.step, None)?;
     for moment in first..disk.clock().saturating_add(1) {
-        assert_moment(rt, alloc, &disk, moment, trial.regions)?;
+        assert_moment(rt, alloc, disk, moment, trial.regions)?;
     }
     Ok(())
 }
@@ -177,7 +195,8 @@ fn assert_moments<R: Abort>(rt: &R, alloc: Global, trial: &Trial) -> Result<(), 
 #[test]
 fn stopped_at_each_moment(rt: HostRuntime) -> Result<(), TestFail> {
     for trial in &TRIALS {
-        assert_moments(&rt, rt.alloc(), trial)?;
+        let mut disk = begin(rt.alloc(), trial, &[])?;
+        assert_moments(&rt, rt.alloc(), &mut disk, trial)?;
     }
     Ok(())
 }
@@ -190,10 +209,22 @@ fn assert_fault<R: Abort>(
     fail: Fail,
 ) -> Result<(), TestFail> {
     let mut disk = begin(alloc, trial, &[fail])?;
+    assert_refused(rt, alloc, &mut disk, trial)
+}
+
+/// Asserts that the step meets the disk's fault, and what the disk and each image of it are opened to behind it.
+fn assert_refused<R: Abort>(
+    rt: &R,
+    alloc: Global,
+    disk: &mut MemDisk,
+    trial: &Trial,
+) -> Result<(), TestFail>
+    requires { (m : _) → m.kind ≡ kinds.Store → ¬ (view_of disk.old).gone m }
+{
     let want = Some(SplitRefusal::DiskFault);
-    assert_step(rt, alloc, &mut disk, trial.step, want)?;
-    assert_moment(rt, alloc, &disk, disk.clock(), trial.regions)?;
-    assert_opens_again(rt, alloc, &mut disk, trial.regions)
+    assert_step(rt, alloc, disk, trial.step, want)?;
+    assert_moment(rt, alloc, disk, disk.clock(), trial.regions)?;
+    assert_opens_again(rt, alloc, disk, trial.regions)
 }
 
 /// Asserts it of the calls of this kind from the first of these numbers to before the second.
@@ -211,14 +242,25 @@ fn assert_faults_of<R: Abort>(
     Ok(())
 }
 
+/// How many calls of this kind come before the step, and how many up to its end.
+fn calls_of<R: Abort>(
+    rt: &R,
+    alloc: Global,
+    trial: &Trial,
+    call: CallKind,
+) -> Result<(u64, u64), TestFail> {
+    let mut disk = begin(alloc, trial, &[])?;
+    let before = disk.calls(call);
+    assert_step(rt, alloc, &mut disk, trial.step, None)?;
+    Ok((before, disk.calls(call)))
+}
+
 /// Asserts it of each call of the step.
 fn assert_faults<R: Abort>(rt: &R, alloc: Global, trial: &Trial) -> Result<(), TestFail> {
-    let before = begin(alloc, trial, &[])?;
-    let mut disk = begin(alloc, trial, &[])?;
-    assert_step(rt, alloc, &mut disk, trial.step, None)?;
     for call in KINDS {
-        let first = before.calls(call).saturating_add(1);
-        let end = disk.calls(call).saturating_add(1);
+        let (before, behind) = calls_of(rt, alloc, trial, call)?;
+        let first = before.saturating_add(1);
+        let end = behind.saturating_add(1);
         assert_faults_of(rt, alloc, trial, call, first, end)?;
     }
     Ok(())

@@ -1,12 +1,12 @@
-//! What one thread does while another one is held back in a commit.
+//! What is tried on a service, and what one thread does while another one is held back in a commit.
 
 ghost use Rattle.std.specs.Prelude.{◌≡◌, ◌≤◌, ◌+◌, IfSome};
 ghost use Rattle.append_ring.specs.Parts.{last_pushed};
 ghost use Rattle.log_service.specs.Items.{number_of};
 ghost use Rattle.log_service.specs.Places.{IsSeatOf};
 
-use crate::entries::SMALL;
-use crate::held::{HeldDisk, HeldTrial};
+use crate::faults::small_script;
+use crate::held::{HeldDisk, HeldTrial, Trial};
 use crate::overlap::move_beside;
 use crate::puts::{ask, put};
 use crate::queues::roll_full;
@@ -37,7 +37,7 @@ pub(crate) fn put_and_move<N: ServiceNaming, R: Wait>(
     ensures last { IfSome result (λ _. last_pushed number_of pass.new ≡ number) }
     ensures seat { IsSeatOf service.now seat.new }
 {
-    put(rt, alloc, service, pass, number, SMALL)?;
+    put(rt, alloc, service, pass, number)?;
     ask(rt, service, pass, number)?;
     if service.consumer_turn(rt, seat) == ConsumerTurn::Moved(2) {
         Some(())
@@ -75,7 +75,7 @@ fn run_beside<N: ServiceNaming + Send + Sync, R: Wait + Threads + Sync + Abort>(
 }
 
 /// Runs a trial while another thread is held back in the commit of the first edit.
-pub(crate) fn while_held<N: ServiceNaming + Send + Sync, R: Wait + Threads + Sync + Abort>(
+fn beside_commit<N: ServiceNaming + Send + Sync, R: Wait + Threads + Sync + Abort>(
     rt: &R,
     alloc: Global,
     service: &LogService<HeldDisk, N>,
@@ -111,5 +111,31 @@ pub(crate) fn while_held<N: ServiceNaming + Send + Sync, R: Wait + Threads + Syn
         answer
     } else {
         None
+    }
+}
+
+/// Runs a trial.
+pub(crate) fn while_held<N: ServiceNaming + Send + Sync, R: Wait + Threads + Sync + Abort>(
+    rt: &R,
+    alloc: Global,
+    service: &LogService<HeldDisk, N>,
+    pass: &mut RingKey<Item>,
+    first: &mut LogSeat,
+    second: &mut LogSeat,
+    watch: &Watch,
+    trial: Trial,
+) -> Option<u64>
+    requires regions { service.now.regions ≡ 1 }
+    requires ring { (pass.old.pass.table_id ≡ service.now.ring) × (pass.old.region ≡ 1) }
+    requires last { last_pushed number_of pass.old ≡ 0 }
+    requires seats { IsSeatOf service.now first.old × IsSeatOf service.now second.old }
+    ensures ring { (pass.new.pass.table_id ≡ service.now.ring) × (pass.new.region ≡ 1) }
+    ensures seats { IsSeatOf service.now first.new × IsSeatOf service.now second.new }
+{
+    match trial {
+        Trial::Script => small_script(rt, alloc, service, pass, first),
+        Trial::Beside(held) => {
+            beside_commit(rt, alloc, service, pass, first, second, watch, held)
+        }
     }
 }

@@ -7,10 +7,10 @@ ghost use Rattle.log_service.specs.Items.{region_of, number_of, IsWholeItem};
 ghost use Rattle.log_service.specs.Places.{IsSeatOf};
 ghost use Rattle.service_trials.specs.Crew.{IsOf};
 
-use crate::bench::TestDisk;
-use crate::entries::{SMALL, truck};
+use crate::entries::truck;
 use crate::member::Member;
 use append_ring::RingKey;
+use disk_fakes::MemDisk;
 use log_service::{Helped, Item, LogSeat, LogService, ServiceNaming, Waited};
 use std::alloc::Global;
 use std::sync::Wait;
@@ -28,7 +28,7 @@ const SINGLE_PUTS: u64 = 500;
 const BURST: u64 = 250;
 
 /// Helps the log once. Where another thread does it, it sleeps until a turn of the device has ended.
-fn help<N: ServiceNaming, R: Wait>(rt: &R, service: &LogService<TestDisk, N>, seat: &mut LogSeat)
+fn help<N: ServiceNaming, R: Wait>(rt: &R, service: &LogService<MemDisk, N>, seat: &mut LogSeat)
     requires { IsSeatOf service.now seat.old }
     ensures { IsSeatOf service.now seat.new }
 {
@@ -43,7 +43,7 @@ fn help<N: ServiceNaming, R: Wait>(rt: &R, service: &LogService<TestDisk, N>, se
 /// Pushes an item. Where the ring is full it helps the log and tries again, and adds one to `full`. False where the log is broken.
 fn push<N: ServiceNaming, R: Wait>(
     rt: &R,
-    service: &LogService<TestDisk, N>,
+    service: &LogService<MemDisk, N>,
     pass: &mut RingKey<Item>,
     seat: &mut LogSeat,
     full: &mut u64,
@@ -78,7 +78,7 @@ fn push<N: ServiceNaming, R: Wait>(
 fn put<N: ServiceNaming, R: Wait>(
     rt: &R,
     alloc: Global,
-    service: &LogService<TestDisk, N>,
+    service: &LogService<MemDisk, N>,
     member: &mut Member,
     number: u64,
 ) -> bool
@@ -88,7 +88,7 @@ fn put<N: ServiceNaming, R: Wait>(
     ensures of { IsOf service.now member.new }
     ensures pushed { IsTrue result → member.new.pushed ≡ number }
 {
-    let Some(truck) = truck(alloc, member.pass.region, number, SMALL) else {
+    let Some(truck) = truck(alloc, member.pass.region, number) else {
         return false;
     };
     let Member {
@@ -107,7 +107,7 @@ fn put<N: ServiceNaming, R: Wait>(
 /// Asks that the edits that a member pushed be durable, and waits for it. Whether they are.
 fn settle<N: ServiceNaming, R: Wait>(
     rt: &R,
-    service: &LogService<TestDisk, N>,
+    service: &LogService<MemDisk, N>,
     member: &mut Member,
 ) -> bool
     requires { IsOf service.now member.old }
@@ -141,7 +141,7 @@ fn waits_behind(number: u64) -> bool {
 fn put_up_to<N: ServiceNaming, R: Wait>(
     rt: &R,
     alloc: Global,
-    service: &LogService<TestDisk, N>,
+    service: &LogService<MemDisk, N>,
     member: &mut Member,
     last: u64,
 )
@@ -163,7 +163,7 @@ fn put_up_to<N: ServiceNaming, R: Wait>(
 pub(crate) fn put_each<N: ServiceNaming + Send + Sync, R: Wait + Threads + Sync>(
     rt: &R,
     alloc: Global,
-    service: &LogService<TestDisk, N>,
+    service: &LogService<MemDisk, N>,
     crew: &mut Vec<Member>,
     last: u64,
 )

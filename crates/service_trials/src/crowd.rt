@@ -3,9 +3,9 @@
 ghost use Rattle.std.specs.Prelude.{◌≡◌, ◌+◌, ◌≤◌, ◌<◌, [], length, All, vec_capacity};
 ghost use Rattle.service_trials.specs.Crew.{AreIn, AreOut, IsOf};
 
-use crate::bench::TestDisk;
 use crate::member::Member;
 use append_ring::RingKeys;
+use disk_fakes::MemDisk;
 use log_service::{Item, LogSeats, LogService, ServiceNaming};
 use std::sync::Wait;
 
@@ -21,7 +21,7 @@ fn sure_same<R: Wait>(rt: &R, one: u32, other: u32)
 
 /// Gives each of sixteen members, for whom there is room, its pass and its seat.
 pub(crate) fn hand_out<N: ServiceNaming>(
-    service: &LogService<TestDisk, N>,
+    service: &LogService<MemDisk, N>,
     passes: &mut RingKeys<Item>,
     seats: &mut LogSeats,
     crew: &mut Vec<Member>,
@@ -61,7 +61,7 @@ pub(crate) struct Told {
 /// Takes back what a member has, which is of the region behind this one. What it told.
 fn one_back<N: ServiceNaming, R: Wait>(
     rt: &R,
-    service: &LogService<TestDisk, N>,
+    service: &LogService<MemDisk, N>,
     member: Member,
     passes: &mut RingKeys<Item>,
     seats: &mut LogSeats,
@@ -89,7 +89,7 @@ fn one_back<N: ServiceNaming, R: Wait>(
 /// Takes all back, in the order of the regions. What they told, summed up.
 pub(crate) fn take_back<N: ServiceNaming, R: Wait>(
     rt: &R,
-    service: &LogService<TestDisk, N>,
+    service: &LogService<MemDisk, N>,
     crew: Vec<Member>,
     passes: &mut RingKeys<Item>,
     seats: &mut LogSeats,

@@ -11,29 +11,11 @@ use log_trucks::Truck;
 use seq_accounting::FamilyMarks;
 use std::alloc::Global;
 
-/// How many cells an edit has, and how many bytes the value of each.
-#[derive(Clone, Copy)]
-pub(crate) struct Size {
-    pub(crate) cells: usize,
-    pub(crate) value: usize,
-}
-
-pub(crate) const SMALL: Size = Size { cells: 1, value: 1 };
-
-/// Four such edits fit a stage of 4,194,304 bytes, and five don't.
-pub(crate) const LARGE: Size = Size {
-    cells: 15,
-    value: 65_000,
-};
-
-/// Puts of row `r`, column `f:q`, with the edit's number as timestamp.
-fn puts(alloc: Global, number: u64, size: Size) -> Option<Batch> {
-    let value: Vec<u8> = vec![in alloc; b'v'; size.value].ok()?;
+/// A put of row `r`, column `f:q`, with the edit's number as timestamp.
+fn one_put(alloc: Global, number: u64) -> Option<Batch> {
+    let cell = Cell::new(alloc, b"r", b"f", b"q", number, 4, b"v").ok()?;
     let mut cells = Vec::new(alloc);
-    for _ in 0..size.cells {
-        let cell = Cell::new(alloc, b"r", b"f", b"q", number, 4, value.as_slice()).ok()?;
-        cells.push(cell).ok()?;
-    }
+    cells.push(cell).ok()?;
     Batch::new(cells).ok()
 }
 
@@ -66,7 +48,7 @@ fn load(alloc: Global, region: u32, number: u64, batch: &Batch) -> Option<Truck>
 }
 
 /// A lone truck with an edit of this region, written at 1000.
-pub(crate) fn truck(alloc: Global, region: u32, number: u64, size: Size) -> Option<Box<Truck>>
+pub(crate) fn truck(alloc: Global, region: u32, number: u64) -> Option<Box<Truck>>
     requires region { (1 ≤ region) × (region ≤ 64) }
     requires given { 1 ≤ number }
     requires number { number < 2 ^ 48 }
@@ -75,7 +57,7 @@ pub(crate) fn truck(alloc: Global, region: u32, number: u64, size: Size) -> Opti
     ensures alone { IfSome result (λ t. t.value.behind ≡ []) }
     ensures spelled { IfSome result (λ t. IsSpelled (held_of t.value)) }
 {
-    let batch = puts(alloc, number, size)?;
+    let batch = one_put(alloc, number)?;
     let load = load(alloc, region, number, &batch)?;
     let truck = Box::new(alloc, load).ok()?;
     Some(truck)

@@ -1,4 +1,4 @@
-//! A service with one region and two seats, over an empty disk whose syncs can be held back.
+//! A service with one region and two seats, from its start to its close, over an empty disk whose syncs can be held back.
 
 ghost use Rattle.std.specs.Prelude.{◌≡◌, ◌<◌, ◌≤◌, ℕ, [], ◌∷◌, length};
 ghost use Rattle.crossbeam_queue.specs.Passes.{view};
@@ -11,11 +11,11 @@ ghost use Rattle.log_berth.specs.Standing.{AreBack};
 ghost use Rattle.log_service.specs.Begun.{IsFresh, BeginsAs, AreParts};
 ghost use Rattle.log_service.specs.Places.{IsSeatOf};
 
-use crate::bench::ONE_REGION;
 use crate::beside::while_held;
 use crate::watch::Watch;
-use disk_fakes::{MemDisk, WatchDisk};
+use disk_fakes::{Fail, MemDisk, WatchDisk};
 use log_device::Device;
+use log_ledger::RegionBase;
 use log_service::{LogSeat, LogSeats, LogService, Rings, ServiceNaming, ServiceParts};
 use std::alloc::Global;
 use std::marker::Brand;
@@ -28,6 +28,13 @@ use std::thread::Threads;
 
 pub(crate) type HeldDisk = WatchDisk<MemDisk>;
 
+/// Region 1, of which nothing is stored.
+const ONE_REGION: [RegionBase; 1] = [RegionBase {
+    region: 1,
+    flushed: 0,
+    next_store: 1,
+}];
+
 /// What is tried while a sync is held back.
 #[derive(Clone, Copy)]
 pub(crate) enum HeldTrial {
@@ -37,10 +44,18 @@ pub(crate) enum HeldTrial {
     Full,
 }
 
-/// What is left of a service, and what its trial found.
+/// What is tried: a script alone, or something beside a commit that is held back.
+#[derive(Clone, Copy)]
+pub(crate) enum Trial {
+    Script,
+    Beside(HeldTrial),
+}
+
+/// What is left of a service, and what its trial found. Where the device was refused nothing was started.
 #[derive(Drop)]
 pub(crate) struct HeldEnd {
     pub(crate) disk: HeldDisk,
+    pub(crate) started: bool,
     pub(crate) broken: bool,
     pub(crate) synced: u64,
     pub(crate) answer: Option<u64>,
@@ -75,7 +90,7 @@ fn over_held<N: ServiceNaming + Send + Sync, R: Wait + Threads + Sync + Abort>(
     device: Device<HeldDisk>,
     _found: Snapshot<HeldDisk>,
     watch: &Watch,
-    trial: HeldTrial,
+    trial: Trial,
 ) -> Option<HeldEnd>
     requires lasts { N.lasts ≡ 0 ∷ [] }
     requires items { (rings.items.ring.capacity ≡ 1024)
@@ -119,21 +134,23 @@ fn over_held<N: ServiceNaming + Send + Sync, R: Wait + Threads + Sync + Abort>(
     let closed = service.close(rt, seats, passes);
     Some(HeldEnd {
         disk: closed.disk,
+        started: true,
         broken: closed.broken,
         synced: closed.synced.as_slice()[0],
         answer,
     })
 }
 
-/// Runs a trial over an empty disk.
+/// Runs a trial over an empty disk whose calls of these kinds and numbers fail.
 pub(crate) fn run_held<R: Wait + Threads + Sync + Abort>(
     rt: &R,
     alloc: Global,
-    trial: HeldTrial,
+    fails: &[Fail],
+    trial: Trial,
 ) -> Result<HeldEnd, TestFail> {
     let seen = Arc::new(alloc, AtomicU64::new(0))?;
     let held = Arc::new(alloc, AtomicU64::new(0))?;
-    let mem = MemDisk::new(alloc, &[])?;
+    let mem = MemDisk::new(alloc, fails)?;
     let disk = WatchDisk::new(mem, Arc::try_clone(&seen)?, Arc::try_clone(&held)?);
     let watch = Watch::new(seen, held);
     let rings = match Rings::new(alloc, &[0]) {
@@ -146,6 +163,12 @@ pub(crate) fn run_held<R: Wait + Threads + Sync + Abort>(
             let ended = over_held::<Brand, R>(rt, alloc, rings, device, found, &watch, trial);
             Ok(ended.ok_or("memory is ample")?)
         }
-        Err(_) => Err("an empty disk is opened")?,
+        Err(refusal) => Ok(HeldEnd {
+            disk: refusal.disk,
+            started: false,
+            broken: false,
+            synced: 0,
+            answer: None,
+        }),
     }
 }

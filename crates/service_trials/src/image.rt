@@ -2,6 +2,8 @@
 
 use disk_fakes::MemDisk;
 use disk_images::{Disk, Name, NameKind};
+use entry_frame::Entry;
+use kv_cell::Cell;
 use log_file::{LogText, read_log};
 use std::alloc::Global;
 use std::test::Fail as TestFail;
@@ -34,7 +36,12 @@ impl Content {
             return Ok(());
         };
         self.flushed = self.flushed.max(text.to);
-        for (number, _) in text.cells.as_slice() {
+        self.add_cells(text.cells.as_slice())
+    }
+
+    /// Takes note of the edits of cells.
+    fn add_cells(&mut self, cells: &[(u64, Cell)]) -> Result<(), TestFail> {
+        for (number, _) in cells {
             self.add(*number)?;
         }
         Ok(())
@@ -43,7 +50,12 @@ impl Content {
     /// Takes note of the entries of a log that no store covers.
     fn add_log(&mut self, alloc: Global, disk: &mut MemDisk, name: Name) -> Result<(), TestFail> {
         let text = log_text(alloc, disk, name)?;
-        for entry in text.entries.as_slice() {
+        self.add_entries(text.entries.as_slice())
+    }
+
+    /// Takes note of the entries that no store covers.
+    fn add_entries(&mut self, entries: &[Entry]) -> Result<(), TestFail> {
+        for entry in entries {
             if entry.number > self.flushed {
                 self.add(entry.number)?;
             }
@@ -94,16 +106,21 @@ fn store_text(
 /// How many edits the files of an image recover to.
 fn recovered(alloc: Global, disk: &mut MemDisk) -> Result<u64, TestFail> {
     let names = disk.names(alloc)?;
+    recovered_of(alloc, disk, names.as_slice())
+}
+
+/// How many edits the files of these names recover to.
+fn recovered_of(alloc: Global, disk: &mut MemDisk, names: &[Name]) -> Result<u64, TestFail> {
     let mut content = Content {
         edits: [false; MOST],
         flushed: 0,
     };
-    for name in names.as_slice() {
+    for name in names {
         if name.kind == NameKind::Store {
             content.add_store(alloc, disk, *name)?;
         }
     }
-    for name in names.as_slice() {
+    for name in names {
         if name.kind == NameKind::Log {
             content.add_log(alloc, disk, *name)?;
         }
@@ -111,25 +128,45 @@ fn recovered(alloc: Global, disk: &mut MemDisk) -> Result<u64, TestFail> {
     content.count()
 }
 
+/// How many edits a crash now leaves, by this choice.
+fn left_by_crash(alloc: Global, disk: &MemDisk, choice: u64) -> Result<u64, TestFail> {
+    let mut image = disk.crash(alloc, disk.clock(), choice)?;
+    recovered(alloc, &mut image)
+}
+
 /// The fewest and the most edits that a crash now leaves.
 pub(crate) fn left_by_crashes(alloc: Global, disk: &MemDisk) -> Result<(u64, u64), TestFail> {
     let mut fewest = u64::MAX;
     let mut most = 0;
     for choice in 0..4 {
-        let mut image = disk.crash(alloc, disk.clock(), choice)?;
-        let count = recovered(alloc, &mut image)?;
+        let count = left_by_crash(alloc, disk, choice)?;
         fewest = fewest.min(count);
         most = most.max(count);
     }
     Ok((fewest, most))
 }
 
-/// Whether the entries of a region in a log are those of the numbers `from` to `to`, without `to`, in their order.
+/// Whether the entries of region 1 are those of the numbers `from` to `to`, without `to`, in their order.
+fn are_numbers(entries: &[Entry], from: u64, to: u64) -> bool {
+    let mut next = from;
+    for entry in entries {
+        if entry.region == 1 {
+            if entry.number != next {
+                return false;
+            }
+            next = next.wrapping_add(1);
+        }
+    }
+    next == to
+}
+
+/// Whether the entries of region 1 in a log, which a crash now leaves by this choice, are those of the numbers `from` to `to`, without `to`,
+/// in their order.
 pub(crate) fn has_numbers(
     alloc: Global,
-    disk: &mut MemDisk,
+    disk: &MemDisk,
+    choice: u64,
     log: u64,
-    region: u32,
     from: u64,
     to: u64,
 ) -> Result<bool, TestFail> {
@@ -138,15 +175,7 @@ pub(crate) fn has_numbers(
         region: 0,
         number: log,
     };
-    let text = log_text(alloc, disk, name)?;
-    let mut next = from;
-    for entry in text.entries.as_slice() {
-        if entry.region == region {
-            if entry.number != next {
-                return Ok(false);
-            }
-            next = next.wrapping_add(1);
-        }
-    }
-    Ok(next == to)
+    let mut image = disk.crash(alloc, disk.clock(), choice)?;
+    let text = log_text(alloc, &mut image, name)?;
+    Ok(are_numbers(text.entries.as_slice(), from, to))
 }

@@ -1,10 +1,8 @@
-//! Trials of the log service on a disk in memory that tells what it holds: what one commit costs, moves beside another thread's commit, a roll
-//! behind chains, a flush whose stage fills, flushes of one family, and a fault of each disk call with what a crash leaves then. A library of
-//! tests alone, at the top, so that no crate waits for it.
+//! Trials of the log service on a disk in memory that tells what it holds: moves beside another thread's commit, a roll behind chains and behind
+//! a full ring, a thread that waits for the log, sixteen threads that put, and a fault of each disk call with what a crash leaves then. A
+//! library of tests alone, at the top, so that no crate waits for it.
 #![tactic(auto)]
 
-#[cfg(test)]
-mod bench;
 #[cfg(test)]
 mod beside;
 #[cfg(test)]
@@ -14,11 +12,7 @@ mod crowd;
 #[cfg(test)]
 mod entries;
 #[cfg(test)]
-mod families;
-#[cfg(test)]
 mod faults;
-#[cfg(test)]
-mod filling;
 #[cfg(test)]
 mod held;
 #[cfg(test)]
@@ -34,10 +28,6 @@ mod queues;
 mod rolls;
 #[cfg(test)]
 mod threads;
-#[cfg(test)]
-mod trial;
-#[cfg(test)]
-mod turns;
 #[cfg(test)]
 mod waits;
 #[cfg(test)]

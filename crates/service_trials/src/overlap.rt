@@ -5,8 +5,7 @@ ghost use Rattle.append_ring.specs.Parts.{last_pushed};
 ghost use Rattle.log_service.specs.Items.{number_of};
 ghost use Rattle.log_service.specs.Places.{IsSeatOf};
 
-use crate::entries::SMALL;
-use crate::held::{HeldDisk, HeldTrial, run_held};
+use crate::held::{HeldDisk, HeldTrial, Trial, run_held};
 use crate::image::has_numbers;
 use crate::puts::put;
 use crate::watch::Watch;
@@ -32,7 +31,7 @@ pub(crate) fn move_beside<N: ServiceNaming, R: Wait>(
     ensures ring { (pass.new.pass.table_id ≡ service.now.ring) × (pass.new.region ≡ 1) }
     ensures seat { IsSeatOf service.now seat.new }
 {
-    put(rt, alloc, service, pass, 2, SMALL)?;
+    put(rt, alloc, service, pass, 2)?;
     watch.wait_begun(before);
     let turn = service.consumer_turn(rt, seat);
     match turn {
@@ -44,14 +43,13 @@ pub(crate) fn move_beside<N: ServiceNaming, R: Wait>(
 #[test]
 fn moves_while_committing(rt: HostRuntime) -> Result<(), Fail> {
     let alloc = rt.alloc();
-    let left = run_held(&rt, alloc, HeldTrial::Move)?;
+    let left = run_held(&rt, alloc, &[], Trial::Beside(HeldTrial::Move))?;
     assert_eq!(rt;
         (left.answer, left.broken, left.synced),
         (Some(1), false, 1)
     );
     // The close commits the second edit, of which no seat is told.
     let disk = left.disk.disk();
-    let mut image = disk.crash(alloc, disk.clock(), 0)?;
-    assert!(rt; has_numbers(alloc, &mut image, 1, 1, 1, 3)?);
+    assert!(rt; has_numbers(alloc, disk, 0, 1, 1, 3)?);
     Ok(())
 }

@@ -4,7 +4,7 @@ ghost use Rattle.std.specs.Prelude.{◌≡◌, ◌+◌, ◌<◌, ◌≤◌, ◌^
 ghost use Rattle.append_ring.specs.Parts.{last_pushed};
 ghost use Rattle.log_service.specs.Items.{number_of};
 
-use crate::entries::{SMALL, Size, truck};
+use crate::entries::truck;
 use append_ring::RingKey;
 use disk_images::Disk;
 use log_service::{Item, LogService, ServiceNaming};
@@ -18,7 +18,6 @@ pub(crate) fn put<D: Disk, N: ServiceNaming, R: Wait>(
     service: &LogService<D, N>,
     pass: &mut RingKey<Item>,
     number: u64,
-    size: Size,
 ) -> Option<()>
     requires ring { pass.old.pass.table_id ≡ service.now.ring }
     requires region { pass.old.region ≤ 64 }
@@ -28,7 +27,7 @@ pub(crate) fn put<D: Disk, N: ServiceNaming, R: Wait>(
     ensures last { IfSome result (λ _. last_pushed number_of pass.new ≡ number) }
     ensures none { IfNone result (last_pushed number_of pass.new ≡ last_pushed number_of pass.old) }
 {
-    let truck = truck(alloc, pass.region, number, size)?;
+    let truck = truck(alloc, pass.region, number)?;
     match service.push(rt, pass, Item::Append(truck)) {
         Ok(()) => {}
         Err(_) => return None,
@@ -72,7 +71,7 @@ pub(crate) fn put_all<D: Disk, N: ServiceNaming, R: Wait>(
     ensures last { IfSome result (λ _. last_pushed number_of pass.new ≡ last) }
 {
     for before in from..last {
-        put(rt, alloc, service, pass, before + 1, SMALL)?;
+        put(rt, alloc, service, pass, before + 1)?;
     }
     Some(())
 }

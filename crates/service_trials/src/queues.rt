@@ -5,8 +5,7 @@ ghost use Rattle.append_ring.specs.Parts.{last_pushed};
 ghost use Rattle.log_service.specs.Items.{number_of};
 ghost use Rattle.log_service.specs.Places.{IsSeatOf};
 
-use crate::entries::SMALL;
-use crate::held::{HeldDisk, HeldTrial, run_held};
+use crate::held::{HeldDisk, HeldTrial, Trial, run_held};
 use crate::image::has_numbers;
 use crate::puts::{put, put_all};
 use crate::watch::Watch;
@@ -57,7 +56,7 @@ fn put_behind<N: ServiceNaming, R: Wait>(
     ensures last { IfSome result (λ _. last_pushed number_of pass.new ≡ number) }
 {
     for _ in 0..LOOKS {
-        if put(rt, alloc, service, pass, number, SMALL).is_some() {
+        if put(rt, alloc, service, pass, number).is_some() {
             return Some(());
         }
         watch.pause(rt);
@@ -124,11 +123,10 @@ pub(crate) fn roll_full<N: ServiceNaming + Send + Sync, R: Wait + Threads + Sync
 #[test]
 fn roll_behind_a_full_ring(rt: HostRuntime) -> Result<(), Fail> {
     let alloc = rt.alloc();
-    let left = run_held(&rt, alloc, HeldTrial::Full)?;
+    let left = run_held(&rt, alloc, &[], Trial::Beside(HeldTrial::Full))?;
     assert_eq!(rt; (left.answer, left.broken), (Some(FULL), false));
     let disk = left.disk.disk();
-    let mut image = disk.crash(alloc, disk.clock(), 0)?;
-    assert!(rt; has_numbers(alloc, &mut image, 1, 1, 1, FULL + 1)?);
-    assert!(rt; has_numbers(alloc, &mut image, 2, 1, FULL + 1, LAST + 1)?);
+    assert!(rt; has_numbers(alloc, disk, 0, 1, 1, FULL + 1)?);
+    assert!(rt; has_numbers(alloc, disk, 0, 2, FULL + 1, LAST + 1)?);
     Ok(())
 }

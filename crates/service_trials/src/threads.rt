@@ -8,13 +8,13 @@ ghost use Rattle.log_device.specs.Whole.{disk_of};
 ghost use Rattle.disk_fakes.specs.Views.{view_of, faults_of};
 ghost use Rattle.log_service.specs.Begun.{IsFresh, BeginsAs, AreNewParts, AreParts};
 
-use crate::bench::TestDisk;
 use crate::crew::{FIRST_PUTS, PUTS, put_each};
 use crate::crowd::{Told, hand_out, take_back};
 use crate::image::log_text;
 use crate::member::Member;
 use disk_fakes::MemDisk;
 use disk_images::{Name, NameKind};
+use entry_frame::Entry;
 use log_device::Device;
 use log_ledger::RegionBase;
 use log_service::{LogService, Rings, ServiceNaming, ServiceParts};
@@ -29,7 +29,7 @@ use std::thread::Threads;
 /// to.
 #[derive(Drop)]
 struct Ended {
-    disk: TestDisk,
+    disk: MemDisk,
     broken: bool,
     told: Told,
     synced: u64,
@@ -49,8 +49,8 @@ fn over_sixteen<N: ServiceNaming + Send + Sync, R: Wait + Threads + Sync>(
     rt: &R,
     alloc: Global,
     rings: Rings,
-    device: Device<TestDisk>,
-    _found: Snapshot<TestDisk>,
+    device: Device<MemDisk>,
+    _found: Snapshot<MemDisk>,
     room: Vec<Member>,
 ) -> Option<Ended>
     requires lasts { N.lasts ≡ replicate 16 0 }
@@ -72,7 +72,7 @@ fn over_sixteen<N: ServiceNaming + Send + Sync, R: Wait + Threads + Sync>(
             mut passes,
             mut seats,
         },
-    ) = LogService::<TestDisk, N>::start(alloc, rings, device, 16, 16)
+    ) = LogService::<MemDisk, N>::start(alloc, rings, device, 16, 16)
     else {
         return None;
     };
@@ -202,23 +202,28 @@ fn run_sixteen<R: Wait + Threads + Sync>(rt: &R, alloc: Global) -> Result<Ended,
     }
 }
 
-/// Whether a log has of each region 1 to 16 the edits 1 to `last` in their order, and nothing else.
-fn has_all(alloc: Global, disk: &mut TestDisk, last: u64) -> Result<bool, TestFail> {
+/// Whether these are of each region 1 to 16 the edits 1 to `last` in their order, and nothing else.
+fn are_all(entries: &[Entry], last: u64) -> bool {
+    let mut ends: [u64; 16] = [0; 16];
+    for entry in entries {
+        let place = entry.region.wrapping_sub(1) as usize;
+        match ends.get_mut(place) {
+            Some(end) if end.wrapping_add(1) == entry.number => *end = entry.number,
+            _ => return false,
+        }
+    }
+    ends == [last; 16]
+}
+
+/// Whether the log has of each region 1 to 16 the edits 1 to `last` in their order, and nothing else.
+fn has_all(alloc: Global, disk: &mut MemDisk, last: u64) -> Result<bool, TestFail> {
     let name = Name {
         kind: NameKind::Log,
         region: 0,
         number: 1,
     };
     let text = log_text(alloc, disk, name)?;
-    let mut ends: [u64; 16] = [0; 16];
-    for entry in text.entries.as_slice() {
-        let place = entry.region.wrapping_sub(1) as usize;
-        match ends.get_mut(place) {
-            Some(end) if end.wrapping_add(1) == entry.number => *end = entry.number,
-            _ => return Ok(false),
-        }
-    }
-    Ok(ends == [last; 16])
+    Ok(are_all(text.entries.as_slice(), last))
 }
 
 // The threads push until the ring is full, and then each push that finds it full helps. Each thread waits for each of its edits, some of

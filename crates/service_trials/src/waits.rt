@@ -3,7 +3,7 @@
 ghost use Rattle.std.specs.Prelude.{◌≡◌};
 ghost use Rattle.log_service.specs.Places.{IsSeatOf};
 
-use crate::held::{HeldDisk, HeldTrial, run_held};
+use crate::held::{HeldDisk, HeldTrial, Trial, run_held};
 use crate::puts::{ask, fill};
 use crate::watch::Watch;
 use append_ring::RingKey;
@@ -103,7 +103,7 @@ pub(crate) fn wait_beside<N: ServiceNaming + Send + Sync, R: Wait + Threads + Sy
 
 #[test]
 fn who_waits_is_woken(rt: HostRuntime) -> Result<(), Fail> {
-    let left = run_held(&rt, rt.alloc(), HeldTrial::Wait)?;
+    let left = run_held(&rt, rt.alloc(), &[], Trial::Beside(HeldTrial::Wait))?;
     assert_eq!(rt;
         (left.answer, left.broken, left.synced),
         (Some(1), false, 1)

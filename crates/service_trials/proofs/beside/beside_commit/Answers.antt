@@ -6,7 +6,7 @@ use Rattle.log_service.proofs.Crossing.{service_sync}
 use Rattle.service_trials.proofs.Captured.{four_send}
 use Rattle.service_trials.proofs.Sent.{disk_send, log_seat_send}
 use Rattle.service_trials.specs.contracts.watch.Watch as watching
-use Rattle.service_trials.proofs.beside.while_held.Goals as goal
+use Rattle.service_trials.proofs.beside.beside_commit.Goals as goal
 
 -- what two threads look at may be shared
 watch_sync : IsSync watching.the_row

@@ -1,6 +1,0 @@
-use Rattle.log_model.specs.declared.name.Name.{Name}
-use Rattle.disk_fakes.specs.Views.{view_of}
-use Rattle.opening_trials.proofs.many.add_logs.Given as goal
-
-abbrev pub invariant-loop-before : goal.invariant-loop-before
-invariant-loop-before l = (m : Name) → ¬ (view_of l.disk).gone m
