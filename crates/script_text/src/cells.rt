@@ -118,38 +118,13 @@ fn tags_of(alloc: Global, word: &[u8]) -> Result<RareOctets, LineError>
     Ok(RareOctets::copy_of(alloc, tags.as_slice())?)
 }
 
-/// The cell with these tags in place of its own.
-fn with_tags(plain: Cell, tags: RareOctets) -> Cell
-    requires { length tags ≤ 4096 }
-    ensures { result ≡ record plain { tags = tags } }
-{
-    let Cell {
-        row,
-        family,
-        qualifier,
-        ts,
-        kind,
-        value,
-        tags: _none,
-    } = plain;
-    Cell {
-        row,
-        family,
-        qualifier,
-        ts,
-        kind,
-        value,
-        tags,
-    }
-}
-
 /// The cell with the tags that a word gives in place of its own.
 fn tagged(alloc: Global, plain: Cell, word: &[u8]) -> Result<Cell, LineError>
     ensures value { IfOk result (λ cell. cell ≡ tagged_with plain word.now) }
     ensures exact { Tells result (sized_fault 7 0 4096 word.now) }
 {
     let tags = tags_of(alloc, word)?;
-    Ok(with_tags(plain, tags))
+    Ok(plain.with_owned_tags(tags))
 }
 
 /// Whether a cell with tags has room behind those so far, where the command takes tags.

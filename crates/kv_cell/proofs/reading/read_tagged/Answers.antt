@@ -7,15 +7,15 @@ use Rattle.kv_cell.proofs.reading.read_tagged.Goals as goal
 pub returns-in-Err : goal.returns-in-Err
 returns-in-Err c = tagged_in_plain c.args.bytes.now c.in-Err.fault.at c.in-Err.ensures
 
-pub returns-then-n-plain : goal.returns-then-n-plain
-returns-then-n-plain c = few_bytes c.args.bytes.now c.in-Ok.front.0 c.in-Ok.front.1 c.in-Ok.ensures.0 c.in-Ok.ensures.1 c.if-n-plain.true
+pub returns-then-n-tags_at : goal.returns-then-n-tags_at
+returns-then-n-tags_at c = few_bytes c.args.bytes.now c.in-Ok.front.0 c.in-Ok.front.1 c.in-Ok.ensures.0 c.in-Ok.ensures.1 c.if-n-tags_at.true
 
 pub returns-then-tags-gt4096 : goal.returns-then-tags-gt4096
 returns-then-tags-gt4096 c =
     long_tags c.args.bytes.now c.in-Ok.front.0 c.in-Ok.front.1 c.u16_at-tags.result c.in-Ok.ensures.0 c.in-Ok.ensures.1 c.u16_at-tags.ensures (omega arith) c.if-tags-gt4096.true
 
-pub returns-then-n-plain-2 : goal.returns-then-n-plain-2
-returns-then-n-plain-2 c =
+pub returns-then-n-end : goal.returns-then-n-end
+returns-then-n-end c =
     cut_tags c.args.bytes.now c.in-Ok.front.0 c.in-Ok.front.1 c.u16_at-tags.result c.in-Ok.ensures.0 c.in-Ok.ensures.1 c.u16_at-tags.ensures (omega arith) (omega arith) (omega arith)
 
 pub returns : goal.returns
