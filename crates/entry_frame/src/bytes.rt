@@ -14,9 +14,16 @@ use std::alloc::Global;
 use std::marker::Model;
 
 /// Kind, length and body of an entry: what stands behind its gate in a log, at most 1,048,581 bytes.
-#[derive(Debug, Drop)]
+#[derive(Debug)]
 pub struct EntryBytes {
     bytes: Vec<u8>,
+}
+
+/// By hand, as that of kv_cell's `Octets`: the crates above call it.
+impl Drop for EntryBytes {
+    fn drop(self) {
+        let EntryBytes { bytes: _ } = self;
+    }
 }
 
 impl Model for EntryBytes {

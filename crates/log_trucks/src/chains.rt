@@ -16,9 +16,15 @@ use std::marker::Model;
 
 /// Trucks by region, the newest of each first. Contracts see for each place 0 to 64 the list of numbers and bytes.
 /// They are let go by loops, however long the chains are.
-#[derive(Drop)]
 pub struct Chains {
     chains: Vec<Chain>,
+}
+
+/// By hand, as that of kv_cell's `Octets`: the crates above call it.
+impl Drop for Chains {
+    fn drop(self) {
+        let Chains { chains: _ } = self;
+    }
 }
 
 impl Model for Chains {

@@ -20,12 +20,23 @@ use std::sync::Arc;
 
 /// The cells of a base and of the done lines up to a point. Contracts see the base, the journal's lines up to the point
 /// and the point; the code keeps the point and the segments alone.
-#[derive(Drop)]
 pub struct Version {
     point: u64,
     segments: SegmentList,
     base: Snapshot<Base>,
     lines: Snapshot<Vec<Line>>,
+}
+
+/// By hand, as that of kv_cell's `Octets`: the crates above call it.
+impl Drop for Version {
+    fn drop(self) {
+        let Version {
+            point: _,
+            segments: _,
+            base: _,
+            lines: _,
+        } = self;
+    }
 }
 
 impl Model for Version {

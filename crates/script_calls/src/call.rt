@@ -37,9 +37,16 @@ pub enum Call {
 }
 
 /// The calls of one handler, in their order. Contracts see the list.
-#[derive(Debug, Drop)]
+#[derive(Debug)]
 pub struct CallList {
     calls: Vec<Call>,
+}
+
+/// By hand, as that of kv_cell's `Octets`: the crates above call it.
+impl Drop for CallList {
+    fn drop(self) {
+        let CallList { calls: _ } = self;
+    }
 }
 
 impl Model for CallList {
@@ -65,7 +72,8 @@ impl CallList {
     pub fn into_vec(self) -> Vec<Call>
         ensures { map call_of result.items ≡ self }
     {
-        self.calls
+        let CallList { calls } = self;
+        calls
     }
 
     /// The number of calls.

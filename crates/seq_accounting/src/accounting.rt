@@ -26,7 +26,6 @@ const FIRST_ROOM: usize = 8;
 /// Its memory is by families and not by entries: a mark for each family of a region that is in the current file, one for each
 /// that is in a closed file, one for each that has an unflushed entry, and two for each that was flushed alone since the last
 /// flush of all.
-#[derive(Drop)]
 pub struct Accounting {
     flushed: FlushedNumbers,
     noted: [u64; PLACES],
@@ -36,6 +35,22 @@ pub struct Accounting {
     current: Marks,
     closed: Vec<FileMark>,
     last: u64,
+}
+
+/// By hand, as that of kv_cell's `Octets`: the crates above call it.
+impl Drop for Accounting {
+    fn drop(self) {
+        let Accounting {
+            flushed: _,
+            noted: _,
+            flushing: _,
+            oldest: _,
+            since: _,
+            current: _,
+            closed: _,
+            last: _,
+        } = self;
+    }
 }
 
 impl Model for Accounting {

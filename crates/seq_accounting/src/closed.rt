@@ -9,10 +9,19 @@ use crate::marks::Marks;
 use std::marker::Model;
 
 /// A closed file with the highest number in it of each family of each region.
-#[derive(Drop)]
 pub(crate) struct FileMark {
     file: u64,
     highest: Marks,
+}
+
+/// By hand, as that of kv_cell's `Octets`: the crates above call it.
+impl Drop for FileMark {
+    fn drop(self) {
+        let FileMark {
+            file: _,
+            highest: _,
+        } = self;
+    }
 }
 
 impl Model for FileMark {

@@ -7,10 +7,19 @@ use crate::region::PLACES;
 use crate::regions::RegionMarks;
 
 /// What is flushed of each whole region, and of the families that were flushed alone.
-#[derive(Drop)]
 pub(crate) struct FlushedNumbers {
     pub(crate) whole: [u64; PLACES],
     pub(crate) families: RegionMarks,
+}
+
+/// By hand, as that of kv_cell's `Octets`: the crates above call it.
+impl Drop for FlushedNumbers {
+    fn drop(self) {
+        let FlushedNumbers {
+            whole: _,
+            families: _,
+        } = self;
+    }
 }
 
 impl FlushedNumbers {

@@ -14,7 +14,6 @@ use std::marker::Model;
 /// The number of a family of a region, in a box of its own, and the marks below it: those of which a bit is 0 stand left,
 /// those of which it is 1 right, and each level asks for the next bit. So no two marks are of one family of a region, and a
 /// mark stands no deeper than families have bits, however many marks there are.
-#[derive(Drop)]
 pub(crate) struct Mark {
     region: u32,
     family: Octets,
@@ -22,6 +21,20 @@ pub(crate) struct Mark {
     bit: u64,
     left: Option<Box<Mark>>,
     right: Option<Box<Mark>>,
+}
+
+/// By hand, as that of kv_cell's `Octets`: the crates above call it.
+impl Drop for Mark {
+    fn drop(self) {
+        let Mark {
+            region: _,
+            family: _,
+            number: _,
+            bit: _,
+            left: _,
+            right: _,
+        } = self;
+    }
 }
 
 impl Model for Mark {

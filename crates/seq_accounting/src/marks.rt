@@ -11,9 +11,15 @@ use std::marker::Model;
 
 /// A number for each of some families of regions. Contracts see the list of marks. A look-up and a mark put in take time by
 /// the bits of a family's name, however many marks there are, and no memory: a mark comes in a box of its own.
-#[derive(Drop)]
 pub(crate) struct Marks {
     top: Option<Box<Mark>>,
+}
+
+/// By hand, as that of kv_cell's `Octets`: the crates above call it.
+impl Drop for Marks {
+    fn drop(self) {
+        let Marks { top: _ } = self;
+    }
 }
 
 impl Model for Marks {
@@ -91,14 +97,16 @@ impl Marks {
     pub(crate) fn note(&mut self, marks: Marks, region: u32, number: u64)
         ensures { AreGiven self.old self.new region number marks }
     {
-        note_all(marks.top, self, region, number);
+        let Marks { top } = marks;
+        note_all(top, self, region, number);
     }
 
     /// Puts in each of these marks whose family has no number here.
     pub(crate) fn pour(&mut self, marks: Marks)
         ensures { ArePoured self.old self.new marks }
     {
-        pour_all(marks.top, self);
+        let Marks { top } = marks;
+        pour_all(top, self);
     }
 
     /// Whether each number is at or below what is flushed of its family.

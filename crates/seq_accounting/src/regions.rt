@@ -12,9 +12,15 @@ use std::alloc::Global;
 use std::marker::Model;
 
 /// Marks of each region. Contracts see for each place 0 to 64 the list of marks.
-#[derive(Drop)]
 pub(crate) struct RegionMarks {
     places: Vec<Marks>,
+}
+
+/// By hand, as that of kv_cell's `Octets`: the crates above call it.
+impl Drop for RegionMarks {
+    fn drop(self) {
+        let RegionMarks { places: _ } = self;
+    }
 }
 
 impl Model for RegionMarks {
