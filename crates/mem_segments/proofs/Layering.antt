@@ -19,11 +19,11 @@ module _ {A : Type 0} (f : A → Content) where
   map_append [] ys = refl
   map_append (x ∷ xs) ys = λ i. f x ∷ map_append xs ys i
 
-  pub step : (before front : List A) (part newest new : A) (m n : Content) (whole : Content)
-      → f new ≡ joined (m ∷ n ∷ []) → m ≡ f part → n ≡ f newest → before ≡ front ++ part ∷ []
+  pub step : (before front : List A) (part newest new : A) (whole : Content)
+      → f new ≡ joined (f part ∷ f newest ∷ []) → before ≡ front ++ part ∷ []
       → joined (map f before ++ f newest ∷ []) ≡ whole → joined (map f front ++ f new ∷ []) ≡ whole
-  step before front part newest new m n whole is p q b h =
-      (λ i. joined (map f front ++ (is ∙ (λ j. joined (p j ∷ q j ∷ []))) i ∷ []))
+  step before front part newest new whole is b h =
+      (λ i. joined (map f front ++ is i ∷ []))
       ∙ joined_last (map f front) (f part) (f newest)
       ∙ ap joined (sym (append_assoc (map f front) (f part ∷ []) (f newest ∷ [])))
       ∙ (λ i. joined ((sym (map_append front (part ∷ [])) ∙ ap (map f) (sym b)) i ++ f newest ∷ []))

@@ -1,10 +1,11 @@
 -- A walk that is taken up again goes on where it was laid down.
-use Rattle.std.specs.Prelude.{◌≡◌, ℕ, zero, suc, Bool, true, false, not, cond, ◌&&◌, T, IsTrue, ◌↔◌, ◌+◌, ◌++◌, List, [], ◌∷◌, map, filter, take, drop, Option, Some, None}
+use Rattle.std.specs.Prelude.{◌≡◌, ℕ, zero, suc, Bool, true, false, not, cond, ◌&&◌, T, IsTrue, ◌↔◌, ◌+◌, ◌≤◌, ◌++◌, List, length, [], ◌∷◌, map, filter, take, drop, Option, Some, None}
 use Rattle.std.proofs.Common.{refl, sym, ap, subst, ◌∙◌, arith, get_or}
 use Rattle.std.specs.declared.cmp.Ordering.{Ordering}
 use Rattle.std.specs.declared.cmp.Ordering.TheVariants.{Less, Equal, Greater}
 use Rattle.std.specs.Ordering.{is_le, ordering_reverse}
 use Rattle.std.proofs.lemmas.Cmp.{alike_right, tied_itself}
+use Rattle.std.proofs.lemmas.List.{length-drop, take_all, drop_all}
 use Rattle.std.proofs.lemmas.List.Elements.{filter_agree}
 use Rattle.std.specs.FinMap.Entries.{below_all}
 use Rattle.std.specs.List.Sorted.{IsPartitionedBy}
@@ -27,12 +28,6 @@ comes last x = not (is_given last x)
 pub all_come : (xs : List NumberedCell) → to_come None xs ≡ xs
 all_come [] = refl
 all_come (x ∷ xs) = ap (λ (ys : List NumberedCell). x ∷ ys) (all_come xs)
-
-pub from_the_start : (last : Option NumberedCell) (xs ys zs : List NumberedCell) → None ≡ last → zs ≡ to_come last xs → xs ≡ ys → zs ≡ ys
-from_the_start last xs ys zs none e f = e ∙ ap (λ (o : Option NumberedCell). to_come o xs) (sym none) ∙ all_come xs ∙ f
-
-pub none_given : (last : Option NumberedCell) (xs : List NumberedCell) → None ≡ last → xs ≡ to_come last xs
-none_given last xs none = sym (all_come xs) ∙ ap (λ (o : Option NumberedCell). to_come o xs) none
 
 pub rising-to_come : (last : Option NumberedCell) (xs : List NumberedCell) → IsRising xs → IsRising (to_come last xs)
 rising-to_come None xs g = rising-filter (λ v. true) xs g
@@ -156,6 +151,12 @@ pub taken_more : (i : ℕ) (all rest : List NumberedCell) (x : NumberedCell) →
 taken_more i all rest x e =
     let next : suc i ≡ i + 1 = omega arith in
     subst (λ (k : ℕ). (take k all ≡ take i all ++ x ∷ []) × (rest ≡ drop k all)) next (taken_next i all rest x e)
+
+-- all are taken once none is left
+pub none_more : (i n : ℕ) (all : List NumberedCell) → i ≤ n → drop i all ≡ [] → (take i all ≡ take n all) × (drop n all ≡ [])
+none_more i n all le e =
+    let few : length all ≤ i = omega (arith, length-drop i all, ap length e) in
+    (take_all i all few ∙ sym (take_all n all (omega arith)), drop_all n all (omega arith))
 
 pub last_more : (last : Option NumberedCell) (xs : List NumberedCell) (x : NumberedCell) → Some x ≡ last_given last (xs ++ x ∷ [])
 last_more last [] x = refl

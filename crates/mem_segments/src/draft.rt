@@ -1,9 +1,10 @@
 //! The cells of one edit in order, before the edit has its number.
 
-ghost use Rattle.std.specs.Prelude.{◌≡◌, map, IfOk};
+ghost use Rattle.std.specs.Prelude.{◌≡◌, ◌<◌, [], ◌∷◌, ◌++◌, length, map, IfOk, OnOk};
 ghost use Rattle.std.specs.Arc.{arc_value};
 ghost use Rattle.cell_model.specs.Merge.{at_number};
 ghost use Rattle.mem_segments.specs.Draft.{IsDraftOf};
+ghost use Rattle.mem_segments.specs.Shared.{cell_at};
 
 use crate::ordering::ordered_rows;
 use crate::row::Row;
@@ -50,9 +51,18 @@ fn draft_rows(alloc: Global, batch: &Arc<Batch, Global>) -> Result<Vec<Row>, NoM
     let mut rows = Vec::with_capacity(alloc, batch.len())?;
     // A batch has at most 1,024 cells.
     for place in 0..batch.len() as u16 {
-        rows.push(Row::of_batch(batch, place)?)?;
+        push_place(&mut rows, batch, place)?;
     }
     Ok(rows)
+}
+
+/// Appends the batch's cell at this place, below their number.
+fn push_place(rows: &mut Vec<Row>, batch: &Arc<Batch, Global>, place: u16) -> Result<(), NoMemory>
+    requires { place < length (arc_value batch.now).cells }
+    ensures { OnOk result (rows.new.items ≡ rows.old.items ++ (0, cell_at (arc_value batch.now).cells place) ∷ []) }
+{
+    rows.push(Row::of_batch(batch, place)?)?;
+    Ok(())
 }
 
 /// Writes one number over that of each row.

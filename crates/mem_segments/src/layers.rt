@@ -95,11 +95,22 @@ fn merged_parts(
     let mut kept = parts.len();
     while kept > 0 && newest.len() > parts[kept - 1].len() / 2 {
         kept -= 1;
-        newest = Arc::new(alloc, merge(alloc, &parts[kept], &newest)?)?;
+        newest = merged_pair(alloc, &parts[kept], &newest)?;
     }
     let mut all = share_parts(alloc, &parts[..kept])?;
     all.push(newest)?;
     Ok(all)
+}
+
+/// The two merged.
+fn merged_pair(
+    alloc: Global,
+    older: &Arc<Segment, Global>,
+    newer: &Arc<Segment, Global>,
+) -> Result<Arc<Segment, Global>, NoMemory>
+    ensures { IfOk result (λ merged. arc_value merged ≡ joined (arc_value older.now ∷ arc_value newer.now ∷ [])) }
+{
+    Ok(Arc::new(alloc, merge(alloc, older, newer)?)?)
 }
 
 /// The same segments, shared.

@@ -43,8 +43,8 @@ impl<'a> MergeIter<'a> {
     ) -> Result<MergeIter<'a>, NoMemory>
         ensures { IfOk result (λ walk. walk ≡ filter (is_in_range from.now to.now) (cells_of (joined (map arc_value parts.now)))) }
     {
-        let walk = MergeIter::resume(alloc, parts, &Cursor::new(), from, to)?;
-        Ok(walk)
+        let rests = rests_of(alloc, parts, None, from, to)?;
+        Ok(MergeIter { rests })
     }
 
     /// The same walk taken up again, behind the cell that was given last.
@@ -57,7 +57,7 @@ impl<'a> MergeIter<'a> {
     ) -> Result<MergeIter<'a>, NoMemory>
         ensures { IfOk result (λ walk. walk ≡ to_come cursor.now (filter (is_in_range from.now to.now) (cells_of (joined (map arc_value parts.now))))) }
     {
-        let rests = rests_of(alloc, parts, cursor, from, to)?;
+        let rests = rests_of(alloc, parts, cursor.last(), from, to)?;
         Ok(MergeIter { rests })
     }
 
@@ -92,21 +92,21 @@ impl<'a> MergeIter<'a> {
     }
 }
 
-/// What each segment has within the range of rows, behind the cell that was given last.
+/// What each segment has within the range of rows, behind the row that was given last.
 fn rests_of<'a>(
     alloc: Global,
     parts: &'a [Arc<Segment, Global>],
-    cursor: &Cursor,
+    last: Option<&Row>,
     from: &[u8],
     to: &[u8],
 ) -> Result<Vec<Rest<'a>>, NoMemory>
     ensures { IfOk result
         (λ rests. rests.items ≡ map
-        (λ part. to_come cursor.now (filter (is_in_range from.now to.now) (cells_of (arc_value part)))) parts.now) }
+        (λ part. to_come (option_map (λ row. row.now) last.entry) (filter (is_in_range from.now to.now) (cells_of (arc_value part)))) parts.now) }
 {
     let mut rests = Vec::with_capacity(alloc, parts.len())?;
     for part in parts {
-        rests.push(Rest::of(part, from, to).behind(cursor))?;
+        rests.push(Rest::of(part, from, to).behind(last))?;
     }
     Ok(rests)
 }

@@ -1,6 +1,6 @@
 //! Rows put in order.
 
-ghost use Rattle.std.specs.Prelude.{◌≡◌, IfOk, IsTrue, OnOk};
+ghost use Rattle.std.specs.Prelude.{◌≡◌, [], ◌∷◌, ◌++◌, IfOk, IsTrue, OnOk};
 ghost use Rattle.std.specs.List.{AllByRecursion};
 ghost use Rattle.std.specs.FinMap.{empty};
 ghost use Rattle.cell_model.specs.Cell.{IsCell};
@@ -9,7 +9,7 @@ ghost use Rattle.cell_model.specs.Merge.{IsRising, content_of, put_numbered};
 use crate::merging::{merge_rows, share_all};
 use crate::row::Row;
 use crate::sort_key::sorted_rows;
-use kv_cell::{NoMemory, NumberedCells};
+use kv_cell::{Cell, NoMemory, NumberedCells};
 use std::alloc::Global;
 
 /// The cells as rows, in the order in which they were given.
@@ -19,9 +19,18 @@ pub(crate) fn numbered_rows(alloc: Global, cells: NumberedCells) -> Result<Vec<R
 {
     let mut rows = Vec::with_capacity(alloc, cells.len())?;
     for (number, cell) in cells.into_vec() {
-        rows.push(Row::new(alloc, number, cell)?)?;
+        push_new(&mut rows, alloc, number, cell)?;
     }
     Ok(rows)
+}
+
+/// Appends a row of its own.
+fn push_new(rows: &mut Vec<Row>, alloc: Global, number: u64, cell: Cell) -> Result<(), NoMemory>
+    ensures items { OnOk result (rows.new.items ≡ rows.old.items ++ (number, cell) ∷ []) }
+    ensures within { OnOk result (IsCell cell) }
+{
+    rows.push(Row::new(alloc, number, cell)?)?;
+    Ok(())
 }
 
 /// The rows in order; of two that tie the later one stays. Rows that are in order stay as they are; where no two tie one

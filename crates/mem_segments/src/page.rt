@@ -1,6 +1,6 @@
 //! A walk over the segments of a list, a page at a time.
 
-ghost use Rattle.std.specs.Prelude.{◌≡◌, take, drop, filter, option_map, IfOk, OnOk, OnErr};
+ghost use Rattle.std.specs.Prelude.{◌≡◌, ◌↔◌, [], ◌∷◌, ◌++◌, IsTrue, take, drop, filter, option_map, IfOk, OnOk, OnErr};
 ghost use Rattle.cell_model.specs.Join.{joined};
 ghost use Rattle.cell_model.specs.Order.{cells_of};
 ghost use Rattle.region_model.specs.Journal.{is_in_range};
@@ -36,37 +36,63 @@ impl SegmentList {
         ensures err { OnErr result (cursor.new ≡ cursor.old) }
     {
         let mut walk = MergeIter::resume(alloc, self.as_slice(), cursor, from, to)?;
-        let (cells, last) = take_cells(alloc, &mut walk, cursor.last(), count)?;
-        let moved = share_row(last)?;
-        let done = walk.is_done();
+        let (page, last) = next_page(alloc, &mut walk, cursor.last(), count)?;
         drop(walk);
-        *cursor = Cursor::past(moved);
-        Ok(Page { cells, done })
+        *cursor = Cursor::past(last);
+        Ok(page)
     }
 }
 
-/// Takes the next `count` cells of a walk, or all that are left, with bytes of their own. With them comes the row that
-/// was given last.
-fn take_cells<'a>(
+/// The next `count` cells of a walk, or all that are left, and whether none is left behind them. With them comes the row
+/// that was given last, shared.
+fn next_page<'a>(
     alloc: Global,
     walk: &mut MergeIter<'a>,
     before: Option<&'a Row>,
     count: u32,
-) -> Result<(NumberedCells, Option<&'a Row>), NoMemory>
-    ensures cells { IfOk result (λ taken. taken.0 ≡ take count walk.old) }
+) -> Result<(Page, Option<Row>), NoMemory>
+    ensures cells { IfOk result (λ given. given.0.cells ≡ take count walk.old) }
+    ensures done { IfOk result (λ given. IsTrue given.0.done ↔ (walk.new ≡ [])) }
     ensures rest { OnOk result (walk.new ≡ drop count walk.old) }
-    ensures last { IfOk result (λ taken. option_map (λ row. row.now) taken.1 ≡ last_given (option_map (λ row. row.now) before.entry) (take count walk.old)) }
+    ensures last { IfOk result (λ given. given.1 ≡ last_given (option_map (λ row. row.now) before.entry) (take count walk.old)) }
 {
     let mut cells = NumberedCells::new(alloc);
+    let last = take_cells(alloc, &mut cells, walk, before, count)?;
+    let last = share_row(last)?;
+    let done = walk.is_done();
+    Ok((Page { cells, done }, last))
+}
+
+/// Appends the next `count` cells of a walk, or all that are left, with bytes of their own. It gives the row that was
+/// given last.
+fn take_cells<'a>(
+    alloc: Global,
+    cells: &mut NumberedCells,
+    walk: &mut MergeIter<'a>,
+    before: Option<&'a Row>,
+    count: u32,
+) -> Result<Option<&'a Row>, NoMemory>
+    ensures cells { OnOk result (cells.new ≡ cells.old ++ take count walk.old) }
+    ensures rest { OnOk result (walk.new ≡ drop count walk.old) }
+    ensures last { IfOk result (λ last. option_map (λ row. row.now) last ≡ last_given (option_map (λ row. row.now) before.entry) (take count walk.old)) }
+{
     let mut last = before;
     for i in 0..count {
         let Some(row) = walk.next_row() else {
-            return Ok((cells, last));
+            return Ok(last);
         };
-        cells.push(row.number(), row.cell().copy(alloc)?)?;
+        push_copy(alloc, cells, row)?;
         last = Some(row);
     }
-    Ok((cells, last))
+    Ok(last)
+}
+
+/// Appends the row's cell, with bytes of its own.
+fn push_copy(alloc: Global, cells: &mut NumberedCells, row: &Row) -> Result<(), NoMemory>
+    ensures { OnOk result (cells.new ≡ cells.old ++ row.now ∷ []) }
+{
+    cells.push(row.number(), row.cell().copy(alloc)?)?;
+    Ok(())
 }
 
 /// The same row, shared.

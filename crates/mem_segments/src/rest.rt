@@ -8,7 +8,6 @@ ghost use Rattle.cell_model.specs.Merge.{IsRising};
 ghost use Rattle.region_model.specs.Journal.{is_in_range};
 ghost use Rattle.mem_segments.specs.Walk.{head_of, lesser, past, is_before, to_come};
 
-use crate::cursor::Cursor;
 use crate::row::Row;
 use crate::segment::Segment;
 use std::marker::Model;
@@ -45,12 +44,12 @@ impl<'a> Rest<'a> {
         }
     }
 
-    /// What lies behind the cell that was given last.
-    pub(crate) fn behind(self, cursor: &Cursor) -> Rest<'a>
+    /// What lies behind the row that was given last.
+    pub(crate) fn behind(self, last: Option<&Row>) -> Rest<'a>
         requires { IsRising self }
-        ensures { result ≡ to_come cursor.now self.entry }
+        ensures { result ≡ to_come (option_map (λ row. row.now) last.entry) self.entry }
     {
-        match cursor.last() {
+        match last {
             None => self,
             Some(last) => Rest {
                 rows: &self.rows[given(self.rows, last)..],

@@ -18,11 +18,22 @@ use std::sync::Arc;
 
 /// A cell with the number of its edit. Contracts see the pair, number first.
 // The word tells most rows apart without a look at a cell.
-#[derive(Debug, Drop)]
+#[derive(Debug)]
 pub struct Row {
     number: u64,
     pub(crate) prefix: u64,
     pub(crate) shared: SharedCell,
+}
+
+// By hand, so that no function that drops rows proves it anew.
+impl Drop for Row {
+    fn drop(self) {
+        let Row {
+            number: _,
+            prefix: _,
+            shared: _,
+        } = self;
+    }
 }
 
 impl Model for Row {

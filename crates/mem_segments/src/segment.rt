@@ -17,9 +17,14 @@ use std::sync::Arc;
 
 /// Numbered cells strictly in the order of versions. Contracts see their content: the finite map from versions to
 /// values, which loses nothing of the list.
-#[derive(Drop)]
 pub struct Segment {
     pub(crate) rows: Vec<Row>,
+}
+
+impl Drop for Segment {
+    fn drop(self) {
+        let Segment { rows: _ } = self;
+    }
 }
 
 impl Model for Segment {
@@ -37,12 +42,18 @@ impl Model for Segment {
 }
 
 /// What a region is opened with: its cells, and its last number. Contracts see a content and the number.
-#[derive(Drop)]
 pub struct Base {
     /// The cells.
     pub cells: Arc<Segment, Global>,
     /// The greatest number of an edit that was seen, 0 where there was none.
     pub last: u64,
+}
+
+/// By hand, as that of kv_cell's `Octets`: the crates above call it.
+impl Drop for Base {
+    fn drop(self) {
+        let Base { cells: _, last: _ } = self;
+    }
 }
 
 impl Model for Base {

@@ -19,9 +19,16 @@ pub(crate) enum Block {
 }
 
 /// A cell of its own, or one of a batch, whose block it keeps. Contracts see the cell.
-#[derive(Debug, Drop)]
+#[derive(Debug)]
 pub(crate) struct SharedCell {
     pub(crate) block: Block,
+}
+
+/// By hand, as that of kv_cell's `Octets`: the crates above call it.
+impl Drop for SharedCell {
+    fn drop(self) {
+        let SharedCell { block: _ } = self;
+    }
 }
 
 impl Model for SharedCell {

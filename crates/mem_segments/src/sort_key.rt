@@ -3,6 +3,7 @@
 ghost use Rattle.std.specs.Prelude.{◌≡◌, map, IfOk};
 ghost use Rattle.std.specs.List.Sorted.{IsPermutation};
 
+use crate::merging::push_shared;
 use crate::row::Row;
 use kv_cell::NoMemory;
 use std::alloc::Global;
@@ -55,7 +56,7 @@ fn share_keyed(alloc: Global, keys: &[SortKey<'_>]) -> Result<Vec<Row>, NoMemory
 {
     let mut rows = Vec::with_capacity(alloc, keys.len())?;
     for key in keys {
-        rows.push(key.row.share()?)?;
+        push_shared(&mut rows, key.row)?;
     }
     Ok(rows)
 }

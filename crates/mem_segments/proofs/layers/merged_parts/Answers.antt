@@ -2,7 +2,6 @@ use Rattle.std.proofs.Common.{arith, ap, ◌∙◌, ◌-◌, ◌*◌, ◌≤◌,
 use Rattle.std.specs.Arc.{arc_value}
 use Rattle.std.specs.FinMap.{len}
 use Rattle.cell_model.specs.Order.{Content}
-use Rattle.cell_model.specs.Join.{joined}
 use Rattle.mem_segments.proofs.Layering.{step, end, take_last, given_joined, still_halves, still_halves_alone}
 use Rattle.mem_segments.proofs.layers.merged_parts.Goals as goal
 use Rattle.mem_segments.proofs.layers.merged_parts.Goals.{then-loop-kept-test+else-len, else-loop-kept-test}
@@ -12,13 +11,11 @@ loop-kept-preserved c =
     let parts = c.args.parts.now in
     let k = c.loop-kept.kept in
     let part = c.index-parts-kept-in-loop-kept.result in
-    let older = c.deref-in-loop-kept-2.ensures in
-    let newer = c.deref-in-loop-kept-3.ensures in
     let b : take k parts ≡ take (k - 1) parts ++ part ∷ [] = take_last parts k part (omega (arith, c.loop-kept-test.true)) c.loop-kept.invariant.within c.index-parts-kept-in-loop-kept.is in
     record {
       within = omega (arith, c.loop-kept.invariant.within);
-      content = step arc_value (take k parts) (take (k - 1) parts) part c.loop-kept.newest c.in_ok-newest.newest _ _ _ (c.in_ok-newest.ensures.ok ∙ c.in_ok-merge.ensures) older newer b c.loop-kept.invariant.content;
-      given = given_joined (arc_value part) (arc_value c.loop-kept.newest) (arc_value c.in_ok-newest.newest) (c.in_ok-newest.ensures.ok ∙ c.in_ok-merge.ensures ∙ (λ i. joined (older i ∷ newer i ∷ []))) c.loop-kept.invariant.given;
+      content = step arc_value (take k parts) (take (k - 1) parts) part c.loop-kept.newest c.in_ok-newest.newest _ c.in_ok-newest.ensures b c.loop-kept.invariant.content;
+      given = given_joined (arc_value part) (arc_value c.loop-kept.newest) (arc_value c.in_ok-newest.newest) c.in_ok-newest.ensures c.loop-kept.invariant.given;
     }
 
 pub returns-clause-content : goal.returns-clause-content

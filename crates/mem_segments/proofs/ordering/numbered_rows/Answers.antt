@@ -10,6 +10,6 @@ all_more (y ∷ xs) x h is = (h.0, all_more xs x h.1 is)
 
 pub loop-number-preserved : goal.loop-number-preserved
 loop-number-preserved c = (
-  c.in_ok-push.ensures.items ∙ (λ i. c.loop-number.invariant.0 i ++ c.in_ok-new.ensures.row i ∷ []),
-  all_more c.loop-number.yielded (c.in-Some.number, c.in-Some.cell) c.loop-number.invariant.1 c.in_ok-new.ensures.within,
+  c.in_ok-push_new.ensures.items ∙ (λ i. c.loop-number.invariant.0 i ++ (c.in-Some.number, c.in-Some.cell) ∷ []),
+  all_more c.loop-number.yielded (c.in-Some.number, c.in-Some.cell) c.loop-number.invariant.1 c.in_ok-push_new.ensures.within,
 )

@@ -13,7 +13,7 @@ returns-clause-ok c =
     let count = c.args.count in
     let walk : List NumberedCell = c.in_ok-walk.walk in
     let all : List NumberedCell = filter (is_in_range from to) (cells_of (joined c.args.self.now)) in
-    page_is count c.args.cursor.now c.past.result all walk c.in_ok-cells.cells c.take_cells.new.walk c.is_done-done.result (rising_range from to (joined c.args.self.now))
+    page_is count c.args.cursor.now c.past.result all walk c.in_ok-page.page.cells c.next_page.new.walk c.in_ok-page.page.done (rising_range from to (joined c.args.self.now))
     (c.in_ok-walk.ensures ∙ ap (λ (ms : List Content). to_come c.args.cursor.now (filter (is_in_range from to) (cells_of (joined ms)))) c.as_slice.ensures.parts)
-    c.in_ok-cells.ensures.cells c.in_ok-cells.ensures.rest
-    (c.past.ensures ∙ c.in_ok-moved.ensures ∙ c.in_ok-cells.ensures.last ∙ ap (λ (o : Option NumberedCell). last_given o (take count walk)) c.last.ensures) c.is_done-done.ensures
+    c.in_ok-page.ensures.cells c.in_ok-page.ensures.rest
+    (c.past.ensures ∙ c.in_ok-page.ensures.last ∙ ap (λ (o : Option NumberedCell). last_given o (take count walk)) c.last.ensures) c.in_ok-page.ensures.done
