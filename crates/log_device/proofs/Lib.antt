@@ -1,5 +1,6 @@
 pub mod Appends
 pub mod Bearing
+pub mod Breaking
 pub mod Disk
 pub mod Lists
 pub mod Committed
@@ -13,7 +14,9 @@ pub mod Syncing
 pub mod Told
 pub mod Left
 pub mod FlushSteps
+pub mod FlushNumbers
 pub mod RollSteps
+pub mod RollNumbers
 pub mod Staged
 pub mod Numbering
 pub mod Whole

@@ -1,5 +1,5 @@
 -- The number of the current file stays bounded.
-use Rattle.std.proofs.Common.{◌≡◌, ◌+◌, ◌<◌, ◌≤◌, min, Some, ap, ◌∙◌, arith}
+use Rattle.std.proofs.Common.{◌≡◌, ◌+◌, ◌<◌, ◌≤◌, ◌^◌, min, Some, ap, ◌∙◌, arith}
 use Rattle.std.specs.Prelude.{sum}
 use Rattle.log_model.specs.declared.name.Name.{Name}
 use Rattle.log_file.specs.Open.{OpenLog}
@@ -40,3 +40,12 @@ numbered_next file now b after is some name none idle drawn last =
       bound = omega (arith, is.bound, number, some, none, idle, drawn);
       later = omega (arith, number, last);
     }
+
+-- a device begins with a file that has no entry
+pub numbered_first : (file : OpenLog) (b : Numbers) → (file.name ≡ log_name file.name.number) × (1 ≤ file.name.number) × (file.name.number ≤ 2 ^ 63 + 1) → file.entries ≡ 0 → file.staged ≡ 0 → b.accounts.last ≡ 0 → IsNumbered file b
+numbered_first file b first none idle last = record {
+  kind = ap (λ (n : Name). n.kind) first.0;
+  region = ap (λ (n : Name). n.region) first.0;
+  bound = omega (arith, first.2, none, idle);
+  later = omega (arith, first.1, last);
+}

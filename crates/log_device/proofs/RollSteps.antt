@@ -1,5 +1,5 @@
 -- What a roll leaves, from step to step.
-use Rattle.std.proofs.Common.{◌≡◌, ◌⊎◌, inl, inr, ◌+◌, ◌≤◌, ℕ, List, [], length, Result, Err, Some, get_or, IsErr, OnOk, OnErr, IfOk, sym, ap, ◌∙◌, subst, arith}
+use Rattle.std.proofs.Common.{◌≡◌, ◌≢◌, ◌+◌, ◌<◌, ℕ, List, [], length, Result, Err, Some, IsErr, OnOk, OnErr, IfOk, sym, ap, ◌∙◌, subst, arith}
 use Rattle.log_model.specs.declared.name.Name.{Name}
 use Rattle.chronicle_model.specs.Chronicle.{bytes_of}
 use Rattle.chronicle_model.specs.Growth.{AppendsTo, LowerLogsStay}
@@ -8,10 +8,12 @@ use Rattle.disk_images.specs.Crash.{Throughout}
 use Rattle.disk_images.specs.declared.disk.Disk.{Ghosts}
 use Rattle.disk_images.proofs.Moments.{at_once, joined, more_time, weaker}
 use Rattle.log_file.specs.Open.{OpenLog}
-use Rattle.log_ledger.specs.Numbers.{Numbers, AreStoresFew}
+use Rattle.seq_accounting.specs.Accounts.{Accounts}
+use Rattle.log_ledger.specs.Numbers.{Numbers}
+use Rattle.log_ledger.specs.Counted.{IsCounted}
 use Rattle.log_ledger.specs.History.{History, committed_in, closed_in}
 use Rattle.log_device.specs.Bears.{Bears}
-use Rattle.log_device.specs.Calls.{Syncs, Rolls, RollsFrom, RollsNumbers, BeginsNext}
+use Rattle.log_device.specs.Calls.{Syncs, Rolls, RollsFrom, BeginsNext}
 use Rattle.log_device.specs.Keeps.{Between, IsInOrder, log_name}
 use Rattle.log_device.specs.Leaves.{Leaves}
 use Rattle.log_device.specs.declared.device.Device.{Device}
@@ -22,9 +24,34 @@ use Rattle.log_device.specs.Whole.{IsBroken, IsCommitted, LeavesAt, disk_of, log
 use Rattle.log_device.proofs.Bearing.{bears_on, still_names}
 use Rattle.log_device.proofs.Calls.{still_leaves, roll_leaves, leaves_behind, none_next}
 use Rattle.log_device.proofs.Numbering.{same_file}
-use Rattle.log_device.proofs.Results.{after, then, none_of, on_any}
-use Rattle.log_device.proofs.Syncing.{none_fell_behind}
+use Rattle.log_device.proofs.Results.{none_of, on_any}
+use Rattle.log_device.proofs.Syncing.{same_history, same_told}
 use Rattle.log_device.proofs.Whole.{kept_file}
+
+pub nothing_same : (a b : ℕ) → ◌≡◌ {A = Result Rolled RollRefusal} (Err (refusals.NothingToRoll a)) (Err (refusals.NothingToRoll b)) → a ≡ b
+nothing_same a b is = cc is
+
+pub memory_apart : (n : ℕ) → refusals.Memory ≡ refusals.NothingToRoll n → ⊥
+memory_apart n is = absurd (cc is)
+
+pub fault_apart : (n : ℕ) → refusals.WriteFault ≡ refusals.NothingToRoll n → ⊥
+fault_apart n is = absurd (cc is)
+
+pub fault_not_memory : refusals.WriteFault ≡ refusals.Memory → ⊥
+fault_not_memory is = absurd (cc is)
+
+pub some_entries : (n k : ℕ) → n ≡ k → n ≢ 0 → 0 < k
+some_entries n k is some = omega (arith, is, some)
+
+-- ---- a place for the next file was made sure of
+
+pub reserved_as : (old now new : Numbers) → now ≡ old → new ≡ record now { accounts = record now.accounts { room = new.accounts.room } } → new ≡ record old { accounts = record old.accounts { room = new.accounts.room } }
+reserved_as old now new is same = same ∙ ap (λ (b : Numbers). record b { accounts = record b.accounts { room = new.accounts.room } }) is
+
+pub reserved : {D : Type 0} (g : Ghosts D) (h : History) (old mid : Device D) {a : Accounts} (now : Numbers) → disk_of mid ≡ disk_of old → log_of mid ≡ log_of old → numbers_of mid ≡ record (numbers_of old) { accounts = a } → now ≡ numbers_of old
+    → ((k : History) → IsCounted now k → IsCounted (numbers_of mid) k) → HasHistory g old h → HasHistory g mid h
+reserved g h old mid now disk log same is counted whole =
+    same_history g h old mid disk log (ap (λ (b : Numbers). b.next_store) same) (counted h (subst (λ (b : Numbers). IsCounted b h) (sym is) whole.counted)) (same_told g h old (numbers_of mid).stored (ap (λ (b : Numbers). b.stored) same) whole) whole
 
 -- ---- the disk
 
@@ -145,42 +172,3 @@ module _ {D E : Type 0} (g : Ghosts D) (h : History) (first : Result ℕ E) (old
             let number : its.0.name.number ≡ file.name.number = ap (λ (n : Name). n.number) its.2 in
             said.lower its.0 its.1 k (omega (arith, number, low)) ∙ sync.lower file is k low;
       }
-
--- ---- the numbers
-
--- behind the commit
-pub numbers_behind : {D : Type 0} (result : Result Rolled RollRefusal) (old mid new : Device D) → numbers_of mid ≡ record (numbers_of old) { synced = (numbers_of old).drawn } → ((q : ℕ) → get_or (numbers_of old).synced q 0 ≤ get_or (numbers_of mid).synced q 0)
-    → ((limit : ℕ) → AreStoresFew limit (numbers_of old) → AreStoresFew limit (numbers_of mid)) → ((file : OpenLog) → log_of old ≡ Some file → IsCommitted file (log_of mid)) → RollsNumbers result mid new → RollsNumbers result old new
-numbers_behind result old mid new same rises few files said =
-    let now = numbers_of new in
-    let drawn : (numbers_of mid).drawn ≡ (numbers_of old).drawn = ap (λ (b : Numbers). b.drawn) same in
-    let synced : (numbers_of mid).synced ≡ (numbers_of old).drawn = ap (λ (b : Numbers). b.synced) same in
-    let stored : (numbers_of mid).stored ≡ (numbers_of old).stored = ap (λ (b : Numbers). b.stored) same in
-    let closed : (numbers_of mid).closed ≡ (numbers_of old).closed = ap (λ (b : Numbers). b.closed) same in record {
-      file = λ file is.
-          let its = files file is in
-          then result (λ rolled told. (told.0 ∙ ap (λ (n : Name). n.number) its.2, omega (arith, told.1, its.3, its.4), told.2)) (said.file its.0 its.1);
-      next = λ file is.
-          let its = files file is in
-          after result
-          (λ begun. record { now = begun.now; is = begun.is; name = begun.name ∙ ap (λ (n : Name). log_name (n.number + 1)) its.2; entries = begun.entries; staged = begun.staged }) (said.next its.0 its.1);
-      nothing = λ file n is nothing.
-          let its = files file is in
-          let told = said.nothing its.0 n its.1 nothing in
-          (told.0 ∙ ap (λ (m : Name). m.number) its.2, omega (arith, told.1, its.3, its.4));
-      empty = λ file is none unbroken.
-          let its = files file is in
-          said.empty its.0 its.1 (omega (arith, none, its.3, its.4)) unbroken ∙ ap (λ (n : Name). Err (refusals.NothingToRoll n.number)) its.2;
-      emptied = said.emptied;
-      closed = said.closed;
-      closed_empty = said.closed_empty;
-      closed_still = λ memory. said.closed_still memory ∙ closed;
-      closed_broken = λ broken. said.closed_broken broken ∙ closed;
-      synced = λ unbroken. said.synced unbroken ∙ drawn;
-      synced_either = elim said.synced_either as (λ _. (now.synced ≡ (numbers_of old).synced) ⊎ (now.synced ≡ (numbers_of old).drawn)) [ inl still ↦ inr (still ∙ synced) | inr raised ↦ inr (raised ∙ drawn) ];
-      later = none_fell_behind (numbers_of old) (numbers_of mid) now same rises said.later;
-      stored = said.stored ∙ stored;
-      drawn = said.drawn ∙ drawn;
-      next_store = said.next_store ∙ ap (λ (b : Numbers). b.next_store) same;
-      few = λ limit was. said.few limit (few limit was);
-    }

@@ -1,5 +1,5 @@
 -- What writing the cut of a region leaves of what is kept, in the ledger's words.
-use Rattle.std.proofs.Common.{◌≡◌, ◌+◌, ◌<◌, ◌≤◌, ℕ, List, [], get_or, set, length, Option, refl, sym, ap, ◌∙◌, subst, arith}
+use Rattle.std.proofs.Common.{◌≡◌, ◌+◌, ◌<◌, ◌≤◌, ◌^◌, ℕ, List, [], get_or, set, length, Option, refl, sym, ap, ◌∙◌, subst, arith}
 use Rattle.cell_model.specs.declared.form.Form.TheVariants.{Tagged}
 use Rattle.log_model.specs.StoreText.{IsStore, store_text}
 use Rattle.cell_model.specs.Order.{NumberedCell}
@@ -8,7 +8,8 @@ use Rattle.disk_images.specs.Calls.{IsTrueDisk}
 use Rattle.disk_images.specs.OneFile.{Touches, IsDurableFile}
 use Rattle.disk_images.proofs.Moments.{weaker}
 use Rattle.recovery_laws.specs.Kept.{IsCut, lasts}
-use Rattle.flush_snapshot.specs.Cut.{cut_store, ordered_cells}
+use Rattle.file_base.specs.declared.error.FileRefusal.TheVariants as refusals
+use Rattle.flush_snapshot.specs.Cut.{IsWithin, cut_store, ordered_cells}
 use Rattle.store_file.specs.Whole.{IsWholeOrNot}
 use Rattle.log_file.specs.Open.{OpenLog}
 use Rattle.log_ledger.specs.Numbers.{Numbers}
@@ -21,6 +22,19 @@ use Rattle.log_device.specs.Leaves.{Leaves}
 use Rattle.log_device.proofs.Calls.{flush_leaves}
 use Rattle.log_device.proofs.Cut.{is_cut}
 use Rattle.log_device.proofs.Stored.{store_moments, store_kept}
+
+pub all_committed : (b : Numbers) (r : ℕ) → b.synced ≡ b.drawn → get_or b.drawn r 0 ≤ get_or b.synced r 0
+all_committed b r is = let same = ap (λ (l : List ℕ). get_or l r 0) is in omega (arith, same)
+
+-- a cut goes from the number after the flushed one to the last one
+pub cut_range : (n to a b : ℕ) → n ≡ a → to ≡ b → a < b → to < 2 ^ 48 → (1 ≤ n + 1) × (n + 1 ≤ to) × (to < 2 ^ 48)
+cut_range n to a b n_is to_is low limit = (omega arith, omega (arith, n_is, to_is, low), limit)
+
+pub cut_within : (n to a b : ℕ) (cells : List NumberedCell) → n ≡ a → to ≡ b → IsWithin (a + 1) b cells → IsWithin (n + 1) to cells
+cut_within n to a b cells n_is to_is within = subst (λ (p : ℕ × ℕ). IsWithin (p.0 + 1) p.1 cells) (λ i. (sym n_is i, sym to_is i)) within
+
+pub disk_fault_apart : refusals.DiskFault ≡ refusals.Memory → ⊥
+disk_fault_apart is = absurd (cc is)
 
 module _ (file : OpenLog) (u w : DiskView) (h : History) (b : Numbers) (keeps : Keeps file u h b.next_store) (counted : IsCounted b h) (sound : IsTrueDisk u) (r : ℕ) (family : List ℕ) (cells : List NumberedCell)
     (none : h.kept.staged ≡ []) (puts : PutsCut h.kept r family (get_or b.drawn r 0) cells) (served : 0 < get_or b.next_store r 0) (from to number : ℕ) (to_is : to ≡ get_or b.drawn r 0) (number_is : number ≡ get_or b.next_store r 0) where

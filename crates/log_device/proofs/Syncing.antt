@@ -1,5 +1,5 @@
 -- A commit, and what stands behind it.
-use Rattle.std.proofs.Common.{◌≡◌, ◌≤◌, ℕ, List, ◌++◌, Result, Ok, Some, get_or, IsErr, IsTrue, OnOk, refl, sym, ap, ◌∙◌, subst, arith}
+use Rattle.std.proofs.Common.{◌≡◌, ◌≤◌, ℕ, List, ◌++◌, Result, Ok, Err, Some, get_or, IsErr, IsTrue, OnOk, refl, sym, ap, ◌∙◌, subst, arith}
 use Rattle.std.proofs.Math.Logic.{∥∥₁_map}
 use Rattle.disk_images.specs.Calls.{IsTrueDisk}
 use Rattle.disk_images.specs.Crash.{DiskView, Throughout, OnlyAt}
@@ -9,7 +9,7 @@ use Rattle.chronicle_model.specs.Growth.{AppendsTo}
 use Rattle.recovery_laws.specs.Kept.{lasts}
 use Rattle.recovery_laws.proofs.Rising.{lasts_no_less, lasts-append}
 use Rattle.log_file.specs.Open.{OpenLog, HasEither}
-use Rattle.log_ledger.specs.Numbers.{Numbers, AreInOrder}
+use Rattle.log_ledger.specs.Numbers.{Numbers, AreInOrder, AreStoresFew}
 use Rattle.log_ledger.specs.Counted.{IsCounted}
 use Rattle.log_ledger.specs.History.{History, committed_in}
 use Rattle.log_device.specs.Bears.{Bears}
@@ -21,6 +21,7 @@ use Rattle.log_device.proofs.Appends.{commit_appends}
 use Rattle.log_device.proofs.Calls.{commit_leaves}
 use Rattle.log_device.proofs.Committed.{names_moments, commit_moments}
 use Rattle.log_device.proofs.Numbering.{same_file}
+use Rattle.log_device.proofs.Results.{some_apart}
 use Rattle.log_device.proofs.Whole.{kept_file}
 
 module _ {D : Type 0} (g : Ghosts D) (h : History) (old : Device D) (log : OpenLog) (its : log_of old ≡ Some log) (whole : HasHistory g old h) (w : DiskView) (sound : IsTrueDisk w)
@@ -103,4 +104,17 @@ none_fell_behind old mid new same rises said = record {
   synced = λ r. omega (arith, rises r, said.synced r);
   stored = λ r. subst (λ (b : Numbers). get_or b.stored r 0 ≤ get_or new.stored r 0) same (said.stored r);
   closed = λ r. subst (λ (b : Numbers). get_or b.closed r 0 ≤ get_or new.closed r 0) same (said.closed r);
+}
+
+-- a sync that failed, where an entry was staged or the device was broken
+pub faulty_syncs : {D E : Type 0} (e : E) (old new : Device D) → IsBroken new → numbers_of new ≡ numbers_of old → ((file : OpenLog) → log_of old ≡ Some file → file.staged ≡ 0 → ⊥) → SyncsNumbers (Err e) old new
+faulty_syncs e old new broken same some = record {
+  count = λ file is. tt;
+  idle = λ file is none. absurd (some file is none);
+  file = λ file is. tt;
+  emptied = λ file is. absurd (some_apart (sym broken ∙ is));
+  synced = tt;
+  faulty = same;
+  never_falls = λ r. let is = ap (λ (b : Numbers). get_or b.synced r 0) same in omega (arith, is);
+  few = λ limit was. subst (λ (b : Numbers). AreStoresFew limit b) (sym same) was;
 }

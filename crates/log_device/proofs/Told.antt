@@ -56,6 +56,15 @@ served_place b r order served = elim (cases_lt r (length b.next_store)) as (λ _
   | inr past ↦ absurd (let none = get_or_past b.next_store r 0 past in omega (arith, none, served))
 ]
 
+pub served_low : (b : Numbers) (r : ℕ) → AreInOrder b → IsServed b r → r ≤ 64
+served_low b r order served = omega (arith, served_place b r order served)
+
+pub told_place : (b : Numbers) (r : ℕ) → AreInOrder b → IsServed b r → r < length b.stored
+told_place b r order served = omega (arith, served_place b r order served, order.wide.stored)
+
+pub store_place : (b : Numbers) (r : ℕ) → AreInOrder b → IsServed b r → r < length b.next_store
+store_place b r order served = omega (arith, served_place b r order served, order.wide.next_store)
+
 -- at the start each region is told as it was found
 pub started_low : (regions : List RegionBase) (flushed : ℕ → ℕ) (b : Numbers) → ((m : RegionBase) → Contains regions m → flushed m.region ≡ m.flushed) → ((r : ℕ) → IsServed b r ↔ IsAmong regions r)
     → AreNumbersOf (λ m. m.flushed) regions b.drawn → b.stored ≡ b.drawn → (r : ℕ) → get_or b.stored r 0 ≤ flushed r
@@ -79,11 +88,24 @@ family_given (Some b) given f is none =
     let empty : length b.now ≡ 0 = ap length (same ∙ none) in
     omega (arith, given.0, empty)
 
+pub family_short : (family : Option (Bor (List ℕ))) → IfSome family (λ f. (1 ≤ length f.now) × (length f.now ≤ 127)) → length (family_in (option_copied family)) ≤ 127
+family_short None given = omega arith
+family_short (Some b) given = given.1
+
 -- what a flush that came off tells
 pub stored_told : (r n : ℕ) (family : Option (List ℕ)) (old new : Numbers) → r < length old.stored → (family_in family ≡ [] → new.stored ≡ set old.stored r n) → (family_in family ≢ [] → new.stored ≡ old.stored)
     → ((f : List ℕ) → family ≡ Some f → f ≢ []) → (family ≡ None → get_or old.stored r 0 ≤ n) → IsTold r family n old new
 stored_told r n None old new place all one given low = told_all r n old new place (all refl) (low refl)
 stored_told r n (Some f) old new place all one given low = told_one r n f old new (one (given f refl))
+
+-- in the words of the ledger's flush
+pub flush_told : (r n : ℕ) (family : Option (Bor (List ℕ))) (room : List ℕ) (old now new : Numbers) → now ≡ old → room ≡ family_in (option_copied family) → n ≡ get_or old.drawn r 0 → AreInOrder old → IsServed old r
+    → IfSome family (λ f. (1 ≤ length f.now) × (length f.now ≤ 127)) → (option_copied family ≡ None → get_or old.stored r 0 < get_or old.drawn r 0)
+    → (room ≡ [] → new.stored ≡ set now.stored r (get_or now.drawn r 0)) → (room ≢ [] → new.stored ≡ now.stored) → IsTold r (option_copied family) n old new
+flush_told r n family room old now new same room_is n_is order served given above put still =
+    stored_told r n (option_copied family) old new (told_place old r order served)
+    (λ all. subst (λ (b : Numbers). new.stored ≡ set b.stored r (get_or b.drawn r 0)) same (put (room_is ∙ all)) ∙ ap (λ (m : ℕ). set old.stored r m) (sym n_is))
+    (λ one. still (λ none. one (sym room_is ∙ none)) ∙ ap (λ (b : Numbers). b.stored) same) (family_given family given) (λ all. let lower = above all in omega (arith, lower, n_is))
 
 -- as it is told whether one is given
 pub none_given : (family : Option (Bor (List ℕ))) (none : Bool) → is_some family ≡ not none → none ≡ true → option_copied family ≡ None

@@ -19,7 +19,6 @@ use std::marker::Model;
 
 /// The numbers of one log's device, and the trucks of its unflushed entries. Regions are 1 to 64; contracts see lists
 /// of numbers by region, and what they say of the device's history.
-#[derive(Drop)]
 pub struct Ledger {
     pub(crate) drawn: [u64; PLACES],
     pub(crate) synced: [u64; PLACES],
@@ -28,6 +27,21 @@ pub struct Ledger {
     pub(crate) next_store: [u64; PLACES],
     pub(crate) accounts: Accounting,
     pub(crate) chains: Chains,
+}
+
+/// By hand, as that of kv_cell's `Octets`: the crates above call it.
+impl Drop for Ledger {
+    fn drop(self) {
+        let Ledger {
+            drawn: _,
+            synced: _,
+            stored: _,
+            closed: _,
+            next_store: _,
+            accounts: _,
+            chains: _,
+        } = self;
+    }
 }
 
 impl Model for Ledger {

@@ -1,4 +1,4 @@
-use Rattle.std.proofs.Common.{◌≡◌, ℕ, List, refl, sym, ap, ◌∙◌, subst, arith}
+use Rattle.std.proofs.Common.{◌≡◌, ◌+◌, ◌≤◌, ℕ, List, refl, sym, ap, ◌∙◌, subst, arith}
 use Rattle.std.specs.Prelude.{sum}
 use Rattle.std.proofs.Math.Logic.{∥∥₁_map}
 use Rattle.log_model.specs.declared.name.Name.{Name}
@@ -6,9 +6,11 @@ use Rattle.log_file.specs.Open.{OpenLog}
 use Rattle.log_ledger.specs.Counted.{IsCounted}
 use Rattle.log_ledger.specs.History.{closed_in}
 use Rattle.log_ledger.specs.Numbers.{Numbers}
-use Rattle.log_device.specs.Keeps.{Keeps}
+use Rattle.log_device.specs.Keeps.{Keeps, log_name}
 use Rattle.log_device.specs.Numbered.{IsNumbered}
 use Rattle.log_device.proofs.Numbering.{same_file, numbered_next}
+use Rattle.log_device.proofs.Breaking.{unharmed, fault_breaks}
+use Rattle.log_device.proofs.Results.{some_apart, not_true}
 use Rattle.log_device.proofs.RollSteps.{begins_next}
 use Rattle.log_device.proofs.Whole.{kept_file}
 use Rattle.log_device.proofs.Syncing.{same_told}
@@ -70,3 +72,43 @@ returns-in-Err-clause-begins g c told h file whole is none =
     begins_next g.D.Disk h _ c.args.self.now _ c.in-Some.log file (g.met.D.Disk.is_true c.args.self.now.disk told) whole its is
     (c.next_log.ensures.any_moment told h ns keeps) (c.next_log.ensures.names told h ns keeps) (c.next_log.ensures.in_order told h ns keeps) (c.next_log.ensures.appends told h ns keeps)
     tt
+
+pub returns-in_default-clause-begins : goal.returns-in_default-clause-begins
+returns-in_default-clause-begins g c told h file whole is none = absurd (c.requires.rest.unbroken (sym c.take.ensures.value ∙ c.in_default.is))
+
+pub returns-in_default-clause-numbers : goal.returns-in_default-clause-numbers
+returns-in_default-clause-numbers g c = absurd (c.requires.rest.unbroken (sym c.take.ensures.value ∙ c.in_default.is))
+
+pub returns-in_default-clause-breaks : goal.returns-in_default-clause-breaks
+returns-in_default-clause-breaks g c = absurd (c.requires.rest.unbroken (sym c.take.ensures.value ∙ c.in_default.is))
+
+pub next_log-requires-clause-idle : goal.next_log-requires-clause-idle
+next_log-requires-clause-idle g c = (c.requires.rest.idle c.in-Some.log (sym c.take.ensures.value ∙ c.in-Some.is)).0
+
+pub next_log-requires-clause-some : goal.next_log-requires-clause-some
+next_log-requires-clause-some g c = c.requires.some c.in-Some.log (sym c.take.ensures.value ∙ c.in-Some.is)
+
+pub next_log-requires-clause-next : goal.next_log-requires-clause-next
+next_log-requires-clause-next g c = ap (λ (n : Name). log_name (n.number + 1)) c.name-number.ensures
+
+pub close-requires-clause-room : goal.close-requires-clause-room
+close-requires-clause-room g c = subst (λ (b : Numbers). 1 ≤ b.accounts.room) (sym c.deref_mut.ensures.value) c.requires.room
+
+pub invariant_of-self-in-Err : goal.invariant_of-self-in-Err
+invariant_of-self-in-Err g c = record { numbered = λ file is. absurd (some_apart (sym c.take.ensures.after ∙ is)) }
+
+pub returns-in-Ok-clause-breaks : goal.returns-in-Ok-clause-breaks
+returns-in-Ok-clause-breaks g c = unharmed g.D.Disk c.args.self.now _ c.requires.rest.unbroken (λ broken. some_apart (sym broken)) c.next_log.ensures.cause not_true
+
+pub returns-in-Err-clause-breaks : goal.returns-in-Err-clause-breaks
+returns-in-Err-clause-breaks g c = fault_breaks g.D.Disk c.args.self.now _ c.requires.rest.unbroken c.take.ensures.after c.in-Err.ensures.cause refl refl
+
+pub returns-in-Err-clause-numbers : goal.returns-in-Err-clause-numbers
+returns-in-Err-clause-numbers g c = record {
+  next = λ file is. tt;
+  emptied = λ file is. absurd (some_apart (sym c.take.ensures.after ∙ is));
+  closed = tt;
+  closed_faulty = refl;
+  same = record { drawn = refl; synced = refl; stored = refl; closed = refl; next_store = refl; flushed = λ r f. refl };
+  few = λ limit was. was;
+}

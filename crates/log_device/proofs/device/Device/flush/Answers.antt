@@ -4,11 +4,15 @@ use Rattle.disk_images.specs.Crash.{Elapses}
 use Rattle.recovery_laws.specs.Kept.{lasts}
 use Rattle.log_ledger.specs.History.{committed_in, flushed_in, family_in}
 use Rattle.log_ledger.specs.Counted.{HasUnflushed}
+use Rattle.log_ledger.specs.Numbers.{Numbers, IsServed}
+use Rattle.log_device.specs.Calls.{FlushesNumbers}
 use Rattle.log_device.specs.Flushed.{HasStore}
 use Rattle.log_device.specs.declared.error.DeviceFlush.TheVariants as refusals
 use Rattle.log_device.specs.Whole.{IsBroken, HasHistory}
-use Rattle.log_device.proofs.FlushSteps.{not_nothing, flushes_behind, numbers_behind}
-use Rattle.log_device.proofs.Results.{none_of, on_any}
+use Rattle.log_device.proofs.Breaking.{cause_behind}
+use Rattle.log_device.proofs.FlushSteps.{not_nothing, no_nothing, no_fault, flushes_behind}
+use Rattle.log_device.proofs.FlushNumbers.{broken_numbers, numbers_behind}
+use Rattle.log_device.proofs.Results.{none_of, on_any, not_true, not_other, is_err_of}
 use Rattle.log_device.proofs.Syncing.{at_rest}
 use Rattle.log_device.proofs.device.Device.flush.Goals as goal
 
@@ -24,7 +28,7 @@ returns-in_err-sync-clause-flushes g c told h whole =
           × HasHistory g.D.Disk mid (flushed_in (committed_in h) c.args.region (family_in (option_copied c.args.family)) n)) failed.0;
       store = none_of c.from_residual.result (λ n. HasStore (g.D.Disk.view mid.disk) c.args.region (family_in (option_copied c.args.family)) (get_or c.args.self.now.ledger.value.next_store c.args.region 0)
           (h.kept.flushed c.args.region (family_in (option_copied c.args.family)) + 1) n) failed.0;
-      nothing = λ n is. absurd (not_nothing c.from_residual.result refusals.WriteFault (λ m is. absurd (cc is)) failed.1 n is);
+      nothing = λ n is. absurd (not_nothing c.from_residual.result refusals.WriteFault no_nothing failed.1 n is);
       refused = on_any {P = (IsBroken mid → ⊥) → HasHistory g.D.Disk mid (committed_in h)} c.from_residual.result (λ unbroken. absurd (unbroken (c.in_err-sync.ensures.broken.0 refl)));
       lower = sync.lower;
     }
@@ -65,3 +69,36 @@ returns-clause-memory g c memory =
           subst (λ d. Elapses 4 (g.D.Disk.view c.args.self.now.disk) (g.D.Disk.view d)) (sym same) (c.sync.ensures.syncs told h whole).any_moment.time;
       idle = λ file is none. same ∙ (c.sync.ensures.numbers.idle file is none).0;
     }
+
+pub returns-in_err-sync-clause-numbers : goal.returns-in_err-sync-clause-numbers
+returns-in_err-sync-clause-numbers g c =
+    subst (λ r. FlushesNumbers c.args.region (option_copied c.args.family) r c.args.self.now c.sync.new.self) (sym (is_err_of c.from_residual.result refusals.WriteFault c.from_residual.ensures.1))
+    (broken_numbers c.args.region (option_copied c.args.family) c.args.self.now c.sync.new.self (c.in_err-sync.ensures.broken.0 refl) c.in_err-sync.ensures.numbers.faulty)
+
+pub returns-in_err-sync-clause-stays : goal.returns-in_err-sync-clause-stays
+returns-in_err-sync-clause-stays g c = c.sync.ensures.stays
+
+pub returns-in_err-sync-clause-memory : goal.returns-in_err-sync-clause-memory
+returns-in_err-sync-clause-memory g c memory = absurd (not_other c.from_residual.result refusals.WriteFault refusals.Memory (λ is. no_fault (sym is)) c.from_residual.ensures.1 memory)
+
+pub returns-in_err-sync-clause-broken : goal.returns-in_err-sync-clause-broken
+returns-in_err-sync-clause-broken g c = (λ _. c.in_err-sync.ensures.broken.0 refl, λ _. is_err_of c.from_residual.result refusals.WriteFault c.from_residual.ensures.1)
+
+pub returns-in_err-sync-clause-cause : goal.returns-in_err-sync-clause-cause
+returns-in_err-sync-clause-cause g c = record { later = c.sync.ensures.cause.later; risen = λ failed. c.in_err-sync.ensures.cause.risen (failed.0, refl) }
+
+pub flush_committed-requires-clause-served : goal.flush_committed-requires-clause-served
+flush_committed-requires-clause-served g c = subst (λ (b : Numbers). IsServed b c.args.region) (sym c.in_ok-sync.ensures.numbers.synced) c.requires.served
+
+pub flush_committed-requires-clause-family : goal.flush_committed-requires-clause-family
+flush_committed-requires-clause-family g c = c.requires.family
+
+pub returns-clause-stays : goal.returns-clause-stays
+returns-clause-stays g c broken = absurd (not_true (c.in_ok-sync.ensures.broken.1 (subst (λ d. IsBroken d) (sym (c.sync.ensures.stays broken)) broken)))
+
+pub returns-clause-broken : goal.returns-clause-broken
+returns-clause-broken g c = c.flush_committed.ensures.breaks.broken
+
+pub returns-clause-cause : goal.returns-clause-cause
+returns-clause-cause g c =
+    cause_behind _ _ _ c.sync.ensures.cause c.flush_committed.ensures.breaks.cause (λ failed. (λ broken. not_true (c.in_ok-sync.ensures.broken.1 broken), failed.1))

@@ -5,7 +5,8 @@ use Rattle.chronicle_model.specs.Growth.{AppendsTo}
 use Rattle.chronicle_model.proofs.Grown.{prolonged, appends_twice}
 use Rattle.disk_images.specs.Crash.{Elapses}
 use Rattle.log_ledger.specs.History.{committed_in}
-use Rattle.log_device.proofs.RollSteps.{failed_rolls, rolls_behind, numbers_behind}
+use Rattle.log_device.proofs.RollSteps.{failed_rolls, rolls_behind}
+use Rattle.log_device.proofs.RollNumbers.{numbers_behind}
 use Rattle.log_device.proofs.Syncing.{at_rest}
 use Rattle.log_device.proofs.device.Device.roll.Goals as goal
 

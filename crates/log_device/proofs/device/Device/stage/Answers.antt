@@ -1,12 +1,13 @@
-use Rattle.std.proofs.Common.{◌≡◌, ℕ, List, get_or, Some, refl, sym, ap, ◌∙◌, subst, arith}
+use Rattle.std.proofs.Common.{◌≡◌, ◌<◌, ℕ, List, get_or, Some, refl, sym, ap, ◌∙◌, subst, arith}
 use Rattle.std.proofs.Math.Logic.{∥∥₁_map}
 use Rattle.log_trucks.specs.Held.{Haul}
 use Rattle.log_file.specs.Open.{OpenLog}
 use Rattle.log_ledger.specs.History.{staged_in}
-use Rattle.log_ledger.specs.Numbers.{IsServed}
+use Rattle.log_ledger.specs.Numbers.{Numbers, IsServed}
 use Rattle.log_device.specs.Keeps.{Keeps}
 use Rattle.log_device.specs.Numbered.{IsNumbered}
 use Rattle.log_device.proofs.Numbering.{same_file, numbered_staged}
+use Rattle.log_device.proofs.Results.{some_apart}
 use Rattle.log_device.proofs.Staged.{staged_kept, of_log}
 use Rattle.log_device.proofs.Syncing.{same_told}
 use Rattle.log_device.proofs.device.Device.stage.Goals as goal
@@ -50,3 +51,64 @@ returns-in-Ok-clause-stages g c told h whole = record {
         told = same_told g.D.Disk h c.args.self.now _ (rw c.deref_mut.ensures.value at c.stage-in-Ok.ensures.stored) whole;
       };
 }
+
+pub invariant_of-self : goal.invariant_of-self
+invariant_of-self g c = record { numbered = c.args.self.now.numbered }
+
+pub returns-in_default-clause-stages : goal.returns-in_default-clause-stages
+returns-in_default-clause-stages g c told h whole = record { staged = λ e entry bytes region number. tt }
+
+pub returns-in_default-clause-numbers : goal.returns-in_default-clause-numbers
+returns-in_default-clause-numbers g c = record {
+  disk = refl;
+  file = λ file is. tt;
+  unbroken = tt;
+  drawn = tt;
+  drawn_at = λ r. tt;
+  synced = refl;
+  stored = refl;
+  closed = refl;
+  next_store = refl;
+  few = λ limit was. was;
+}
+
+pub returns-in_default-clause-full : goal.returns-in_default-clause-full
+returns-in_default-clause-full g c file is = absurd (some_apart (sym c.in_default.is ∙ is))
+
+pub returns-in_default-clause-broken : goal.returns-in_default-clause-broken
+returns-in_default-clause-broken g c broken = refl
+
+pub returns-in-Err-clause-stages : goal.returns-in-Err-clause-stages
+returns-in-Err-clause-stages g c told h whole = record { staged = λ e entry bytes region number. tt }
+
+pub returns-in-Err-clause-numbers : goal.returns-in-Err-clause-numbers
+returns-in-Err-clause-numbers g c = record {
+  disk = refl;
+  file = λ file is. tt;
+  unbroken = tt;
+  drawn = tt;
+  drawn_at = λ r. tt;
+  synced = refl;
+  stored = refl;
+  closed = refl;
+  next_store = refl;
+  few = λ limit was. was;
+}
+
+pub returns-in-Ok-clause-broken : goal.returns-in-Ok-clause-broken
+returns-in-Ok-clause-broken g c broken = absurd (some_apart (sym broken ∙ c.in-Some.is))
+
+pub returns-in-Err-clause-broken : goal.returns-in-Err-clause-broken
+returns-in-Err-clause-broken g c broken = refl
+
+pub stage-requires-in-Ok-clause-served : goal.stage-requires-in-Ok-clause-served
+stage-requires-in-Ok-clause-served g c = subst (λ (b : Numbers). IsServed b c.args.truck.value.region) (sym c.deref_mut.ensures.value) c.requires.served
+
+pub stage-requires-in-Ok-clause-alone : goal.stage-requires-in-Ok-clause-alone
+stage-requires-in-Ok-clause-alone g c = c.requires.alone
+
+pub stage-requires-in-Ok-clause-entry : goal.stage-requires-in-Ok-clause-entry
+stage-requires-in-Ok-clause-entry g c = c.requires.entry
+
+pub stage-requires-in-Ok-clause-above : goal.stage-requires-in-Ok-clause-above
+stage-requires-in-Ok-clause-above g c = subst (λ (b : Numbers). get_or b.drawn c.args.truck.value.region 0 < c.args.truck.value.number) (sym c.deref_mut.ensures.value) c.requires.above

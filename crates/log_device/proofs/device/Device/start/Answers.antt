@@ -1,15 +1,18 @@
-use Rattle.std.proofs.Common.{◌≡◌, ◌+◌, ◌≤◌, ℕ, [], get_or, refl, sym, subst, arith}
+use Rattle.std.proofs.Common.{◌≡◌, ◌↔◌, ◌+◌, ◌≤◌, ℕ, Err, [], get_or, refl, sym, ap, ◌∙◌, subst, arith}
 use Rattle.disk_images.proofs.Moments.{at_once, more_time}
 use Rattle.std.proofs.Math.Logic.{∥∥₁_map}
 use Rattle.log_file.specs.Open.{OpenLog}
 use Rattle.log_ledger.specs.declared.base.RegionBase.{RegionBase}
-use Rattle.log_ledger.specs.Bases.{AreNumbersOf}
-use Rattle.log_ledger.specs.Numbers.{Numbers}
+use Rattle.log_ledger.specs.Bases.{AreNumbersOf, IsAmong}
+use Rattle.log_ledger.specs.Numbers.{Numbers, IsServed, AreStoresFew}
 use Rattle.log_ledger.specs.Counted.{IsCounted}
 use Rattle.log_ledger.specs.History.{started_in}
 use Rattle.log_device.specs.Bears.{Bears}
+use Rattle.log_device.specs.Numbered.{IsNumbered}
 use Rattle.log_device.specs.Opened.{log_number}
-use Rattle.log_device.proofs.Numbering.{same_file}
+use Rattle.log_device.specs.declared.error.DeviceWhy.{DeviceWhy}
+use Rattle.log_device.proofs.Numbering.{same_file, numbered_first}
+use Rattle.log_device.proofs.Results.{some_apart}
 use Rattle.log_device.proofs.Starting.{still_moments, names_found}
 use Rattle.log_device.proofs.Told.{started_low}
 use Rattle.log_device.proofs.device.Device.start.Goals as goal
@@ -64,3 +67,47 @@ returns-in_default-new-clause-names g c told flushed last opened greatest =
     more_time (Bears u.files [] (last + 1)) 0 4 u u (omega arith)
     (at_once (Bears u.files [] (last + 1)) u
     (names_found u c.args.regions.now flushed opened (g.met.D.Disk.is_true c.args.disk told) [] (last + 1) (λ m there. let low = greatest.bound (log_number m) (m, there, refl) in omega (arith, low))))
+
+pub invariant_of-result : goal.invariant_of-result
+invariant_of-result g c = record {
+  numbered = λ file is.
+      subst (λ (f : OpenLog). IsNumbered f c.in-Ok-new.ledger.value) (same_file c.in-Ok-first_log.log file is)
+      (numbered_first c.in-Ok-first_log.log c.in-Ok-new.ledger.value c.in-Ok-first_log.ensures.name c.in-Ok-first_log.ensures.empty.0 c.in-Ok-first_log.ensures.empty.1
+      (ap (λ (b : Numbers). b.accounts.last) c.in-Ok-new.ensures.ok ∙ c.in-Ok.ensures.last));
+}
+
+pub returns-in-Ok-first_log-clause-served : goal.returns-in-Ok-first_log-clause-served
+returns-in-Ok-first_log-clause-served g c = subst (λ (b : Numbers). (r : ℕ) → IsServed b r ↔ IsAmong c.args.regions.now r) (sym c.in-Ok-new.ensures.ok) c.in-Ok.ensures.served
+
+pub returns-in-Ok-first_log-clause-drawn : goal.returns-in-Ok-first_log-clause-drawn
+returns-in-Ok-first_log-clause-drawn g c = subst (λ (b : Numbers). AreNumbersOf (λ (m : RegionBase). m.flushed) c.args.regions.now b.drawn) (sym c.in-Ok-new.ensures.ok) c.in-Ok.ensures.drawn
+
+pub returns-in-Ok-first_log-clause-next_store : goal.returns-in-Ok-first_log-clause-next_store
+returns-in-Ok-first_log-clause-next_store g c = subst (λ (b : Numbers). AreNumbersOf (λ (m : RegionBase). m.next_store) c.args.regions.now b.next_store) (sym c.in-Ok-new.ensures.ok) c.in-Ok.ensures.next_store
+
+pub returns-in-Ok-first_log-clause-few : goal.returns-in-Ok-first_log-clause-few
+returns-in-Ok-first_log-clause-few g c limit small = subst (λ (b : Numbers). AreStoresFew limit b) (sym c.in-Ok-new.ensures.ok) (c.in-Ok.ensures.few limit small)
+
+pub returns-in-Ok-first_log-clause-numbers : goal.returns-in-Ok-first_log-clause-numbers
+returns-in-Ok-first_log-clause-numbers g c =
+    subst (λ (b : Numbers). (b.synced ≡ b.drawn) × (b.stored ≡ b.drawn) × (b.closed ≡ b.drawn)) (sym c.in-Ok-new.ensures.ok) (c.in-Ok.ensures.synced, c.in-Ok.ensures.stored, c.in-Ok.ensures.closed)
+
+pub returns-in-Ok-first_log-clause-unbroken : goal.returns-in-Ok-first_log-clause-unbroken
+returns-in-Ok-first_log-clause-unbroken g c broken = some_apart (sym broken)
+
+pub returns-in-Ok-first_log-clause-empty : goal.returns-in-Ok-first_log-clause-empty
+returns-in-Ok-first_log-clause-empty g c file is =
+    subst (λ (f : OpenLog). (f.entries ≡ 0) × (f.staged ≡ 0)) (same_file c.in-Ok-first_log.log file is) (c.in-Ok-first_log.ensures.empty.0, c.in-Ok-first_log.ensures.empty.1)
+
+pub returns-in-Ok-first_log-clause-idle : goal.returns-in-Ok-first_log-clause-idle
+returns-in-Ok-first_log-clause-idle g c file is =
+    subst (λ (f : OpenLog). (f.staged ≡ 0) × (f.bytes ≡ [])) (same_file c.in-Ok-first_log.log file is) (c.in-Ok-first_log.ensures.empty.1, c.in-Ok-first_log.ensures.empty.2)
+
+pub returns-in-Ok-first_log-clause-cause : goal.returns-in-Ok-first_log-clause-cause
+returns-in-Ok-first_log-clause-cause g c = record { later = c.first_log.ensures.cause.later; risen = λ failed. absurd failed }
+
+pub returns-in-Err-clause-refused : goal.returns-in-Err-clause-refused
+returns-in-Err-clause-refused g c told is = c.in-Err.ensures.refused told (ap (λ (e : DeviceWhy). Err e) is)
+
+pub returns-in-Err-clause-cause : goal.returns-in-Err-clause-cause
+returns-in-Err-clause-cause g c = record { later = c.first_log.ensures.cause.later; risen = λ is. c.in-Err.ensures.cause.risen (ap (λ (e : DeviceWhy). Err e) is) }

@@ -4,7 +4,7 @@ use Rattle.std.proofs.Math.Logic.{∥∥₁_map}
 use Rattle.chronicle_model.proofs.Grown.{prolonged}
 use Rattle.log_file.specs.Open.{OpenLog}
 use Rattle.log_file.specs.LogText.{behind_gate}
-use Rattle.log_ledger.specs.Numbers.{Numbers}
+use Rattle.log_ledger.specs.Numbers.{Numbers, AreInOrder}
 use Rattle.log_ledger.specs.History.{committed_in}
 use Rattle.log_device.specs.Keeps.{Keeps}
 use Rattle.log_device.specs.Numbered.{IsNumbered}
@@ -12,12 +12,14 @@ use Rattle.log_device.proofs.Numbering.{same_file, numbered_still}
 use Rattle.log_device.proofs.Whole.{kept_file}
 use Rattle.log_device.specs.Whole.{IsCommitted}
 use Rattle.log_device.proofs.Committed.{commit_kept}
-use Rattle.log_device.proofs.Syncing.{syncs, sync_appends, told_behind}
+use Rattle.log_device.proofs.Breaking.{no_cause}
+use Rattle.log_device.proofs.Results.{ok_apart, some_apart, not_true}
+use Rattle.log_device.proofs.Syncing.{faulty_syncs, syncs, sync_appends, told_behind}
 use Rattle.log_device.proofs.device.Device.sync.Goals as goal
 
 pub commit-requires : goal.commit-requires
 commit-requires g c told =
-    ∥∥₁_map (c.requires told (λ broken. absurd (cc (sym broken ∙ c.in-Some.is)))) (λ r.
+    ∥∥₁_map (c.requires told (λ broken. absurd (some_apart (sym broken ∙ c.in-Some.is)))) (λ r.
     let keeps = kept_file c.args.self.now (g.D.Disk.view c.args.self.now.disk) r.0 c.in-Some.log c.in-Some.is r.1 in
     (r.0.current, r.0.kept.staged, keeps.open_log, keeps.staged))
 
@@ -102,3 +104,52 @@ returns-in-Err-clause-chronicle g c told h whole =
     prolonged whole.file.name.number (g.D.Disk.view c.args.self.now.disk).files (g.D.Disk.view c.commit.new.disk).files
     (sync_appends g.D.Disk h c.args.self.now c.in-Some.log c.in-Some.is whole (g.D.Disk.view c.commit.new.disk) (g.met.D.Disk.is_true c.commit.new.disk told)
     (c.commit.ensures.commits told h.current h.kept.staged keeps.open_log keeps.staged).atomic (c.commit.ensures.no_other_file told) whole.file whole.is)
+
+pub invariant_of-self : goal.invariant_of-self
+invariant_of-self g c = record { numbered = c.args.self.now.numbered }
+
+pub returns-in_default-clause-syncs : goal.returns-in_default-clause-syncs
+returns-in_default-clause-syncs g c told h whole = absurd (some_apart (sym c.in_default.is ∙ whole.is))
+
+pub returns-in_default-clause-numbers : goal.returns-in_default-clause-numbers
+returns-in_default-clause-numbers g c = faulty_syncs _ c.args.self.now _ c.in_default.is refl (λ file is none. some_apart (sym c.in_default.is ∙ is))
+
+pub returns-in_default-clause-appends : goal.returns-in_default-clause-appends
+returns-in_default-clause-appends g c told h file whole is = absurd (some_apart (sym c.in_default.is ∙ is))
+
+pub returns-in_default-clause-chronicle : goal.returns-in_default-clause-chronicle
+returns-in_default-clause-chronicle g c told h whole = absurd (some_apart (sym c.in_default.is ∙ whole.is))
+
+pub returns-in_default-clause-broken : goal.returns-in_default-clause-broken
+returns-in_default-clause-broken g c = (λ _. c.in_default.is, λ _. refl)
+
+pub returns-in_default-clause-cause : goal.returns-in_default-clause-cause
+returns-in_default-clause-cause g c = no_cause _ _ refl (λ failed. failed.0 c.in_default.is)
+
+pub invariant_of-self-in-Err : goal.invariant_of-self-in-Err
+invariant_of-self-in-Err g c = record { numbered = λ file is. absurd (some_apart is) }
+
+pub returns-in-Ok-clause-order : goal.returns-in-Ok-clause-order
+returns-in-Ok-clause-order g c = subst AreInOrder c.deref_mut.ensures.value c.commit-in-Ok.ensures.order
+
+pub returns-in-Ok-clause-stays : goal.returns-in-Ok-clause-stays
+returns-in-Ok-clause-stays g c broken = absurd (some_apart (sym broken ∙ c.in-Some.is))
+
+pub returns-in-Ok-clause-broken : goal.returns-in-Ok-clause-broken
+returns-in-Ok-clause-broken g c = (λ failed. absurd (not_true failed), λ broken. absurd (some_apart (sym broken)))
+
+pub returns-in-Ok-clause-cause : goal.returns-in-Ok-clause-cause
+returns-in-Ok-clause-cause g c = record { later = c.commit.ensures.cause.later; risen = λ failed. absurd (not_true failed.1) }
+
+pub returns-in-Err-clause-numbers : goal.returns-in-Err-clause-numbers
+returns-in-Err-clause-numbers g c =
+    faulty_syncs _ c.args.self.now _ refl refl (λ file is none. ok_apart (sym (c.commit.ensures.nothing_staged (ap (λ (f : OpenLog). f.staged) (same_file c.in-Some.log file (sym c.in-Some.is ∙ is)) ∙ none)).1 ∙ c.in-Err.is))
+
+pub returns-in-Err-clause-stays : goal.returns-in-Err-clause-stays
+returns-in-Err-clause-stays g c broken = absurd (some_apart (sym broken ∙ c.in-Some.is))
+
+pub returns-in-Err-clause-broken : goal.returns-in-Err-clause-broken
+returns-in-Err-clause-broken g c = (λ _. refl, λ _. refl)
+
+pub returns-in-Err-clause-cause : goal.returns-in-Err-clause-cause
+returns-in-Err-clause-cause g c = record { later = c.commit.ensures.cause.later; risen = λ failed. c.in-Err.ensures.cause.risen refl }

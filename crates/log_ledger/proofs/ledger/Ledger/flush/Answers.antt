@@ -1,12 +1,13 @@
-use Rattle.std.proofs.Common.{◌+◌, List, [], filter, get_or, set, sym, ap, subst, ◌∙◌, arith}
+use Rattle.std.proofs.Common.{◌+◌, ◌==◌, ◌&&◌, if◌then◌else◌, ℕ, List, [], filter, get_or, set, sym, ap, subst, ◌∙◌, arith}
 use Rattle.std.proofs.lemmas.List.{set-get_or}
 use Rattle.log_model.specs.Entry.{Entry}
+use Rattle.seq_accounting.specs.Accounts.{is_for}
 use Rattle.seq_accounting.specs.Steps.{IsFlushed}
 use Rattle.seq_accounting.specs.Noted.{Note, HasNoted}
 use Rattle.log_trucks.specs.Held.{AreHeld, IsSetTo}
 use Rattle.log_trucks.specs.Unflushed.{has_unflushed}
 use Rattle.log_ledger.specs.Numbers.{Numbers, IsLeft, AreInOrder}
-use Rattle.log_ledger.proofs.Steps.{FlushedBy}
+use Rattle.log_ledger.proofs.Steps.{FlushedBy, flushed_same}
 use Rattle.log_ledger.proofs.Few.{few_flushed, few_are_few, some_drawn}
 use Rattle.log_ledger.proofs.Flushed.{counted_flushed}
 use Rattle.log_ledger.proofs.Orders.{order_flushed}
@@ -60,3 +61,25 @@ returns-clause-stored_still c one = (flushed c).stored_one one
 
 pub returns-clause-stored : goal.returns-clause-stored
 returns-clause-stored c all = (flushed c).stored_all all
+
+pub returns-clause-drawn : goal.returns-clause-drawn
+returns-clause-drawn c = (flushed c).drawn
+
+pub returns-clause-synced : goal.returns-clause-synced
+returns-clause-synced c = (flushed c).synced
+
+pub returns-clause-closed : goal.returns-clause-closed
+returns-clause-closed c = (flushed c).closed
+
+pub returns-clause-next_store : goal.returns-clause-next_store
+returns-clause-next_store c = (flushed c).next_store
+
+pub returns-clause-flushed : goal.returns-clause-flushed
+returns-clause-flushed c r f =
+    let flush = (flushed c).flushed in
+    flush.completed.flushed r f ∙ ap (λ (n : ℕ). if (c.args.region == r) && is_for c.args.room f then get_or c.args.self.now.drawn c.args.region 0 else n) (flushed_same c.args.self.now.accounts flush.begun flush.started.flushed r f)
+
+pub returns-clause-files : goal.returns-clause-files
+returns-clause-files c =
+    let flush = (flushed c).flushed in
+    record { closed = flush.completed.files.closed ∙ flush.started.files.closed; last = flush.completed.files.last ∙ flush.started.files.last; room = flush.completed.files.room ∙ flush.started.files.room }

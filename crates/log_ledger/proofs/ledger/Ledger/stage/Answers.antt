@@ -12,7 +12,7 @@ use Rattle.log_trucks.specs.Held.{Haul, held_of, noted_of}
 use Rattle.log_ledger.specs.Numbers.{Numbers, AreInOrder}
 use Rattle.log_ledger.proofs.DrawnSums.{drawn_grow}
 use Rattle.log_ledger.proofs.Few.{few_staged}
-use Rattle.log_ledger.proofs.Steps.{StagedBy}
+use Rattle.log_ledger.proofs.Steps.{StagedBy, flushed_same}
 use Rattle.log_ledger.proofs.Staged.{counted_staged}
 use Rattle.log_ledger.proofs.Orders.{order_staged}
 use Rattle.log_ledger.proofs.ledger.Ledger.stage.Goals as goal
@@ -79,3 +79,24 @@ pub returns-clause-grows : goal.returns-clause-grows
 returns-clause-grows c =
     subst (λ (xs : List ℕ). sum c.args.self.now.drawn + 1 ≤ sum xs) (sym (staged c).drawn)
     (drawn_grow c.args.self.now c.args.truck.value.region c.args.truck.value.number (subst AreInOrder c.self.view_is c.self.invariant) c.requires.served c.requires.above)
+
+pub returns-clause-drawn : goal.returns-clause-drawn
+returns-clause-drawn c = (staged c).drawn
+
+pub returns-clause-synced : goal.returns-clause-synced
+returns-clause-synced c = (staged c).synced
+
+pub returns-clause-stored : goal.returns-clause-stored
+returns-clause-stored c = (staged c).stored
+
+pub returns-clause-closed : goal.returns-clause-closed
+returns-clause-closed c = (staged c).closed
+
+pub returns-clause-next_store : goal.returns-clause-next_store
+returns-clause-next_store c = (staged c).next_store
+
+pub returns-clause-flushed : goal.returns-clause-flushed
+returns-clause-flushed c = flushed_same c.args.self.now.accounts c.note.new.self (staged c).noted.flushed
+
+pub returns-clause-files : goal.returns-clause-files
+returns-clause-files c = (staged c).noted.files
