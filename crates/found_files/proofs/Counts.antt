@@ -1,17 +1,15 @@
 -- Entries are counted by regions, one after the other.
-use Rattle.std.proofs.Common.{◌≡◌, inl, inr, ℕ, ◌+◌, ◌<◌, ◌≤◌, ◌==◌, ◌^◌, List, length, get_or, slice_index, slice_set, take, sym, ap, ◌∙◌, subst, arith}
+use Rattle.std.proofs.Common.{◌≡◌, inl, inr, ℕ, ◌+◌, ◌<◌, ◌≤◌, ◌==◌, List, [], length, get_or, slice_index, slice_set, take, replicate, sym, ap, ◌∙◌, subst, arith}
 use Rattle.std.proofs.Math.ListN.{length-set}
 use Rattle.std.proofs.lemmas.Bool.{cases_eq, eq-eqb, ne_eqb}
-use Rattle.std.proofs.lemmas.List.{get_or-set_same, get_or-set_other, length-take}
-use Rattle.std.proofs.lemmas.List.Sums.{count_by-le-length, count_by_more_yes, count_by_more_no}
+use Rattle.std.proofs.lemmas.List.{get_or-set_same, get_or-set_other, length-replicate, get_or-replicate}
+use Rattle.std.proofs.lemmas.List.Sums.{count_by_more_yes, count_by_more_no}
 use Rattle.found_files.specs.declared.found.FoundEntry.{FoundEntry}
 use Rattle.found_files.specs.Counted.{count_of, AreCounts}
 
--- a count has room for one more
-pub count_fits : (xs : List FoundEntry) (counts : List ℕ) (i r : ℕ) → r ≤ 64 → i < length xs → length xs < 2 ^ 63 → AreCounts (take i xs) counts → slice_index counts r < 2 ^ 63
-count_fits xs counts i r low lt short are =
-    let few = count_by-le-length (λ (x : FoundEntry). x.entry.region == r) (take i xs) in
-    omega (arith, few, are.each r (omega (arith, low)), length-take i xs, lt, short)
+-- before any entry
+pub none_counted : (counts : List ℕ) → counts ≡ replicate 65 0 → AreCounts [] counts
+none_counted counts is = record { long = ap length is ∙ length-replicate {A = ℕ} 65 0; each = λ r lt. ap (λ (l : List ℕ). slice_index l r) is ∙ get_or-replicate {A = ℕ} 65 r 0 0 lt }
 
 -- one entry more is counted
 pub one_counted : (xs : List FoundEntry) (i : ℕ) (d : FoundEntry) (old new : List ℕ) (r : ℕ) → r ≡ (get_or xs i d).entry.region → r ≤ 64 → i < length xs → new ≡ slice_set old r (slice_index old r + 1)

@@ -8,6 +8,7 @@ pub mod ReadSteps
 pub mod NameOrder
 pub mod Whole
 pub mod Told
+pub mod Causes
 pub mod Files
 pub mod Disagreeing
 pub mod Sound

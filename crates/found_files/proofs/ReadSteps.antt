@@ -46,8 +46,8 @@ with_good told files all names es ss good read = record {
   rising = read.rising;
 }
 
-pub no_contents : (told : Type 0) (files : Files) → AreContents told files [] [] []
-no_contents told files = record {
+nothing : (told : Type 0) (files : Files) → AreContents told files [] [] []
+nothing told files = record {
   logs = λ is_told m has. absurd (none_in m has);
   hold = λ x has. absurd (none_in x has);
   among = λ x has. absurd (none_in x has);
@@ -59,8 +59,13 @@ no_contents told files = record {
   rising = λ is_told i j d less lt. absurd (omega (arith, lt));
 }
 
-pub none_read : (told : Type 0) (files : Files) (all : List Name) → AreRead told files all [] [] []
-none_read told files all = with_good told files all [] [] [] (λ m has. absurd (none_in m has)) (no_contents told files)
+-- before any file was read
+pub no_contents : (told : Type 0) (files : Files) (es : List FoundEntry) (ss : List FoundStore) → es ≡ [] → ss ≡ [] → AreContents told files [] es ss
+no_contents told files es ss no_entry no_store =
+    subst (λ (l : List FoundEntry). AreContents told files [] l ss) (sym no_entry) (subst (λ (l : List FoundStore). AreContents told files [] [] l) (sym no_store) (nothing told files))
+
+pub none_read : (told : Type 0) (files : Files) (all : List Name) (es : List FoundEntry) (ss : List FoundStore) → es ≡ [] → ss ≡ [] → AreRead told files all [] es ss
+none_read told files all es ss no_entry no_store = with_good told files all [] es ss (λ m has. absurd (none_in m has)) (no_contents told files es ss no_entry no_store)
 
 entries_or_not : (k : NameKind) → HoldsEntries k ⊎ (HoldsEntries k → ⊥)
 entries_or_not kinds.Log = inl (inl refl)

@@ -1,8 +1,9 @@
 -- Which stores count, told store by store.
-use Rattle.std.proofs.Common.{◌≡◌, ◌≢◌, ◌⊎◌, inl, inr, ℕ, ◌<◌, ◌≤◌, max, nat_le, true, List, [], ◌∷◌, ◌++◌, get_or, Contains, slice_set, Some, refl, sym, ap, ◌∙◌, subst, arith, get_or-set_other, get_or-set_same}
+use Rattle.std.proofs.Common.{◌≡◌, ◌≢◌, ◌⊎◌, inl, inr, ℕ, ◌<◌, ◌≤◌, max, nat_le, true, List, [], ◌∷◌, ◌++◌, length, replicate, get_or, Contains, slice_set, Some, refl, sym, ap, ◌∙◌, subst, arith, get_or-set_other, get_or-set_same}
 use Rattle.std.specs.declared.cmp.Ordering.TheVariants.{Less}
 use Rattle.std.proofs.Math.ListN.{length-set}
 use Rattle.std.proofs.lemmas.Bool.{cases_eq, leb-true, le-leb}
+use Rattle.std.proofs.lemmas.List.{length-replicate, get_or-replicate}
 use Rattle.std.proofs.lemmas.List.Kept.{AllPairs-filter}
 use Rattle.std.proofs.lemmas.List.Elements.{Contains-append_left, Contains-push, Contains-push_cases}
 use Rattle.log_model.specs.declared.name.Name.{Name}
@@ -16,9 +17,16 @@ use Rattle.found_files.specs.declared.found.FoundStore.{FoundStore}
 use Rattle.found_files.specs.Found.{store_of, AreContents}
 use Rattle.found_files.specs.Counting.{Replaces, AreFirstNumbers, AreCounting, AreCountingOf, counting_among}
 use Rattle.found_files.proofs.Filters.{in_filter, to_filter}
+use Rattle.found_files.proofs.Placing.{none_in}
 use Rattle.found_files.proofs.Greatest.{greatest_more, greatest_same}
 
 -- ---- the first numbers, store by store
+
+pub none_replaced : (first : List ℕ) → first ≡ replicate 65 0 → AreFirstNumbers [] first
+none_replaced first is = record {
+  long = ap length is ∙ length-replicate {A = ℕ} 65 0;
+  each = λ r lt. subst (IsGreatest (Replaces [] r)) (sym (ap (λ (l : List ℕ). get_or l r 0) is ∙ get_or-replicate {A = ℕ} 65 r 0 0 lt)) (record { reached = inr refl; bound = λ m has. absurd (none_in has.0 has.1) });
+}
 
 module _ (stores : List FoundStore) (x : FoundStore) (old new : List ℕ) (low : x.name.region ≤ 64) (are : AreFirstNumbers stores old) where
   abbrev at : ℕ

@@ -1,5 +1,5 @@
 -- Entries of files in the order of regions, numbers and names.
-use Rattle.std.specs.Prelude.{◌≡◌, ◌≢◌, ◌⊎◌, ◌<◌, ◌≤◌, ℕ, List, length, get_or}
+use Rattle.std.specs.Prelude.{◌≡◌, ◌≢◌, ◌⊎◌, ◌↔◌, ◌<◌, ◌≤◌, ℕ, List, length, get_or, Contains}
 use Rattle.std.specs.declared.cmp.Ordering.TheVariants.{Less}
 use Rattle.log_model.specs.declared.damage.Damage.{Damage}
 use Rattle.log_model.specs.declared.damage.Damage.TheVariants as damages
@@ -45,3 +45,7 @@ pub record IsFirstPair (xs : List FoundEntry) (damage : Damage) : Type 0 where
   pub differ : DifferAt xs first at
   pub agree : AgreeBelow xs at
   pub none_before : (k : ℕ) (d : FoundEntry) → k < first → IsOfSame (get_or xs k d) (get_or xs first d) → ⊥
+
+-- the same of these entries in order
+abbrev pub IsFirstPairOf : List FoundEntry → Damage → Type 0
+IsFirstPairOf xs damage = (es : List FoundEntry) × AreOrdered es × ((x : FoundEntry) → Contains es x ↔ Contains xs x) × IsFirstPair es damage

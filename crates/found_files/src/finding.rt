@@ -8,7 +8,7 @@ ghost use Rattle.disk_images.specs.Calls.{HasCause};
 ghost use Rattle.disk_images.specs.Settled.{IsSettled};
 ghost use Rattle.found_files.specs.declared.found.FoundEntry.{FoundEntry as TheFound};
 ghost use Rattle.found_files.specs.Found.{AreRead};
-ghost use Rattle.found_files.specs.Sorted.{AreOrdered, AllAgree};
+ghost use Rattle.found_files.specs.Sorted.{AreOrdered, AllAgree, IsFirstPairOf};
 ghost use Rattle.found_files.specs.Refusal.{IfDamage};
 ghost use Rattle.found_files.specs.Watching.{OnlyWatches};
 
@@ -37,15 +37,28 @@ pub fn find_files<D: Disk>(alloc: Global, disk: &mut D) -> Result<Finding, Split
 {
     let names = barrier(alloc, disk)?;
     let files = read_checked(alloc, disk, names.as_slice())?;
+    let files = in_agreement(alloc, files)?;
+    Ok(Finding { names, files })
+}
+
+/// The same files with their entries in order, or the first two of them that differ.
+pub(crate) fn in_agreement(alloc: Global, files: FoundFiles) -> Result<FoundFiles, SplitRefusal>
+    ensures ordered { IfOk result (λ found. AreOrdered found.entries.items) }
+    ensures agree { IfOk result (λ found. AllAgree found.entries.items) }
+    ensures same { IfOk result (λ found. (x : TheFound) → Contains found.entries.items x ↔ Contains files.entries.items x) }
+    ensures stores { IfOk result (λ found. found.stores.items ≡ files.stores.items) }
+    ensures differ { IfDamage result (IsFirstPairOf files.entries.items) }
+    ensures no_fault { IsErrOf result SplitRefusal.DiskFault → ⊥ }
+{
     let files = in_order(alloc, files)?;
     match first_disagreement(&files.entries) {
         Some(damage) => Err(SplitRefusal::Damaged(damage)),
-        None => Ok(Finding { names, files }),
+        None => Ok(files),
     }
 }
 
 /// The same files with their entries in the order of regions, numbers and names.
-pub(crate) fn in_order(alloc: Global, files: FoundFiles) -> Result<FoundFiles, SplitRefusal>
+fn in_order(alloc: Global, files: FoundFiles) -> Result<FoundFiles, SplitRefusal>
     ensures ordered { IfOk result (λ found. AreOrdered found.entries.items) }
     ensures same { IfOk result (λ found. (x : TheFound) → Contains found.entries.items x ↔ Contains files.entries.items x) }
     ensures stores { IfOk result (λ found. found.stores.items ≡ files.stores.items) }

@@ -12,9 +12,8 @@ ghost use Rattle.found_files.specs.Sorted.{AreOrdered, AllAgree};
 ghost use Rattle.found_files.specs.Refusal.{IfDamage};
 ghost use Rattle.found_files.specs.Watching.{OnlyWatches};
 
-use crate::agreeing::first_disagreement;
 use crate::checking::read_file;
-use crate::finding::in_order;
+use crate::finding::in_agreement;
 use crate::found::{FoundFiles, RegionFinding};
 use crate::refusal::SplitRefusal;
 use disk_images::{Disk, Name, NameKind};
@@ -40,14 +39,22 @@ pub fn find_region<D: Disk>(
     ensures watches { IsTrue D.told → OnlyWatches (D.view disk.old) (D.view disk.new) }
     ensures cause { HasCause (D.faults disk.old) (D.faults disk.new) (IsErrOf result SplitRefusal.DiskFault) }
 {
-    let all = disk.names(alloc)?;
-    let names = own_names(alloc, all.as_slice(), region)?;
+    let names = names_in(alloc, disk, region)?;
     let files = read_each(alloc, disk, &names)?;
-    let files = in_order(alloc, files)?;
-    match first_disagreement(&files.entries) {
-        Some(damage) => Err(SplitRefusal::Damaged(damage)),
-        None => Ok(RegionFinding { names, files }),
-    }
+    let files = in_agreement(alloc, files)?;
+    Ok(RegionFinding { names, files })
+}
+
+/// The names of the region's store and edits files, in their order.
+fn names_in<D: Disk>(alloc: Global, disk: &mut D, region: u32) -> Result<Vec<Name>, SplitRefusal>
+    ensures names { IfOk result (λ own. AreNamesOf (IsTrue D.told) (D.view disk.old).files region own.items) }
+    ensures undamaged { IfDamage result (λ damage. ⊥) }
+    ensures watches { IsTrue D.told → OnlyWatches (D.view disk.old) (D.view disk.new) }
+    ensures cause { HasCause (D.faults disk.old) (D.faults disk.new) (IsErrOf result SplitRefusal.DiskFault) }
+{
+    let all = disk.names(alloc)?;
+    let own = own_names(alloc, all.as_slice(), region)?;
+    Ok(own)
 }
 
 /// The names of the region's store and edits files among these, in their order.

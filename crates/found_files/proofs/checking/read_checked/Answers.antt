@@ -1,6 +1,6 @@
-use Rattle.std.proofs.Common.{◌≡◌, IsTrue, List, Contains, take, get_or, sym, subst, arith}
+use Rattle.std.proofs.Common.{◌≡◌, IsTrue, List, Contains, take, get_or, le_refl, sym, subst, arith}
 use Rattle.std.specs.FinMap.{keys}
-use Rattle.std.proofs.lemmas.List.{take_more}
+use Rattle.std.proofs.lemmas.List.{take_more, take_all}
 use Rattle.std.proofs.lemmas.List.Elements.{Contains-get_or}
 use Rattle.log_model.specs.declared.name.Name.{Name}
 use Rattle.log_model.specs.declared.name.NameKind.TheVariants as kinds
@@ -8,17 +8,29 @@ use Rattle.log_model.specs.Files.{Files, IsSound}
 use Rattle.log_model.specs.Damage.{IsDamage}
 use Rattle.disk_images.proofs.Settled.{read_of, there_of}
 use Rattle.found_files.specs.declared.found.FoundFiles.{FoundFiles}
+use Rattle.found_files.specs.declared.refusal.SplitRefusal.TheVariants as refusals
 use Rattle.found_files.specs.Found.{AreRead}
 use Rattle.found_files.specs.Checked.{TellsOne}
-use Rattle.found_files.proofs.ReadSteps.{one_read}
+use Rattle.found_files.proofs.ReadSteps.{none_read, one_read}
+use Rattle.found_files.proofs.Causes.{no_cause, cause_of}
 use Rattle.found_files.proofs.Told.{handed_on}
 use Rattle.found_files.proofs.NameOrder.{below_this}
-use Rattle.found_files.proofs.Watched.{watched_on, reads_now}
+use Rattle.found_files.proofs.Watched.{watched_none, watched_on, reads_now}
 use Rattle.found_files.proofs.Whole.{first_told, unsound_one}
 use Rattle.found_files.proofs.checking.read_checked.Goals as goal
 
 abbrev some_name : Name
 some_name = record { kind = kinds.Log; region = 0; number = 0 }
+
+pub loop-name-init : goal.loop-name-init
+loop-name-init g c =
+    let u = g.D.Disk.view c.args.disk.now in
+    let found = c.new-found.result in
+    record {
+      read = none_read (IsTrue g.D.Disk.told) u.files c.args.names.now found.entries.items found.stores.items c.new-found.ensures.entries c.new-found.ensures.stores;
+      watches = λ told. watched_none u;
+      faults = le_refl (g.D.Disk.faults c.args.disk.now);
+    }
 
 pub read_one-requires : goal.read_one-requires
 read_one-requires g c = record {
@@ -77,3 +89,15 @@ loop-name-preserved g c =
       watches = λ told. watched_on u v w (c.loop-name.invariant.watches told) (c.read_one.ensures.watches told);
       faults = omega (arith, c.loop-name.invariant.faults, c.read_one.ensures.cause.later);
     }
+
+pub returns-in_err-read_one-clause-cause : goal.returns-in_err-read_one-clause-cause
+returns-in_err-read_one-clause-cause g c =
+    cause_of (Unit {0}) c.in_err-read_one.field-0.0 refusals.DiskFault c.from_residual-in_err-read_one.result c.from_residual-in_err-read_one.ensures.1 c.in_err-read_one.ensures.cause c.loop-name.invariant.faults
+
+pub returns-clause-read : goal.returns-clause-read
+returns-clause-read g c =
+    subst (λ (l : List Name). AreRead (IsTrue g.D.Disk.told) (g.D.Disk.view c.args.disk.now).files c.args.names.now l c.loop-name.found.entries.items c.loop-name.found.stores.items)
+    (take_all c.loop-name.name-index c.args.names.now c.loop-name-test.false) c.loop-name.invariant.read
+
+pub returns-clause-cause : goal.returns-clause-cause
+returns-clause-cause g c = no_cause c.loop-name.found refusals.DiskFault c.loop-name.invariant.faults

@@ -1,10 +1,10 @@
 use Rattle.std.proofs.Common.{◌∙◌, inl, inr, List, [], ◌∷◌, ◌++◌, Contains, take, sym, ap, subst, arith}
 use Rattle.std.proofs.lemmas.Bool.{cases_eq}
-use Rattle.std.proofs.lemmas.List.{take_more}
+use Rattle.std.proofs.lemmas.List.{take_more, take_all}
 use Rattle.std.proofs.lemmas.List.Elements.{Contains-get_or}
 use Rattle.found_files.specs.declared.found.FoundStore.{FoundStore}
 use Rattle.found_files.specs.Counting.{AreFirstNumbers}
-use Rattle.found_files.proofs.Replaced.{one_replaced, not_replaced}
+use Rattle.found_files.proofs.Replaced.{none_replaced, one_replaced, not_replaced}
 use Rattle.found_files.proofs.counting.first_numbers.Goals as goal
 
 pub raise-requires : goal.raise-requires
@@ -13,6 +13,9 @@ raise-requires c =
     let x = c.store-item.result in
     let low = c.requires x (subst (λ (y : FoundStore). Contains stores y) (sym c.store-item.is) (Contains-get_or stores c.loop-store.store-index x c.loop-store-test.true)) in
     omega (arith, low, c.loop-store.invariant.long)
+
+pub loop-store-init : goal.loop-store-init
+loop-store-init c = none_replaced c.in_ok-first.first.items (c.in_ok-first.ensures.items_if_clones_equal (λ y is. is))
 
 pub loop-store-preserved : goal.loop-store-preserved
 loop-store-preserved c =
@@ -25,3 +28,7 @@ loop-store-preserved c =
       | inl scope ↦ one_replaced (take i stores) x c.loop-store.first.items c.raise.new.first.items low c.loop-store.invariant scope (c.raise.ensures.replaces scope)
       | inr other ↦ not_replaced (take i stores) x c.loop-store.first.items c.raise.new.first.items low c.loop-store.invariant other (c.raise.ensures.other other)
     ])
+
+pub returns : goal.returns
+returns c =
+    subst (λ (l : List FoundStore). AreFirstNumbers l c.loop-store.first.items) (take_all c.loop-store.store-index c.args.stores.now c.loop-store-test.false) c.loop-store.invariant

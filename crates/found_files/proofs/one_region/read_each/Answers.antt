@@ -1,21 +1,33 @@
-use Rattle.std.proofs.Common.{◌≡◌, IsTrue, List, take, get_or, sym, subst, arith}
-use Rattle.std.proofs.lemmas.List.{take_more}
+use Rattle.std.proofs.Common.{◌≡◌, IsTrue, List, take, get_or, le_refl, sym, subst, arith}
+use Rattle.std.proofs.lemmas.List.{take_more, take_all}
 use Rattle.std.proofs.lemmas.List.Elements.{Contains-get_or}
 use Rattle.log_model.specs.declared.name.Name.{Name}
 use Rattle.log_model.specs.declared.name.NameKind.TheVariants as kinds
 use Rattle.log_model.specs.Files.{Files}
 use Rattle.found_files.specs.declared.found.FoundFiles.{FoundFiles}
+use Rattle.found_files.specs.declared.refusal.SplitRefusal.TheVariants as refusals
 use Rattle.found_files.specs.Found.{AreContents}
 use Rattle.found_files.specs.OfRegion.{IsFirstHurt}
 use Rattle.found_files.specs.Refusal.{IsDamageAt}
-use Rattle.found_files.proofs.ReadSteps.{one_more}
+use Rattle.found_files.proofs.ReadSteps.{no_contents, one_more}
+use Rattle.found_files.proofs.Causes.{no_cause, cause_of}
 use Rattle.found_files.proofs.Told.{handed_on}
 use Rattle.found_files.proofs.InRegion.{before_this, first_hurt}
-use Rattle.found_files.proofs.Watched.{watched_on, there_now}
+use Rattle.found_files.proofs.Watched.{watched_none, watched_on, there_now}
 use Rattle.found_files.proofs.one_region.read_each.Goals as goal
 
 abbrev some_name : Name
 some_name = record { kind = kinds.Log; region = 0; number = 0 }
+
+pub loop-name-init : goal.loop-name-init
+loop-name-init g c =
+    let u = g.D.Disk.view c.args.disk.now in
+    let found = c.new-found.result in
+    record {
+      read = no_contents (IsTrue g.D.Disk.told) u.files found.entries.items found.stores.items c.new-found.ensures.entries c.new-found.ensures.stores;
+      watches = λ told. watched_none u;
+      faults = le_refl (g.D.Disk.faults c.args.disk.now);
+    }
 
 pub read_file-requires : goal.read_file-requires
 read_file-requires g c = record {
@@ -58,3 +70,15 @@ loop-name-preserved g c =
       watches = λ told. watched_on u v w (c.loop-name.invariant.watches told) (c.read_file.ensures.watches told);
       faults = omega (arith, c.loop-name.invariant.faults, c.read_file.ensures.cause.later);
     }
+
+pub returns-in_err-read_file-clause-cause : goal.returns-in_err-read_file-clause-cause
+returns-in_err-read_file-clause-cause g c =
+    cause_of (Unit {0}) c.in_err-read_file.field-0.0 refusals.DiskFault c.from_residual.result c.from_residual.ensures.1 c.in_err-read_file.ensures.cause c.loop-name.invariant.faults
+
+pub returns-clause-read : goal.returns-clause-read
+returns-clause-read g c =
+    subst (λ (l : List Name). AreContents (IsTrue g.D.Disk.told) (g.D.Disk.view c.args.disk.now).files l c.loop-name.found.entries.items c.loop-name.found.stores.items)
+    (take_all c.loop-name.name-index c.args.names.now c.loop-name-test.false) c.loop-name.invariant.read
+
+pub returns-clause-cause : goal.returns-clause-cause
+returns-clause-cause g c = no_cause c.loop-name.found refusals.DiskFault c.loop-name.invariant.faults

@@ -1,7 +1,10 @@
-use Rattle.std.proofs.Common.{refl}
+use Rattle.std.proofs.Common.{refl, ap}
+use Rattle.std.specs.Prelude.{Err}
 use Rattle.disk_images.proofs.Reading.{reads_some}
+use Rattle.file_base.specs.declared.error.ReadRefusal.{ReadRefusal}
 use Rattle.log_model.specs.Damage.HasDamage.{Logged}
 use Rattle.log_model.proofs.DamageLaws.{no_damaged_log}
+use Rattle.found_files.proofs.Causes.{same_cause, no_error, memory_no_fault, damage_no_fault}
 use Rattle.found_files.proofs.Watched.{watched}
 use Rattle.found_files.proofs.reading.read_entries.Goals as goal
 
@@ -35,3 +38,15 @@ returns-in_ok-add_entries-in-Ok-clause-read g c = record {
       let text = c.in-Ok.ensures.text told r.0 r.1 in
       record { kind = c.requires.kind; bytes = r.0; there = r.1; ended = c.in-Ok.text.ended; text = rw c.into_vec.ensures text };
 }
+
+pub returns-in_ok-add_entries-in-Ok-clause-cause : goal.returns-in_ok-add_entries-in-Ok-clause-cause
+returns-in_ok-add_entries-in-Ok-clause-cause g c = same_cause c.read_log.ensures.cause (λ is. absurd (no_error is))
+
+pub returns-in-Err-Memory-clause-cause : goal.returns-in-Err-Memory-clause-cause
+returns-in-Err-Memory-clause-cause g c = same_cause c.read_log.ensures.cause (λ is. absurd (memory_no_fault is))
+
+pub returns-in-Err-Damaged-clause-cause : goal.returns-in-Err-Damaged-clause-cause
+returns-in-Err-Damaged-clause-cause g c = same_cause c.read_log.ensures.cause (λ is. absurd (damage_no_fault is))
+
+pub returns-in-Err-DiskFault-clause-cause : goal.returns-in-Err-DiskFault-clause-cause
+returns-in-Err-DiskFault-clause-cause g c = same_cause c.in-Err-DiskFault.ensures.cause (λ is. ap (λ (e : ReadRefusal). Err e) c.in-Err-DiskFault.field-0-is)

@@ -1,8 +1,11 @@
-use Rattle.std.proofs.Common.{IsTrue, refl}
+use Rattle.std.proofs.Common.{IsTrue, refl, ap}
+use Rattle.std.specs.Prelude.{Err}
 use Rattle.disk_images.proofs.Reading.{reads_some}
+use Rattle.file_base.specs.declared.error.ReadRefusal.{ReadRefusal}
 use Rattle.log_model.specs.Damage.HasDamage.{Stored}
 use Rattle.log_model.proofs.DamageLaws.{no_damaged_store}
 use Rattle.found_files.specs.declared.found.FoundStore.{FoundStore}
+use Rattle.found_files.proofs.Causes.{same_cause, cause_since, no_error, memory_no_fault, damage_no_fault}
 use Rattle.found_files.proofs.Watched.{watched, watched_on, there_now, reads_now}
 use Rattle.found_files.proofs.OneStore.{store_added, store_not_there}
 use Rattle.found_files.proofs.reading.read_found_store.Goals as goal
@@ -78,3 +81,21 @@ returns-in-Ok-None-clause-read g c =
     let v = g.D.Disk.view c.size_of_file.new.disk in
     store_not_there (IsTrue g.D.Disk.told) u.files c.args.name c.args.into.now.items c.args.into.now.items (λ told bytes reads. c.in_ok-_size.ensures.small told bytes reads) refl
     (λ told bytes reads. rw c.in-Ok-None.field-0-is at (c.in-Ok-None.ensures.text told bytes (reads_now u v c.args.name bytes (c.size_of_file.ensures.files told) reads)))
+
+pub returns-in_err-_size-clause-cause : goal.returns-in_err-_size-clause-cause
+returns-in_err-_size-clause-cause g c = same_cause c.in_err-_size.ensures.cause (λ is. refl)
+
+pub returns-in_ok-push-in-Ok-Some-clause-cause : goal.returns-in_ok-push-in-Ok-Some-clause-cause
+returns-in_ok-push-in-Ok-Some-clause-cause g c = cause_since c.read_store.ensures.cause c.size_of_file.ensures.cause.later (λ is. absurd (no_error is))
+
+pub returns-in-Ok-None-clause-cause : goal.returns-in-Ok-None-clause-cause
+returns-in-Ok-None-clause-cause g c = cause_since c.read_store.ensures.cause c.size_of_file.ensures.cause.later (λ is. absurd (no_error is))
+
+pub returns-in-Err-Memory-clause-cause : goal.returns-in-Err-Memory-clause-cause
+returns-in-Err-Memory-clause-cause g c = cause_since c.read_store.ensures.cause c.size_of_file.ensures.cause.later (λ is. absurd (memory_no_fault is))
+
+pub returns-in-Err-Damaged-clause-cause : goal.returns-in-Err-Damaged-clause-cause
+returns-in-Err-Damaged-clause-cause g c = cause_since c.read_store.ensures.cause c.size_of_file.ensures.cause.later (λ is. absurd (damage_no_fault is))
+
+pub returns-in-Err-DiskFault-clause-cause : goal.returns-in-Err-DiskFault-clause-cause
+returns-in-Err-DiskFault-clause-cause g c = cause_since c.in-Err-DiskFault.ensures.cause c.size_of_file.ensures.cause.later (λ is. ap (λ (e : ReadRefusal). Err e) c.in-Err-DiskFault.field-0-is)

@@ -11,6 +11,7 @@ use Rattle.found_files.specs.declared.found.RegionFinding.{RegionFinding}
 use Rattle.found_files.specs.OfRegion.{IsDamageIn}
 use Rattle.found_files.proofs.Sound.{of_same_files}
 use Rattle.found_files.proofs.Told.{if_damage}
+use Rattle.found_files.proofs.Causes.{same_cause, cause_since, same_error}
 use Rattle.wal_split.specs.Moments.{During}
 use Rattle.region_replay.specs.Names.{IsElsewhere}
 use Rattle.region_replay.specs.Ready.{Found, IsOf}
@@ -104,3 +105,9 @@ returns-in-Err-clause-damaged g c told =
     let v = g.D.Disk.view c.find_region.new.disk in
     let watches = c.find_region.ensures.watches told in
     refused_too RegionFinding Found (IsDamageIn u.files c.args.region) (λ d. IsDamageIn u.files c.args.region d × (v.files ≡ u.files)) c.in-Err.e (λ d h. (h, watches.1.files)) (c.in-Err.ensures.damaged told)
+
+pub returns-in-Ok-clause-cause : goal.returns-in-Ok-clause-cause
+returns-in-Ok-clause-cause g c = cause_since c.replay_read.ensures.cause c.find_region.ensures.cause.later (λ is. is)
+
+pub returns-in-Err-clause-cause : goal.returns-in-Err-clause-cause
+returns-in-Err-clause-cause g c = same_cause c.in-Err.ensures.cause (λ is. same_error RegionFinding Found is)

@@ -1,8 +1,10 @@
-use Rattle.std.proofs.Common.{◌+◌, ◌∙◌, sym, ap, subst}
+use Rattle.std.proofs.Common.{◌+◌, ◌∙◌, refl, sym, ap, subst}
 use Rattle.log_model.specs.Files.{Files, content}
 use Rattle.disk_images.proofs.Moments.{joined}
+use Rattle.file_base.specs.declared.error.FileRefusal.TheVariants as refusals
 use Rattle.recovery_laws.specs.Alike.{AllAlike}
-use Rattle.region_replay.specs.Ready.{IsOf}
+use Rattle.found_files.proofs.Causes.{same_cause, cause_since, no_error, error_of}
+use Rattle.region_replay.specs.Ready.{IsOf, Found}
 use Rattle.region_replay.proofs.one_region.replay_and_clear.Goals as goal
 
 pub returns-in-Ok-clause-any_moment : goal.returns-in-Ok-clause-any_moment
@@ -29,3 +31,12 @@ returns-in-Ok-clause-no_edits g c told m has = ap (λ (f : Files). content f m) 
 
 pub returns-in-Ok-clause-others : goal.returns-in-Ok-clause-others
 returns-in-Ok-clause-others g c told m not other = ap (λ (f : Files). content f m) (c.clear.ensures.files told) ∙ c.in_ok-replayed.ensures.others told m not other
+
+pub returns-in_err-replayed-clause-cause : goal.returns-in_err-replayed-clause-cause
+returns-in_err-replayed-clause-cause g c = same_cause c.in_err-replayed.ensures.cause (λ is. error_of Found c.in_err-replayed.field-0.0 refusals.DiskFault c.from_residual.result c.from_residual.ensures.1 is)
+
+pub returns-in-Ok-clause-cause : goal.returns-in-Ok-clause-cause
+returns-in-Ok-clause-cause g c = cause_since c.clear.ensures.cause c.replay_region.ensures.cause.later (λ is. absurd (no_error is))
+
+pub returns-in-Err-clause-cause : goal.returns-in-Err-clause-cause
+returns-in-Err-clause-cause g c = cause_since c.in-Err.ensures.cause c.replay_region.ensures.cause.later (λ is. refl)

@@ -1,8 +1,11 @@
 use Rattle.std.proofs.Common.{◌≡◌, ◌∙◌, IsTrue, refl, sym, ap, subst, arith, ℕ}
+use Rattle.std.specs.Prelude.{Err}
 use Rattle.log_model.specs.declared.name.Name.{Name}
 use Rattle.log_model.specs.Files.{content}
 use Rattle.disk_images.proofs.Moments.{at_once}
+use Rattle.file_base.specs.declared.error.FileRefusal.{FileRefusal}
 use Rattle.recovery_laws.specs.Alike.{AllAlike}
+use Rattle.found_files.proofs.Causes.{same_cause, no_error}
 use Rattle.region_replay.specs.Names.{store_name}
 use Rattle.region_replay.specs.Ready.{IsOf}
 use Rattle.region_replay.proofs.Passing.{else_same}
@@ -103,3 +106,9 @@ returns-in-Ok-clause-stay g c told m store here =
     let found = c.args.found in
     c.in-Ok.ensures.others told m (λ is. here (ap (λ (k : Name). content u.files k) is ∙ next_absent (IsTrue g.D.Disk.told) u.files c.args.region c.requires.region.0 c.requires.region.1 found.names.items found.files.entries.items found.files.stores.items c.requires.names c.requires.read c.in_ok-files.files c.in_ok-files.ensures told))
     (λ n has is. absurd (cc (sym store ∙ ap (λ (k : Name). k.kind) is ∙ (in_order (IsTrue g.D.Disk.told) u.files c.args.region c.requires.region.0 c.requires.region.1 found.names.items found.files.entries.items found.files.stores.items c.requires.names c.requires.read c.in_ok-files.files c.in_ok-files.ensures).edits.kind n has)))
+
+pub returns-in-Ok-clause-cause : goal.returns-in-Ok-clause-cause
+returns-in-Ok-clause-cause g c = same_cause c.replay_and_clear.ensures.cause (λ is. absurd (no_error is))
+
+pub returns-in-Err-DiskFault-clause-cause : goal.returns-in-Err-DiskFault-clause-cause
+returns-in-Err-DiskFault-clause-cause g c = same_cause c.in-Err-DiskFault.ensures.cause (λ is. ap (λ (e : FileRefusal). Err e) c.in-Err-DiskFault.field-0-is)

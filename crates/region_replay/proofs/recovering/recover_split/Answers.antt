@@ -1,6 +1,9 @@
-use Rattle.std.proofs.Common.{IsTrue, List, sym, subst}
+use Rattle.std.proofs.Common.{IsTrue, List, sym, ap, subst}
+use Rattle.std.specs.Prelude.{Err}
 use Rattle.disk_images.proofs.Moments.{at_once}
+use Rattle.file_base.specs.declared.error.FileRefusal.{FileRefusal}
 use Rattle.recovery_laws.specs.Alike.{AllAlike}
+use Rattle.found_files.proofs.Causes.{same_cause, no_error}
 use Rattle.region_replay.specs.Opened.{AreOf}
 use Rattle.region_replay.specs.Ready.{Found}
 use Rattle.region_replay.proofs.AllFound.{each_in_order, are_apart, are_all_found, one_above, all_told}
@@ -74,3 +77,9 @@ returns-in-Ok-clause-recovered g c told old alike =
 
 pub returns-in-Ok-clause-olds : goal.returns-in-Ok-clause-olds
 returns-in-Ok-clause-olds g c told m old = c.in-Ok.ensures.olds told m old
+
+pub returns-in-Ok-clause-cause : goal.returns-in-Ok-clause-cause
+returns-in-Ok-clause-cause g c = same_cause c.replay_all.ensures.cause (λ is. absurd (no_error is))
+
+pub returns-in-Err-DiskFault-clause-cause : goal.returns-in-Err-DiskFault-clause-cause
+returns-in-Err-DiskFault-clause-cause g c = same_cause c.in-Err-DiskFault.ensures.cause (λ is. ap (λ (e : FileRefusal). Err e) c.in-Err-DiskFault.field-0-is)

@@ -1,6 +1,7 @@
-use Rattle.std.proofs.Common.{List, length, Contains, sym, subst, arith}
+use Rattle.std.proofs.Common.{IsTrue, List, length, Contains, sym, subst, arith}
 use Rattle.log_model.specs.declared.name.Name.{Name}
-use Rattle.region_replay.specs.Cuts.{EditsFlushed}
+use Rattle.found_files.proofs.Causes.{same_cause, no_error}
+use Rattle.region_replay.specs.Cuts.{AreEdits, EditsFlushed}
 use Rattle.region_replay.proofs.Cutting.{none_written}
 use Rattle.region_replay.proofs.Finding.{edits_flushed, dropped_of, no_cells, none_over, within_of}
 use Rattle.region_replay.proofs.region.drop_edits.Goals as goal
@@ -41,3 +42,15 @@ returns-in-Ok-clause-replayed g c told base held found =
 
 pub returns-in-Ok-clause-others : goal.returns-in-Ok-clause-others
 returns-in-Ok-clause-others g c told m not other = c.in-Ok.ensures.others told m (λ n has. other n (subst (λ (ns : List Name). Contains ns n) c.deref.ensures.value has))
+
+pub returns-in-Ok-clause-no_edits : goal.returns-in-Ok-clause-no_edits
+returns-in-Ok-clause-no_edits g c told m has = c.in-Ok.ensures.gone told m (subst (λ (ns : List Name). Contains ns m) (sym c.deref.ensures.value) has)
+
+pub returns-in-Ok-clause-cause : goal.returns-in-Ok-clause-cause
+returns-in-Ok-clause-cause g c = same_cause c.remove_all.ensures.cause (λ is. absurd (no_error is))
+
+pub remove_all-requires-clause-edits : goal.remove_all-requires-clause-edits
+remove_all-requires-clause-edits g c = subst (λ (ns : List Name). AreEdits (IsTrue g.D.Disk.told) ns) (sym c.deref.ensures.value) c.requires.order.edits
+
+pub remove_all-requires-clause-there : goal.remove_all-requires-clause-there
+remove_all-requires-clause-there g c told m has = c.requires.there told m (subst (λ (ns : List Name). Contains ns m) c.deref.ensures.value has)

@@ -1,11 +1,14 @@
-use Rattle.std.proofs.Common.{◌≤◌, ◌+◌, ◌∙◌, inl, List, Contains, sym, ap, subst, arith}
+use Rattle.std.proofs.Common.{◌≤◌, ◌+◌, ◌∙◌, inl, IsTrue, List, Contains, sym, ap, subst, arith}
 use Rattle.std.specs.FinMap.{empty}
 use Rattle.std.specs.List.{AllByRecursion}
 use Rattle.cell_model.specs.Order.{NumberedCell}
 use Rattle.cell_model.specs.Merge.{put_numbered}
 use Rattle.log_model.specs.declared.name.Name.{Name}
+use Rattle.file_base.specs.declared.error.FileRefusal.TheVariants as refusals
+use Rattle.mem_segments.specs.declared.segment.Segment.{Segment}
+use Rattle.found_files.proofs.Causes.{same_cause, no_error, error_of}
 use Rattle.region_replay.specs.Names.{store_name}
-use Rattle.region_replay.specs.Cuts.{IsUnflushedCut, EditsUpTo}
+use Rattle.region_replay.specs.Cuts.{IsUnflushedCut, AreEdits, EditsUpTo}
 use Rattle.region_replay.proofs.BaseLaws.{joined_cells}
 use Rattle.region_replay.proofs.Cutting.{none_written}
 use Rattle.region_replay.proofs.Finding.{cells_of_found, cut_within, to_low, within_of, not_replaced, is_cut, edits_up, replayed_of, next_below, next_few}
@@ -102,3 +105,16 @@ returns-clause-others g c told m not other = c.in_ok-unflushed.ensures.others to
 
 pub returns-clause-no_edits : goal.returns-clause-no_edits
 returns-clause-no_edits g c told m has = c.in_ok-unflushed.ensures.gone told m (subst (λ (ns : List Name). Contains ns m) (sym c.deref.ensures.value) has)
+
+pub replay_found-requires-clause-edits : goal.replay_found-requires-clause-edits
+replay_found-requires-clause-edits g c = subst (λ (ns : List Name). AreEdits (IsTrue g.D.Disk.told) ns) (sym c.deref.ensures.value) c.requires.order.edits
+
+pub replay_found-requires-clause-there : goal.replay_found-requires-clause-there
+replay_found-requires-clause-there g c told m has = c.requires.there told m (subst (λ (ns : List Name). Contains ns m) c.deref.ensures.value has)
+
+pub returns-in_err-unflushed-clause-cause : goal.returns-in_err-unflushed-clause-cause
+returns-in_err-unflushed-clause-cause g c =
+    same_cause c.in_err-unflushed.ensures.cause (λ is. error_of Segment c.in_err-unflushed.field-0.0 refusals.DiskFault c.from_residual-in_err-unflushed.result c.from_residual-in_err-unflushed.ensures.1 is)
+
+pub returns-clause-cause : goal.returns-clause-cause
+returns-clause-cause g c = same_cause c.replay_found.ensures.cause (λ is. absurd (no_error is))

@@ -1,8 +1,10 @@
-use Rattle.std.proofs.Common.{length, length-append, ◌⊎◌, inl, inr, ◌≡◌, ◌∙◌, ◌++◌, ◌∷◌, [], IsTrue, List, Contains, sym, ap, subst, arith}
+use Rattle.std.proofs.Common.{length, length-append, ◌⊎◌, inl, inr, ◌≡◌, ◌∙◌, ◌++◌, ◌∷◌, [], IsTrue, List, Contains, le_refl, sym, ap, subst, arith}
 use Rattle.std.proofs.Math.Logic.{∥∥₁_elim, ∥∥₁_map}
 use Rattle.std.proofs.lemmas.List.{append_assoc, append-nil, nil_from_length}
 use Rattle.std.specs.Vec.Iter.{into_iter_items}
 use Rattle.log_model.specs.Files.{content, IsPresent}
+use Rattle.file_base.specs.declared.error.FileRefusal.TheVariants as refusals
+use Rattle.found_files.proofs.Causes.{cause_since, no_error, error_of}
 use Rattle.region_replay.specs.declared.found.RegionFiles.{RegionFiles}
 use Rattle.region_replay.specs.Names.{store_name}
 use Rattle.region_replay.specs.Ready.{Found}
@@ -21,7 +23,7 @@ loop-region-init g c =
       rest = c.into_iter-region-iterator.ensures.into_iter_gives.0;
       len = omega (arith, c.into_iter-region-iterator.ensures.into_iter_gives.1, ap length c.into_iter-region-iterator.ensures.into_iter_gives.0);
       count = ap length c.new-replayed.ensures.items;
-      later = omega arith;
+      later = le_refl (g.D.Disk.faults c.args.disk.now);
     }
 
 pub replay_region-requires-clause-order : goal.replay_region-requires-clause-order
@@ -139,3 +141,10 @@ returns-clause-count g c =
     let none : into_iter_items c.loop-region.region-iterator ≡ [] = nil_from_length (into_iter_items c.loop-region.region-iterator) (omega (arith, c.in-None.ensures.steps.0, c.loop-region.invariant.len)) in
     let all_yielded : c.args.regions.items ≡ c.loop-region.yielded = sym c.loop-region.invariant.rest ∙ ap (λ (l : List RegionFiles). c.loop-region.yielded ++ l) none ∙ append-nil c.loop-region.yielded in
     c.loop-region.invariant.count ∙ sym (ap length all_yielded)
+
+pub returns-in_err-next-clause-cause : goal.returns-in_err-next-clause-cause
+returns-in_err-next-clause-cause g c =
+    cause_since c.in_err-next.ensures.cause c.loop-region.invariant.later (λ is. error_of Found c.in_err-next.field-0.0 refusals.DiskFault c.from_residual.result c.from_residual.ensures.1 is)
+
+pub returns-clause-cause : goal.returns-clause-cause
+returns-clause-cause g c = record { later = c.loop-region.invariant.later; risen = λ is. absurd (no_error is) }

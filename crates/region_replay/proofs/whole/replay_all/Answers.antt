@@ -1,8 +1,9 @@
-use Rattle.std.proofs.Common.{◌+◌, ◌∙◌, ap}
+use Rattle.std.proofs.Common.{◌+◌, ◌∙◌, refl, ap}
 use Rattle.log_model.specs.Files.{Files, content}
 use Rattle.disk_images.proofs.Moments.{joined}
-use Rattle.recovery_laws.specs.Alike.{AllAlike}
 use Rattle.disk_images.proofs.Moments.{at_end}
+use Rattle.recovery_laws.specs.Alike.{AllAlike}
+use Rattle.found_files.proofs.Causes.{cause_since, no_error}
 use Rattle.region_replay.proofs.InTurn.{none_logged, ready}
 use Rattle.region_replay.proofs.whole.replay_all.Goals as goal
 
@@ -40,3 +41,9 @@ returns-in-Ok-clause-names g c told base held found m here =
 
 pub returns-in-Ok-clause-olds : goal.returns-in-Ok-clause-olds
 returns-in-Ok-clause-olds g c told m old = ap (λ (f : Files). content f m) (c.clear.ensures.files told) ∙ c.in_ok-replayed.ensures.olds told m old
+
+pub returns-in-Ok-clause-cause : goal.returns-in-Ok-clause-cause
+returns-in-Ok-clause-cause g c = cause_since c.clear.ensures.cause c.replay_regions.ensures.cause.later (λ is. absurd (no_error is))
+
+pub returns-in-Err-clause-cause : goal.returns-in-Err-clause-cause
+returns-in-Err-clause-cause g c = cause_since c.in-Err.ensures.cause c.replay_regions.ensures.cause.later (λ is. refl)

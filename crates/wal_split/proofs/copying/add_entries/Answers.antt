@@ -1,6 +1,8 @@
-use Rattle.std.proofs.Common.{◌+◌, ◌*◌, IsTrue, length, take, sym, arith}
+use Rattle.std.proofs.Common.{◌+◌, ◌*◌, IsTrue, length, take, refl, sym, arith}
+use Rattle.std.proofs.lemmas.Bool.{false≢true}
 use Rattle.disk_images.specs.Crash.{OnlyAt}
 use Rattle.disk_images.proofs.Moments.{more_time}
+use Rattle.found_files.proofs.Causes.{cause_since}
 use Rattle.wal_split.specs.Some.{HasSome}
 use Rattle.wal_split.proofs.Copies.{none_in_yet, some_on, one_in}
 use Rattle.wal_split.proofs.copying.add_entries.Goals as goal
@@ -32,3 +34,9 @@ loop-entry-preserved g c =
           (λ is_told. c.in_ok-add_entry.ensures.added is_told (take i es) (so_far.in_it is_told)) c.add_entry.ensures.touches,
       omega (arith, c.loop-entry.invariant.1, c.add_entry.ensures.cause.later),
     )
+
+pub returns-in_err-add_entry-clause-cause : goal.returns-in_err-add_entry-clause-cause
+returns-in_err-add_entry-clause-cause g c = cause_since c.in_err-add_entry.ensures.cause c.loop-entry.invariant.1 (λ is. refl)
+
+pub returns-clause-cause : goal.returns-clause-cause
+returns-clause-cause g c = record { later = c.loop-entry.invariant.1; risen = λ is. absurd (false≢true is) }

@@ -5,6 +5,7 @@ use Rattle.log_model.specs.Files.{content, IsAbsent}
 use Rattle.disk_images.specs.OneFile.{Touches}
 use Rattle.recovery_laws.specs.Change.{HasText}
 use Rattle.log_file.specs.Open.{AreEntriesOf}
+use Rattle.found_files.proofs.Causes.{cause_since, no_error, error_of}
 use Rattle.wal_split.specs.declared.job.EditsJob.{EditsJob}
 use Rattle.wal_split.proofs.Writing.{none_yet, among, absent_now, not_gone_now, moments_on, one_written, all_written, all_else}
 use Rattle.wal_split.proofs.every.write_all.Goals as goal
@@ -74,3 +75,10 @@ returns-clause-others g c told m other = c.loop-job.invariant.0.others told m (a
 
 pub returns-clause-gone : goal.returns-clause-gone
 returns-clause-gone g c told m gone = c.loop-job.invariant.0.gone told m gone
+
+pub returns-in_err-write_some-clause-cause : goal.returns-in_err-write_some-clause-cause
+returns-in_err-write_some-clause-cause g c =
+    cause_since c.in_err-write_some.ensures.cause c.loop-job.invariant.1 (λ is. error_of (Unit {0}) c.in_err-write_some.field-0.0 _ c.from_residual.result c.from_residual.ensures.1 is)
+
+pub returns-clause-cause : goal.returns-clause-cause
+returns-clause-cause g c = record { later = c.loop-job.invariant.1; risen = λ is. absurd (no_error is) }

@@ -1,8 +1,10 @@
-use Rattle.std.proofs.Common.{◌+◌, IsTrue, length, get_or, arith}
+use Rattle.std.proofs.Common.{◌+◌, IsTrue, length, get_or, refl, arith}
+use Rattle.std.proofs.lemmas.Bool.{false≢true}
 use Rattle.std.proofs.Math.Logic.{∥∥₁_map, ∥∥₁_elim}
 use Rattle.disk_images.proofs.Moments.{more_time}
 use Rattle.recovery_laws.specs.Alike.{AllAlike}
 use Rattle.log_model.specs.Files.{content}
+use Rattle.found_files.proofs.Causes.{cause_since}
 use Rattle.wal_split.specs.Logs.{old_name}
 use Rattle.wal_split.proofs.Turning.{none_renamed, reads_log, old_absent, old_not_gone, moments_on, one_renamed, absent_by, all_taken, all_other}
 use Rattle.wal_split.proofs.renaming.rename_logs.Goals as goal
@@ -52,3 +54,9 @@ returns-clause-moved g c told n has = c.loop-number.invariant.0.moved told n (al
 
 pub returns-clause-others : goal.returns-clause-others
 returns-clause-others g c told m other = c.loop-number.invariant.0.others told m (all_other c.args.logs.now c.loop-number.number-index m (omega (arith, c.loop-number-test.false)) other)
+
+pub returns-in_err-rename-clause-cause : goal.returns-in_err-rename-clause-cause
+returns-in_err-rename-clause-cause g c = cause_since c.in_err-rename.ensures.cause c.loop-number.invariant.1 (λ is. refl)
+
+pub returns-clause-cause : goal.returns-clause-cause
+returns-clause-cause g c = record { later = c.loop-number.invariant.1; risen = λ is. absurd (false≢true is) }

@@ -6,6 +6,7 @@ use Rattle.disk_images.proofs.Moments.{at_once}
 use Rattle.recovery_laws.specs.Change.{HasText}
 use Rattle.recovery_laws.specs.Alike.{AllAlike}
 use Rattle.found_files.specs.declared.found.FoundStore.{FoundStore}
+use Rattle.found_files.proofs.Causes.{same_cause, no_error}
 use Rattle.wal_split.specs.declared.job.EditsJob.{EditsJob}
 use Rattle.wal_split.specs.declared.split_files.SplitFiles.{SplitFiles}
 use Rattle.wal_split.specs.Held.{IsHeld}
@@ -268,3 +269,6 @@ returns-in-Ok-clause-in_range g c =
     let p = c.in_ok-plan.plan in
     let x : SplitFiles = record { names = found.names; stores = c.in_ok-stores.stores; plan = p } in
     in_range (IsTrue g.D.Disk.told) u.files x xs every c.requires.read counts (subst (λ (l : List Name). IsPlan l xs ss p) c.as_slice.ensures (subst (λ (l : List FoundStore). IsPlan c.as_slice.result.now xs l p) c.deref.ensures.value c.in_ok-plan.ensures))
+
+pub returns-in-Ok-clause-cause : goal.returns-in-Ok-clause-cause
+returns-in-Ok-clause-cause g c = same_cause c.split_found.ensures.cause (λ is. absurd (no_error is))
