@@ -3,9 +3,12 @@ use Rattle.std.proofs.Common.{◌≡◌, ℕ, zero, suc, ◌+◌, ◌-◌, ◌<�
 use Rattle.std.proofs.lemmas.List.{get_or_append_left, get_or-append_right, get_or_past}
 use Rattle.std.proofs.lemmas.Grind.{get_or_after_one}
 use Rattle.log_berth.specs.Words.{starts, NoMore}
+use Rattle.log_berth.proofs.Joined.{no_more-trans}
 use Rattle.log_berth.proofs.Numbers.{starts_at}
 use Rattle.log_ledger.specs.Numbers.{Numbers}
-use Rattle.log_service.specs.Numbers.{told_numbers}
+use Rattle.log_device.specs.declared.device.Device.{Device}
+use Rattle.log_device.specs.Whole.{numbers_of}
+use Rattle.log_service.specs.Numbers.{told_numbers, TellsLater}
 use Rattle.log_service.specs.Closed.{synced_in, stored_in, closed_in}
 
 pub length_starts : (n : ℕ) (xs : List ℕ) → length (starts n xs) ≡ n
@@ -76,3 +79,7 @@ stored_rose n a b later r above within =
     let is = told_stored n b (n + r - 1) (omega (arith, above)) (omega (arith, above, within)) in
     let there : (n + r - 1 - n) + 1 ≡ r = omega (arith, above) in
     omega (arith, later (n + r - 1), was, is, ap (λ (k : ℕ). get_or a.stored k 0) there, ap (λ (k : ℕ). get_or b.stored k 0) there)
+
+-- what was told later than before, and then later still
+pub told_trans : {D : Type 0} (k : ℕ) (a : Device D) (m : ℕ) (b : Device D) (n : ℕ) (c : Device D) → TellsLater k a m b → TellsLater m b n c → TellsLater k a n c
+told_trans k a m b n c f g = no_more-trans (told_numbers k (numbers_of a)) (told_numbers m (numbers_of b)) (told_numbers n (numbers_of c)) f g

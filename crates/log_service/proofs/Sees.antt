@@ -1,11 +1,16 @@
 -- What a seat has seen of the words, and the chains that were committed.
-use Rattle.std.proofs.Common.{◌≡◌, ◌≤◌, ◌<◌, ◌+◌, ◌-◌, ◌*◌, ℕ, List, false, length, get_or, refl, ap, ◌∙◌, arith}
+use Rattle.std.proofs.Common.{◌≡◌, ◌≤◌, ◌<◌, ◌+◌, ◌-◌, ◌*◌, ℕ, List, false, true, length, get_or, refl, ap, ◌∙◌, arith}
 use Rattle.std.specs.Prelude.{Option, Some, None, is_none, Result, Ok, Err, IfOk}
 use Rattle.append_ring.specs.Rules.{base_of}
 use Rattle.log_berth.specs.declared.known.Known.{Known}
 use Rattle.log_berth.specs.Words.{NoMore}
 use Rattle.log_trucks.specs.Held.{Held}
 use Rattle.log_ledger.specs.Numbers.{Numbers}
+use Rattle.log_device.specs.declared.error.DeviceFlush.{DeviceFlush}
+use Rattle.log_device.specs.declared.error.DeviceFlush.TheVariants as flushes
+use Rattle.log_device.specs.declared.error.Rolled.{Rolled}
+use Rattle.log_device.specs.declared.error.RollRefusal.{RollRefusal}
+use Rattle.log_device.specs.declared.error.RollRefusal.TheVariants as rolls
 use Rattle.log_service.specs.Trucks.{come_to}
 use Rattle.log_service.specs.Chains.{all_trucks}
 use Rattle.log_service.specs.Numbers.{told_numbers, seen_closed, HasSeen}
@@ -25,6 +30,17 @@ from_some (Some a) some f = f a refl
 pub not_broken : {A : Type 0} (o : Option A) → (o ≡ None → ⊥) → is_none o ≡ false
 not_broken None some = absurd (some refl)
 not_broken (Some a) some = refl
+
+pub is_broken : {A : Type 0} (o : Option A) → is_none o ≡ true → o ≡ None
+is_broken None is = refl
+is_broken (Some a) is = absurd (cc is)
+
+-- where there was nothing to flush, or to roll, the device didn't break
+pub no_flush_fault : {r : Result ℕ DeviceFlush} (n : ℕ) → r ≡ Err (flushes.Nothing n) → r ≡ Err flushes.WriteFault → ⊥
+no_flush_fault n is why = absurd (cc (is, why))
+
+pub no_roll_fault : {r : Result Rolled RollRefusal} (n : ℕ) → r ≡ Err (rolls.NothingToRoll n) → r ≡ Err rolls.WriteFault → ⊥
+no_roll_fault n is why = absurd (cc (is, why))
 
 -- after Ok a device isn't broken, where it is broken only after one refusal
 pub then_whole : {T E Broken : Type 0} {P Q : T → Type 0} (result : Result T E) (why : E) → (Broken → result ≡ Err why) → ((t : T) → (Broken → ⊥) → P t → Q t) → IfOk result P → IfOk result Q

@@ -5,6 +5,7 @@
 //! more, which commits next. All of this is for speed: no clause speaks of it.
 
 use crate::counting::{EventCount, low_half};
+use std::marker::Model;
 use std::sync::Wait;
 use std::sync::atomic::{AtomicU64, Ordering};
 use std::time::Duration;
@@ -28,6 +29,12 @@ pub(crate) struct Company {
     sleeps: AtomicU64,
     // Whether an item was found that doesn't fit the chain, so that no company can come in.
     full: AtomicU64,
+}
+
+impl Model for Company {
+    ghost Value = { Unit {0} };
+
+    ghost view = { λ _. tt };
 }
 
 impl Company {
@@ -145,6 +152,12 @@ impl Company {
 pub(crate) struct Commits {
     even: EventCount,
     odd: EventCount,
+}
+
+impl Model for Commits {
+    ghost Value = { Unit {0} };
+
+    ghost view = { λ _. tt };
 }
 
 impl Commits {

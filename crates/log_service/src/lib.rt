@@ -19,6 +19,7 @@ mod flushing;
 mod handing;
 mod helping;
 mod item;
+mod joining;
 mod looking;
 mod moving;
 mod name;

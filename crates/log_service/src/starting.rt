@@ -1,7 +1,6 @@
 //! How a service is started: first its rings, without a name, and then the service, over a name that names them.
 ghost use Rattle.std.specs.Prelude.{◌≡◌, ◌<◌, ◌≤◌, ◌*◌, ℕ, [], length, replicate, IsTrue, IfOk, IfErr};
 ghost use Rattle.crossbeam_queue.specs.Passes.{view};
-ghost use Rattle.append_ring.specs.Parts.{IsNew, AreNewAfter};
 ghost use Rattle.log_berth.specs.Words.{starts};
 ghost use Rattle.log_berth.specs.Standing.{fresh};
 ghost use Rattle.log_model.specs.Files.{Files};
@@ -12,16 +11,14 @@ ghost use Rattle.log_service.specs.Numbers.{told_numbers};
 
 use crate::chain::FrameChain;
 use crate::committer::DeviceHalf;
-use crate::company::{Commits, Company};
-use crate::consumer::ConsumerHalf;
-use crate::counting::{EventCount, Shows};
 use crate::item::Item;
+use crate::joining::{Left, first_berth, given_back};
 use crate::name::ServiceNaming;
 use crate::seats::LogSeats;
 use crate::service::LogService;
-use append_ring::{ConsumerPass, NoMemory, Ring, RingKey, RingKeys, RingParts};
+use append_ring::{ConsumerPass, NoMemory, Ring, RingKeys, RingParts};
 use disk_images::Disk;
-use log_berth::{Berth, BerthParts};
+use log_berth::Berth;
 use log_device::Device;
 use std::alloc::Global;
 use std::marker::PhantomData;
@@ -62,29 +59,6 @@ impl Rings {
         let items = Ring::new(alloc, lasts)?;
         let chains = Ring::of_capacity(alloc, lasts, CHAINS)?;
         Ok(Rings { items, chains })
-    }
-}
-
-/// The consumer's half at the start.
-fn first_half<N: ServiceNaming>(
-    consumer: ConsumerPass<Item>,
-    chain_key: RingKey<FrameChain>,
-    idle: RingKeys<FrameChain>,
-) -> ConsumerHalf<N>
-    requires ring { consumer.pass.table_id ≡ N.ring }
-    requires consumer { ((view consumer.pass).lasts ≡ N.lasts) × ((view consumer.pass).popped ≡ []) }
-    requires chain_key { IsNew N.chain_ring N.lasts 1 chain_key }
-    requires idle { AreNewAfter N.chain_ring N.lasts 0 1 idle × (length idle ≡ length N.lasts) }
-{
-    ConsumerHalf {
-        consumer,
-        chain: FrameChain::new(),
-        held: None,
-        chain_key,
-        idle,
-        asked: false,
-        requests: 0,
-        of: PhantomData,
     }
 }
 
@@ -146,45 +120,28 @@ impl<D: Disk, N: ServiceNaming> LogService<D, N> {
         ensures refused { IfErr result (λ r. r.device ≡ device) }
     {
         let Rings { items, chains } = rings;
-        let mut idle = chains.passes;
-        let Some(chain_key) = idle.next() else {
-            unreachable!()
+        let RingParts {
+            ring,
+            passes,
+            consumer,
+        } = items;
+        let RingParts {
+            ring: chain_ring,
+            passes: idle,
+            consumer: popper,
+        } = chains;
+        let left = Left {
+            ring,
+            chain_ring,
+            passes,
         };
-        let mover = first_half(items.consumer, chain_key, idle);
-        let Ok(
-            BerthParts {
-                berth: consumer,
-                seats: consumers,
-            },
-        ) = Berth::new(alloc, mover, 1, seats)
-        else {
+        let Ok(first) = first_berth::<N>(alloc, consumer, idle, seats) else {
             return Err(ServiceRefusal { device });
         };
-        let committer = second_half(device, chains.consumer, regions);
+        let committer = second_half(device, popper, regions);
         match Berth::new(alloc, committer, 3 * regions, seats) {
-            Ok(
-                BerthParts {
-                    berth,
-                    seats: devices,
-                },
-            ) => Ok(ServiceParts {
-                service: LogService {
-                    ring: items.ring,
-                    chain_ring: chains.ring,
-                    consumer,
-                    device: berth,
-                    regions,
-                    turns: EventCount::new(),
-                    commits: Commits::new(),
-                    company: Company::new(),
-                    shows: Shows::new(),
-                },
-                passes: items.passes,
-                seats: LogSeats { consumers, devices },
-            }),
-            Err(refusal) => Err(ServiceRefusal {
-                device: refusal.ware.into_device(),
-            }),
+            Ok(second) => Ok(left.joined(first, second, regions)),
+            Err(refusal) => Err(given_back(refusal, first)),
         }
     }
 }

@@ -5,6 +5,7 @@ use Rattle.log_ledger.specs.History.{committed_in, flushed_in, family_in}
 use Rattle.log_device.specs.Whole.{disk_of, numbers_of}
 use Rattle.log_service.proofs.Tied.{ties_committed, ties_archived, one_higher}
 use Rattle.log_service.proofs.Stored.{numbers_flushed, numbers_archived}
+use Rattle.log_service.proofs.Sees.{no_flush_fault}
 use Rattle.log_service.proofs.archived.flush_archived.Goals as goal
 
 pub returns-in-Err-clause-numbers : goal.returns-in-Err-clause-numbers
@@ -84,5 +85,5 @@ pub returns-in-Err-clause-nothing : goal.returns-in-Err-clause-nothing
 returns-in-Err-clause-nothing g c n is =
     let r = c.args.region in
     let said = c.in-Err.ensures.numbers in
-    let synced = ap (λ (l : List ℕ). get_or l r 0) (said.synced (λ broken. let why = c.in-Err.ensures.broken.1 broken in cc (why, is))) in
+    let synced = ap (λ (l : List ℕ). get_or l r 0) (said.synced (λ broken. no_flush_fault n is (c.in-Err.ensures.broken.1 broken))) in
     record { last = synced ∙ sym (said.nothing_number n is); stored = λ all. said.stored_nothing all n is }

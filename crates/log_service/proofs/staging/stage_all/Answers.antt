@@ -1,5 +1,6 @@
 use Rattle.std.proofs.Common.{◌≡◌, ℕ, List, [], ◌∷◌, ◌++◌, length, refl, sym, ap, ◌∙◌, subst, arith, append_assoc}
 use Rattle.std.proofs.Math.Logic.{∥∥₁_map}
+use Rattle.std.proofs.lemmas.List.{append-nil}
 use Rattle.log_model.specs.Entry.{Entry}
 use Rattle.log_file.specs.Open.{OpenLog}
 use Rattle.log_trucks.specs.Held.{Held, held_of, AreHeld}
@@ -8,7 +9,7 @@ use Rattle.log_device.proofs.Whole.{some_file}
 use Rattle.log_device.proofs.Numbering.{same_file}
 use Rattle.log_service.specs.Trucks.{AreSpelled, FollowOn, onward, size_of, come_to}
 use Rattle.log_service.specs.Commits.{all_staged_in, AreServed, drawn_in}
-use Rattle.log_service.proofs.Staged.{come_same, follow_same, served_still, staged_more, staged_none, held_head}
+use Rattle.log_service.proofs.Staged.{come_same, follow_same, served_still, staged_more, staged_none, held_none, held_head}
 use Rattle.log_service.proofs.staging.stage_all.Goals as goal
 
 pub loop-truck-init : goal.loop-truck-init
@@ -76,3 +77,11 @@ loop-truck-preserved g c =
       drawn = λ r. come_same (drawn_in (numbers_of new)) (onward (drawn_in (numbers_of old)) lone) drawn next r ∙ (ap (λ (l : List Held). come_to (drawn_in (numbers_of old)) l r) (sym here) ∙ was.drawn r);
       same = record { synced = ok.numbers.synced ∙ was.same.synced; stored = ok.numbers.stored ∙ was.same.stored; closed = ok.numbers.closed ∙ was.same.closed; next_store = ok.numbers.next_store ∙ was.same.next_store; few = λ limit few. ok.numbers.few limit (was.same.few limit few) };
     }
+
+pub returns-clause-whole : goal.returns-clause-whole
+returns-clause-whole g c told h es whole held =
+    let d = c.loop-truck.device in
+    let w = c.loop-truck.invariant.whole told h es whole held in
+    let none = held_none w.1 (subst (λ (l : List Held). AreHeld l w.1) c.in_default.ensures.first.0 w.3) in
+    let all = w.2 ∙ (ap (λ (l : List Entry). w.0 ++ l) none ∙ append-nil w.0) in
+    subst (λ (l : List Entry). IsWhole d (g.D.Disk.view (disk_of d)) (all_staged_in h l)) (sym all) w.4

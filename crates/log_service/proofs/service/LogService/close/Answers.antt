@@ -1,5 +1,5 @@
-use Rattle.std.proofs.Common.{Some, ◌≡◌, ◌≤◌, ◌∷◌, [], ℕ, List, Bool, true, length, refl, sym, ap, ◌∙◌, subst, arith}
-use Rattle.std.specs.Prelude.{◌↔◌, Option, None, is_none}
+use Rattle.std.proofs.Common.{◌≡◌, ◌≤◌, ◌*◌, ◌∷◌, [], ℕ, List, Bool, true, length, sym, ap, ◌∙◌, subst, arith}
+use Rattle.std.specs.Prelude.{◌↔◌, Option}
 use Rattle.std.specs.Coded.{le_prop}
 use Rattle.std.proofs.Math.Logic.{∥∥₁_elim}
 use Rattle.crossbeam_queue.specs.Passes.{view}
@@ -10,7 +10,7 @@ use Rattle.append_ring.specs.Rules.{base_of}
 use Rattle.append_ring.specs.Parts.{EachThere, AreNewAfter, IsCounted, IsEqual}
 use Rattle.append_ring.proofs.Places.{drained_counted}
 use Rattle.disk_images.specs.Calls.{Rose}
-use Rattle.log_berth.specs.Standing.{Standing, AllSaw}
+use Rattle.log_berth.specs.Standing.{Standing, AllSaw, AreBack}
 use Rattle.log_trucks.specs.Held.{Held}
 use Rattle.log_device.specs.Whole.{IsBroken, disk_of, numbers_of}
 use Rattle.log_service.specs.declared.item.Item.{Item}
@@ -25,7 +25,23 @@ use Rattle.log_berth.proofs.Joined.{no_more-trans}
 use Rattle.log_service.proofs.CloseLaws.{region_commits, region_since}
 use Rattle.log_service.proofs.FilesLeft.{either_leaves, either_others}
 use Rattle.log_service.proofs.Popped.{all_popped, chains_pushed, idle_empty, idle_back, idle_first}
+use Rattle.log_service.proofs.Sees.{is_broken}
 use Rattle.log_service.proofs.service.LogService.close.Goals as goal
+
+pub close-mover-requires-clause-back : goal.close-mover-requires-clause-back
+close-mover-requires-clause-back g c = subst (λ (p : ServiceId). AreBack p.consumer c.args.seats.consumers.seats) (sym c.self.view_is) c.requires.consumers
+
+pub close-mover-requires-clause-all : goal.close-mover-requires-clause-all
+close-mover-requires-clause-all g c = c.args.seats.pairs ∙ (c.requires.all ∙ (sym (ap (λ (p : ServiceId). p.seats) c.self.view_is) ∙ sym c.self.invariant.8))
+
+pub close-committer-requires-clause-back : goal.close-committer-requires-clause-back
+close-committer-requires-clause-back g c = subst (λ (p : ServiceId). AreBack p.device c.args.seats.devices.seats) (sym c.self.view_is) c.requires.devices
+
+pub close-committer-requires-clause-all : goal.close-committer-requires-clause-all
+close-committer-requires-clause-all g c = c.requires.all ∙ sym (ap (λ (p : ServiceId). p.seats) c.self.view_is)
+
+pub settle_items-requires-clause-all : goal.settle_items-requires-clause-all
+settle_items-requires-clause-all g c = c.requires.passes.1 ∙ (sym (ap (λ (p : ServiceId). p.regions) c.self.view_is) ∙ c.self.invariant.6)
 
 pub settle_items-requires-clause-there : goal.settle_items-requires-clause-there
 settle_items-requires-clause-there g c = subst (λ (id : TableId). EachThere (λ p. p.pass.table_id ≡ id) c.args.passes) (sym (ap (λ (p : ServiceId). p.ring) c.self.view_is)) c.requires.passes.0
@@ -44,6 +60,18 @@ settle_chains-requires-clause-there g c =
     let is = c.into_passes-items.ensures.1 in
     let there = idle_back id g.N.ServiceNaming.lasts c.into_passes-items.result.2 pass (subst (λ (l : List (Option (RingKey (List Held)))). ∥ AreNewAfter g.N.ServiceNaming.chain_ring g.N.ServiceNaming.lasts 0 1 l ∥₁) (sym c.into_passes-items.ensures.2) c.settle_items.new.mover.rest.0) (ap (λ (p : RingKey (List Held)). p.pass.table_id) is ∙ mover.to.0) (ap (λ (p : RingKey (List Held)). p.region) is ∙ mover.to.1) in
     subst (λ (i : TableId). EachThere (λ p. p.pass.table_id ≡ i) c.put_back.new.self) (sym c.self.invariant.1) (subst (EachThere (λ p. p.pass.table_id ≡ id)) (sym c.put_back.ensures) there)
+
+pub close-requires-clause-ring : goal.close-requires-clause-ring
+close-requires-clause-ring g c = ap (λ k. k.pass.table_id) c.into_passes-items.ensures.0 ∙ (c.settle_items.new.mover.ring.0 ∙ sym c.self.invariant.0)
+
+pub close-requires-clause-all : goal.close-requires-clause-all
+close-requires-clause-all g c =
+    let regions = sym (ap (λ (p : ServiceId). p.regions) c.self.view_is) ∙ c.self.invariant.6 in
+    let lasts = ap (λ k. (view {T = Item} {V = Knows Item} k.pass).lasts) c.into_passes-items.ensures.0 ∙ c.settle_items.new.mover.ring.1 in
+    c.requires.passes.1 ∙ (regions ∙ sym (ap length lasts))
+
+pub close-requires-2-clause-ring : goal.close-requires-2-clause-ring
+close-requires-2-clause-ring g c = ap (λ k. k.pass.table_id) c.into_parts-device.ensures.1 ∙ (c.settle_chains.new.committer.from.0 ∙ sym c.self.invariant.1)
 
 pub close-requires-clause-there : goal.close-requires-clause-there
 close-requires-clause-there g c = subst (λ (id : TableId). EachThere (λ p. p.pass.table_id ≡ id) c.args.passes) (sym (ap (λ (p : ServiceId). p.ring) c.self.view_is)) c.requires.passes.0
@@ -67,13 +95,12 @@ close-requires-2-clause-counts g c =
     let popped = (view c.settle_chains.new.committer.consumer.pass).popped in
     subst (λ k. EachThere (IsCounted (λ (_ : List Held). 1) (view {T = List Held} {V = Knows (List Held)} k.pass).popped) c.put_back.new.self) (sym c.into_parts-device.ensures.1) (drained_counted (λ (_ : List Held). 1) popped c.put_back.new.self c.settle_chains.ensures.drained)
 
-none_is : {A : Type 0} (o : Option A) → is_none o ≡ true → o ≡ None
-none_is None is = refl
-none_is (Some a) is = absurd (cc is)
-
 all_saw-later : (ss : List Standing) (numbers : List ℕ) (b c : Bool) → (b ≡ true → c ≡ true) → AllSaw ss numbers b → AllSaw ss numbers c
 all_saw-later [] numbers b c then p = tt
 all_saw-later (s ∷ ss) numbers b c then p = (record { seen = p.0.seen; fault = λ broken. let f = p.0.fault broken in (then f.0, f.1) }, all_saw-later ss numbers b c then p.1)
+
+pub returns-clause-words : goal.returns-clause-words
+returns-clause-words g c = c.close-committer.ensures.all ∙ (c.self.invariant.5 ∙ ap (λ (p : ServiceId). 3 * p.regions) c.self.view_is)
 
 pub returns-clause-saw : goal.returns-clause-saw
 returns-clause-saw g c =
@@ -81,7 +108,7 @@ returns-clause-saw g c =
     let half = c.settle_chains.new.committer in
     let is = subst (λ d. (c.broken-broken.result ≡ true) ↔ IsBroken d) c.into_parts-device.ensures.0 c.broken-broken.ensures in
     all_saw-later c.args.seats.devices.seats c.close-committer.result.synced c.close-committer.result.broken c.broken-broken.result
-    (λ broken. is.1 (c.settle_chains.ensures.broken (c.settle_items.ensures.broken (none_is _ (sym c.close-committer.ensures.ware.1 ∙ broken)))))
+    (λ broken. is.1 (c.settle_chains.ensures.broken (c.settle_items.ensures.broken (is_broken _ (sym c.close-committer.ensures.ware.1 ∙ broken)))))
     c.close-committer.ensures.saw
 
 pub returns-clause-commits : goal.returns-clause-commits

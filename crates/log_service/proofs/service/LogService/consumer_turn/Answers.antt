@@ -1,7 +1,18 @@
-use Rattle.std.proofs.Common.{refl}
+use Rattle.std.proofs.Common.{◌≡◌, ℕ, refl, sym}
 use Rattle.crossbeam_queue.specs.Passes.{view}
 use Rattle.log_service.specs.Moves.{bench_of}
+use Rattle.log_service.specs.declared.turning.ConsumerTurn.TheVariants as turns
 use Rattle.log_service.proofs.service.LogService.consumer_turn.Goals as goal
+
+-- each answer is no other
+full_empty : turns.StageFull ≡ turns.Empty → ⊥
+full_empty is = absurd (cc is)
+
+moved_empty : (n : ℕ) → turns.Moved n ≡ turns.Empty → ⊥
+moved_empty n is = absurd (cc is)
+
+moved_full : (n : ℕ) → turns.Moved n ≡ turns.StageFull → ⊥
+moved_full n is = absurd (cc is)
 
 pub returns-in-Moved-clause-items : goal.returns-in-Moved-clause-items
 returns-in-Moved-clause-items g c n is =
@@ -26,3 +37,21 @@ pub returns-in-StageFull-clause-full : goal.returns-in-StageFull-clause-full
 returns-in-StageFull-clause-full g c is =
     let new = c.move_items-moves.new.self in
     record { bench = bench_of new; is = record { tie = new.tie; follow = new.follow }; long = (c.in-StageFull.ensures.full refl).1 }
+
+pub returns-in-Moved-clause-empty : goal.returns-in-Moved-clause-empty
+returns-in-Moved-clause-empty g c is = absurd (moved_empty _ is)
+
+pub returns-in-Moved-clause-full : goal.returns-in-Moved-clause-full
+returns-in-Moved-clause-full g c is = absurd (moved_full _ is)
+
+pub returns-in-Empty-clause-items : goal.returns-in-Empty-clause-items
+returns-in-Empty-clause-items g c n is = absurd (moved_empty n (sym is))
+
+pub returns-in-Empty-clause-full : goal.returns-in-Empty-clause-full
+returns-in-Empty-clause-full g c is = absurd (full_empty (sym is))
+
+pub returns-in-StageFull-clause-items : goal.returns-in-StageFull-clause-items
+returns-in-StageFull-clause-items g c n is = absurd (moved_full n (sym is))
+
+pub returns-in-StageFull-clause-empty : goal.returns-in-StageFull-clause-empty
+returns-in-StageFull-clause-empty g c is = absurd (full_empty is)

@@ -1,4 +1,5 @@
-use Rattle.std.proofs.Common.{◌≡◌, ◌≤◌, ◌-◌, ◌+◌, ℕ, get_or, sym, ap, ◌∙◌, subst, arith}
+use Rattle.std.proofs.Common.{◌≡◌, ◌≤◌, ◌-◌, ◌+◌, ℕ, get_or, refl, sym, ap, ◌∙◌, subst, arith}
+use Rattle.std.specs.Prelude.{is_none}
 use Rattle.crossbeam_queue.specs.Passes.{view}
 use Rattle.log_berth.proofs.Joined.{no_more-trans}
 use Rattle.log_device.specs.declared.error.DeviceFlush.TheVariants as refusals
@@ -6,7 +7,8 @@ use Rattle.log_device.specs.Whole.{log_of, numbers_of}
 use Rattle.log_service.specs.Numbers.{told_numbers}
 use Rattle.log_service.specs.Places.{ServiceId}
 use Rattle.log_service.proofs.Numbers.{stored_low}
-use Rattle.log_service.proofs.Sees.{has_file, not_broken, then_whole, sees_all}
+use Rattle.log_service.proofs.SeatLaws.{later_trans, given_later}
+use Rattle.log_service.proofs.Sees.{has_file, is_broken, not_broken, no_flush_fault, then_whole, sees_all}
 use Rattle.log_service.proofs.service.LogService.flush.Goals as goal
 
 pub give_both-requires-clause-device : goal.give_both-requires-clause-device
@@ -41,7 +43,7 @@ returns-clause-nothing g c n is =
     let ware = c.flush-flushed.new.committer in
     let r = c.args.region in
     let said = c.flush-flushed.ensures.nothing n is in
-    let unbroken = not_broken (log_of ware.device) (λ broken. let why = c.flush-flushed.ensures.broken.1 broken in cc (why, is)) in
+    let unbroken = not_broken (log_of ware.device) (λ broken. no_flush_fault n is (c.flush-flushed.ensures.broken.1 broken)) in
     let saw = c.give_both.ensures.saw (sym c.give_both.ensures.broken ∙ unbroken) in
     record {
       upto = said.0;
@@ -72,3 +74,18 @@ returns-clause-saw g c whole =
           sees_all g.N.ServiceNaming.lasts c.args.self.now.regions (numbers_of ware.device) (view ware.consumer.pass).popped (n_is ∙ ware.all.0) (ware.synced unbroken) (ware.drawn unbroken)
           c.give_both.new.seat.device.knows (c.give_both.ensures.saw whole);
     }
+
+pub returns-clause-later : goal.returns-clause-later
+returns-clause-later g c = later_trans c.args.seat.now c.take_both-mover.new.seat c.give_both.new.seat c.take_both-mover.ensures.later c.give_both.ensures.later
+
+pub returns-then-broken-clause-later : goal.returns-then-broken-clause-later
+returns-then-broken-clause-later g c = given_later c.args.seat.now c.take_both-mover.new.seat _ c.take_both-mover.ensures.later c.give.ensures.1
+
+pub returns-clause-fault : goal.returns-clause-fault
+returns-clause-fault g c =
+    let why = c.flush-flushed.ensures.broken in
+    let told = c.give_both.ensures.broken in
+    (λ is. sym told ∙ ap is_none (why.0 is), λ set. why.1 (is_broken (log_of c.flush-flushed.new.committer.device) (told ∙ set)))
+
+pub returns-then-broken-clause-nothing : goal.returns-then-broken-clause-nothing
+returns-then-broken-clause-nothing g c n is = absurd (no_flush_fault n is refl)

@@ -1,11 +1,13 @@
-use Rattle.std.proofs.Common.{◌≡◌, sym, ap, ◌∙◌}
+use Rattle.std.proofs.Common.{◌≡◌, refl, sym, ap, ◌∙◌}
+use Rattle.std.specs.Prelude.{is_none}
 use Rattle.crossbeam_queue.specs.Passes.{view}
 use Rattle.log_berth.proofs.Joined.{no_more-trans}
 use Rattle.log_device.specs.declared.error.RollRefusal.TheVariants as refusals
 use Rattle.log_device.specs.Whole.{log_of, numbers_of}
 use Rattle.log_service.specs.Numbers.{told_numbers}
 use Rattle.log_service.specs.Places.{ServiceId}
-use Rattle.log_service.proofs.Sees.{has_file, not_broken, then_whole, sees_all, closed_over}
+use Rattle.log_service.proofs.SeatLaws.{later_trans, given_later}
+use Rattle.log_service.proofs.Sees.{has_file, is_broken, not_broken, no_roll_fault, then_whole, sees_all, closed_over}
 use Rattle.log_service.proofs.service.LogService.roll.Goals as goal
 
 pub give_both-requires-clause-device : goal.give_both-requires-clause-device
@@ -66,6 +68,21 @@ returns-clause-nothing g c n is =
     let n_is : ware.regions ≡ c.args.self.now.regions = ware.all.0 ∙ (sym c.self.invariant.6 ∙ ap (λ (p : ServiceId). p.regions) c.self.view_is) in
     let seen = no_more-trans old mid (told_numbers first.regions (numbers_of first.device)) c.take_both-mover.ensures.later.words c.take_both-mover.ensures.device.1 in
     let low = no_more-trans old (told_numbers first.regions (numbers_of first.device)) (told_numbers ware.regions (numbers_of ware.device)) seen c.roll-rolled.ensures.later in
-    let unbroken = not_broken (log_of ware.device) (λ broken. let why = c.roll-rolled.ensures.broken.1 broken in cc (why, is)) in
+    let unbroken = not_broken (log_of ware.device) (λ broken. no_roll_fault n is (c.roll-rolled.ensures.broken.1 broken)) in
     let saw = c.give_both.ensures.saw (sym c.give_both.ensures.broken ∙ unbroken) in
     closed_over ware.regions c.args.self.now.regions n_is c.give_both.new.seat.device.knows (numbers_of ware.device) old low saw (c.roll-rolled.ensures.nothing n is)
+
+pub returns-clause-later : goal.returns-clause-later
+returns-clause-later g c = later_trans c.args.seat.now c.take_both-mover.new.seat c.give_both.new.seat c.take_both-mover.ensures.later c.give_both.ensures.later
+
+pub returns-then-broken-clause-later : goal.returns-then-broken-clause-later
+returns-then-broken-clause-later g c = given_later c.args.seat.now c.take_both-mover.new.seat _ c.take_both-mover.ensures.later c.give.ensures.1
+
+pub returns-clause-fault : goal.returns-clause-fault
+returns-clause-fault g c =
+    let why = c.roll-rolled.ensures.broken in
+    let told = c.give_both.ensures.broken in
+    (λ is. sym told ∙ ap is_none (why.0 is), λ set. why.1 (is_broken (log_of c.roll-rolled.new.committer.device) (told ∙ set)))
+
+pub returns-then-broken-clause-nothing : goal.returns-then-broken-clause-nothing
+returns-then-broken-clause-nothing g c n is = absurd (no_roll_fault n is refl)

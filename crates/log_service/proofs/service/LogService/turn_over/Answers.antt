@@ -1,4 +1,4 @@
-use Rattle.std.proofs.Common.{◌≡◌, ◌∷◌, ◌++◌, [], true≢false, refl, sym, ap, ◌∙◌, subst}
+use Rattle.std.proofs.Common.{◌≡◌, ◌∷◌, ◌++◌, [], ℕ, true≢false, refl, sym, ap, ◌∙◌, subst}
 use Rattle.crossbeam_queue.specs.Passes.{view}
 use Rattle.log_berth.specs.declared.known.Known.{Known}
 use Rattle.log_berth.specs.Words.{NoMore, looked}
@@ -6,6 +6,7 @@ use Rattle.log_berth.proofs.Joined.{no_more-trans}
 use Rattle.log_device.specs.Whole.{log_of, numbers_of}
 use Rattle.log_service.specs.declared.committing.Commit.TheVariants as commits
 use Rattle.log_service.specs.declared.seats.LogSeat.{LogSeat}
+use Rattle.log_service.specs.declared.turning.SyncTurn.TheVariants as turns
 use Rattle.log_service.specs.Chains.{AreInOrder}
 use Rattle.log_service.specs.Moves.{WasFull}
 use Rattle.log_service.specs.Numbers.{told_numbers}
@@ -13,6 +14,28 @@ use Rattle.log_service.specs.Turns.{SawCommitted}
 use Rattle.log_service.proofs.SeatLaws.{turn_later, had_both, not_set}
 use Rattle.log_service.proofs.Sees.{has_file, saw_at_most}
 use Rattle.log_service.proofs.service.LogService.turn_over.Goals as goal
+
+-- each answer is no other
+busy_synced : (n : ℕ) → turns.Busy ≡ turns.Synced n → ⊥
+busy_synced n is = absurd (cc is)
+
+broken_synced : (n : ℕ) → turns.Broken ≡ turns.Synced n → ⊥
+broken_synced n is = absurd (cc is)
+
+clean_synced : (n : ℕ) → turns.Clean ≡ turns.Synced n → ⊥
+clean_synced n is = absurd (cc is)
+
+fault_synced : (n : ℕ) → turns.WriteFault ≡ turns.Synced n → ⊥
+fault_synced n is = absurd (cc is)
+
+busy_clean : turns.Busy ≡ turns.Clean → ⊥
+busy_clean is = absurd (cc is)
+
+broken_clean : turns.Broken ≡ turns.Clean → ⊥
+broken_clean is = absurd (cc is)
+
+fault_clean : turns.WriteFault ≡ turns.Clean → ⊥
+fault_clean is = absurd (cc is)
 
 pub returns-in-Committed-clause-later : goal.returns-in-Committed-clause-later
 returns-in-Committed-clause-later g c =
@@ -95,3 +118,33 @@ returns-in-WriteFault-clause-fault g c is =
       not_set c.args.seat.now.device.knows.broken (λ broken. true≢false (sym (held.stands broken).0 ∙ whole)),
       ap (λ (k : Known). k.broken) ended ∙ c.in-WriteFault.ensures.fault refl,
     )
+
+pub returns-then-not-hand_chain-clause-synced : goal.returns-then-not-hand_chain-clause-synced
+returns-then-not-hand_chain-clause-synced g c n is = absurd (busy_synced n is)
+
+pub returns-then-not-hand_chain-clause-clean : goal.returns-then-not-hand_chain-clause-clean
+returns-then-not-hand_chain-clause-clean g c is = absurd (busy_clean is)
+
+pub returns-in_default-clause-synced : goal.returns-in_default-clause-synced
+returns-in_default-clause-synced g c n is = absurd (busy_synced n is)
+
+pub returns-in_default-clause-clean : goal.returns-in_default-clause-clean
+returns-in_default-clause-clean g c is = absurd (busy_clean is)
+
+pub returns-then-broken-clause-synced : goal.returns-then-broken-clause-synced
+returns-then-broken-clause-synced g c n is = absurd (broken_synced n is)
+
+pub returns-then-broken-clause-clean : goal.returns-then-broken-clause-clean
+returns-then-broken-clause-clean g c is = absurd (broken_clean is)
+
+pub returns-in-Clean-clause-synced : goal.returns-in-Clean-clause-synced
+returns-in-Clean-clause-synced g c n is = absurd (clean_synced n is)
+
+pub returns-in-WriteFault-clause-synced : goal.returns-in-WriteFault-clause-synced
+returns-in-WriteFault-clause-synced g c n is = absurd (fault_synced n is)
+
+pub returns-in-WriteFault-clause-clean : goal.returns-in-WriteFault-clause-clean
+returns-in-WriteFault-clause-clean g c is = absurd (fault_clean is)
+
+pub returns-in-Committed-clause-clean : goal.returns-in-Committed-clause-clean
+returns-in-Committed-clause-clean g c is = absurd (clean_synced _ (sym is))
