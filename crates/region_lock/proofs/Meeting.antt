@@ -1,5 +1,5 @@
 -- What a pass knows of a region meets in its journal.
-use Rattle.std.proofs.Common.{◌≡◌, ℕ, ◌+◌, ◌-◌, ◌≤◌, ◌==◌, Bool, true, false, true≢false, cond, List, [], ◌∷◌, ◌++◌, Contains, IsTrue, MatchBool, sym, ap, ◌∙◌, subst, refl, arith}
+use Rattle.std.proofs.Common.{◌≡◌, ℕ, ◌≤◌, ◌==◌, Bool, true, false, true≢false, cond, List, [], ◌∷◌, ◌++◌, Contains, IsTrue, MatchBool, sym, ap, ◌∙◌, subst, refl, arith}
 use mathlib.Core.List.{IsPrefix}
 use Rattle.log_service.specs.declared.seats.LogSeat.{LogSeat}
 use Rattle.region_model.specs.Journal.{Base, Edit}

@@ -1,5 +1,5 @@
 -- A region with no edit since its base.
-use Rattle.std.proofs.Common.{◌≡◌, ℕ, zero, suc, ◌+◌, List, [], ◌∷◌, length, replicate, Some, None, slice_get, refl, sym, ap, ◌∙◌, subst, arith}
+use Rattle.std.proofs.Common.{◌≡◌, ℕ, zero, suc, List, [], ◌∷◌, length, replicate, Some, None, slice_get, refl, sym, ap, ◌∙◌, subst, arith}
 use Rattle.atomic_table.specs.Seated.{TableId}
 use Rattle.crossbeam_queue.specs.Passes.{view}
 use Rattle.hand_register.specs.declared.known.Record.{Record}
@@ -10,10 +10,10 @@ use Rattle.append_ring.specs.Rules.{base_of, end_of}
 use Rattle.append_ring.specs.Parts.{IsNew}
 use Rattle.log_trucks.specs.Held.{AreHeld}
 use Rattle.region_model.specs.Journal.{Base, Caller}
-use Rattle.region_model.specs.Lines.{Line, last_in}
+use Rattle.region_model.specs.Lines.{Line}
 use Rattle.log_service.specs.declared.item.Item.{Item}
 use Rattle.log_service.specs.Items.{appended, number_of}
-use Rattle.region_lock.specs.Parts.{IsPart, AreOwned, entries_in}
+use Rattle.region_lock.specs.Parts.{IsPart}
 
 same_of : {A : Type 0} → (x y : A) → Some x ≡ Some y → x ≡ y
 same_of x y e = cc e

@@ -1,9 +1,9 @@
 -- Which lines a pass has seen shown: those of its own that are numbered up to its point.
-use Rattle.std.proofs.Common.{◌≡◌, ℕ, zero, suc, ◌+◌, ◌<◌, ◌≤◌, ◌==◌, Bool, true, false, cond, List, [], ◌∷◌, ◌++◌, length, Contains, sym, ap, subst, arith, ⊎_elim}
+use Rattle.std.proofs.Common.{◌≡◌, ℕ, zero, suc, ◌+◌, ◌<◌, ◌==◌, Bool, true, false, cond, List, [], ◌∷◌, ◌++◌, length, Contains, sym, ap, subst, arith, ⊎_elim}
 use Rattle.std.proofs.lemmas.List.Elements.{Contains-append_cases}
 use mathlib.Core.List.{IsPrefix}
 use Rattle.region_model.specs.Journal.{Base, IsJournal, Follows}
-use Rattle.region_model.specs.Lines.{Line, edit_in, edits_in, handled_lines, last_in}
+use Rattle.region_model.specs.Lines.{Line, edits_in, handled_lines}
 use Rattle.server_model.proofs.JournalLaws.{contains_cons}
 use Rattle.region_lock.specs.Met.{ArePlaced}
 

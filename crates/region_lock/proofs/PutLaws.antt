@@ -1,10 +1,11 @@
 -- What a put's steps come to.
 use Rattle.std.proofs.Common.{◌≡◌, ℕ, zero, suc, ◌-◌, ◌<◌, ◌≤◌, Bool, true, false, true≢false, List, [], ◌∷◌, ◌++◌, Contains, Option, Some, Result, Ok, Err, refl, sym, ap, ◌∙◌, subst, arith, append-nil}
 use Rattle.std.proofs.lemmas.List.Elements.{Contains-append_right}
+use Rattle.std.specs.Arc.{arc_value}
 use mathlib.Core.List.{IsPrefix}
 use Rattle.cell_model.specs.Batch.{Batch}
-use Rattle.region_model.specs.Journal.{Base, Caller, Outcome, Done, Edit, last_of}
-use Rattle.region_model.specs.Calls.{Answer, PutOk, PutFault}
+use Rattle.region_model.specs.Journal.{Base, Caller, Outcome, Done, Failed, Edit, last_of}
+use Rattle.region_model.specs.Calls.{Answer, PutOk, PutFault, PutMemory}
 use Rattle.region_model.specs.Lawful.{number_of, outcome_of, IsPutFault}
 use Rattle.region_model.specs.Lines.{Line, edit_in, edits_in, last_in, pending}
 use Rattle.region_model.proofs.LineLaws.{edits_in-append}
@@ -19,9 +20,14 @@ use Rattle.region_lock.specs.declared.answers.PutRefusal.{PutRefusal}
 use Rattle.region_lock.specs.declared.answers.PutRefusal.TheVariants as put
 use Rattle.region_lock.specs.Calls.{PutsAt}
 use Rattle.region_lock.specs.Jobs.{line_of}
+use Rattle.region_lock.specs.declared.naming.LockNaming.{Ghosts}
+use Rattle.region_lock.specs.declared.pass.RegionPass.{RegionPass}
+use Rattle.region_lock.specs.Draws.{DrewNumber}
 use Rattle.region_lock.specs.Parts.{WasEnded, AreBelow}
+use Rattle.region_lock.specs.Passes.{known_of}
 use Rattle.region_lock.specs.Met.{HasSeen}
-use Rattle.region_lock.specs.Puts.{IsDrawn}
+use Rattle.region_lock.specs.Puts.{IsDrawn, IsLogged}
+use Rattle.region_versions.specs.Histories.{Beginning}
 use Rattle.region_lock.proofs.Lists.{snoc_same}
 use Rattle.region_lock.proofs.Knowns.{at_region, later_at, last_same, below_edits}
 
@@ -89,6 +95,61 @@ put_at n_regions base time r r' n sync batch caller answer own mid own' shown sh
     (λ s d. subst (λ (k : ℕ). n ≤ seen_synced seat'.device.knows k) (sym same) (synced s d))
     fault
     whole
+
+-- The steps of a put that drew a number: it was drawn between the first two passes, and its edit has ended by the third, with this outcome.
+module _ {N : Type 0} {g : Ghosts N} where
+  pub record WasPut (base : Base) (job : Job) (n : ℕ) (o : Outcome) (old mid new : RegionPass N g) (seat seat' : LogSeat) : Type 0 where
+    pub entry : ℕ
+    pub number : n ≡ entry
+    pub drew : DrewNumber (last_in base old.viewer.lines) job entry old.hand.record.list old.told.record.list mid.hand.record.list mid.told.record.list
+    pub view : mid.viewer ≡ old.viewer
+    pub region : new.viewer.region ≡ mid.viewer.region
+    pub lines : IsPrefix mid.viewer.lines new.viewer.lines
+    pub ended : WasEnded o mid.hand.record.list new.hand.record.list
+    pub told : new.told.record.list ≡ mid.told.record.list
+    pub later : IsLaterSeat seat seat'
+    pub whole : seat.device.knows.broken ≡ false
+
+  put_so : (regions : ℕ) (base : Base) (sync : Bool) (job : Job) (n : ℕ) (answer : Answer) (old mid new : RegionPass N g) (seat seat' : LogSeat) → WasPut base job n (outcome_of answer) old mid new seat seat'
+      → number_of answer ≡ Some n → told_last answer ≡ [] → ((m : ℕ) → answer ≡ PutFault (Some m) → sync ≡ true) → ((m : ℕ) → answer ≡ PutOk m → HasSeen base n new.hand.record.list new.viewer.lines)
+      → (sync ≡ true → outcome_of answer ≡ Done → n ≤ seen_synced seat'.device.knows old.viewer.region) → (IsPutFault answer → seat'.device.knows.broken ≡ true)
+      → PutsAt base job.time old.viewer.region sync (arc_value job.batch) job.caller answer (known_of regions old seat) (known_of regions new seat') seat.device.knows.broken seat'.device.knows.broken
+  put_so regions base sync job n answer old mid new seat seat' put number last fault_sync seen synced fault =
+      let drew = subst (λ (e : ℕ). DrewNumber (last_in base old.viewer.lines) job e old.hand.record.list old.told.record.list mid.hand.record.list mid.told.record.list) (sym put.number) put.drew in
+      put_at regions base job.time old.viewer.region new.viewer.region n sync (arc_value job.batch) job.caller answer old.hand.record.list mid.hand.record.list new.hand.record.list old.viewer.lines new.viewer.lines
+      old.told.record.list new.told.record.list seat seat' (put.region ∙ ap (λ (b : Beginning). b.region) put.view) drew.listed put.ended (put.told ∙ drew.told_same)
+      (subst (λ (b : Beginning). IsPrefix b.lines new.viewer.lines) put.view put.lines) put.later drew.above_seen drew.above_own number last fault_sync seen synced fault put.whole
+
+  -- the log is broken below the number
+  pub put_failed : (regions : ℕ) (base : Base) (sync : Bool) (job : Job) (n : ℕ) (old mid new : RegionPass N g) (seat seat' : LogSeat) → WasPut base job n Failed old mid new seat seat'
+      → sync ≡ true → seat'.device.knows.broken ≡ true
+      → PutsAt base job.time old.viewer.region sync (arc_value job.batch) job.caller (PutFault (Some n)) (known_of regions old seat) (known_of regions new seat') seat.device.knows.broken seat'.device.knows.broken
+  put_failed regions base sync job n old mid new seat seat' put asked broken =
+      put_so regions base sync job n (PutFault (Some n)) old mid new seat seat' put refl refl (λ m e. asked) (λ m e. absurd (cc e)) (λ s e. absurd (cc e)) (λ f. broken)
+
+  -- what the log said of region s before is so after
+  still_synced : (sync : Bool) (n s : ℕ) (old : RegionPass N g) (logged seat' : LogSeat) → s ≡ old.viewer.region → IsLaterSeat logged seat' → IsLogged sync true s n logged.device.knows
+      → sync ≡ true → n ≤ seen_synced seat'.device.knows old.viewer.region
+  still_synced sync n s old logged seat' of later synced asked =
+      let first = synced asked in
+      let second = later.words (s - 1) in
+      subst (λ (r : ℕ). n ≤ seen_synced seat'.device.knows r) of (omega (arith, first, second))
+
+  -- it is logged, and the pass has seen it shown
+  pub put_shown : (regions : ℕ) (bases : ℕ → Base) (sync : Bool) (job : Job) (n s : ℕ) (old mid new : RegionPass N g) (seat logged seat' : LogSeat) → WasPut (bases old.viewer.region) job n Done old mid new seat seat'
+      → s ≡ old.viewer.region → IsLaterSeat logged seat' → IsLogged sync true s n logged.device.knows → HasSeen (bases new.viewer.region) n new.hand.record.list new.viewer.lines
+      → PutsAt (bases old.viewer.region) job.time old.viewer.region sync (arc_value job.batch) job.caller (PutOk n) (known_of regions old seat) (known_of regions new seat') seat.device.knows.broken seat'.device.knows.broken
+  put_shown regions bases sync job n s old mid new seat logged seat' put of later synced seen =
+      let here = put.region ∙ ap (λ (b : Beginning). b.region) put.view in
+      let shown = subst (λ (r : ℕ). HasSeen (bases r) n new.hand.record.list new.viewer.lines) here seen in
+      put_so regions (bases old.viewer.region) sync job n (PutOk n) old mid new seat seat' put refl refl (λ m e. absurd (cc e)) (λ m e. shown) (λ asked e. still_synced sync n s old logged seat' of later synced asked) (λ f. absurd f)
+
+  -- it is logged, and there was no memory to show it
+  pub put_unshown : (regions : ℕ) (base : Base) (sync : Bool) (job : Job) (n s : ℕ) (old mid new : RegionPass N g) (seat logged seat' : LogSeat) → WasPut base job n Done old mid new seat seat'
+      → s ≡ old.viewer.region → IsLaterSeat logged seat' → IsLogged sync true s n logged.device.knows
+      → PutsAt base job.time old.viewer.region sync (arc_value job.batch) job.caller (PutMemory (Some n)) (known_of regions old seat) (known_of regions new seat') seat.device.knows.broken seat'.device.knows.broken
+  put_unshown regions base sync job n s old mid new seat logged seat' put of later synced =
+      put_so regions base sync job n (PutMemory (Some n)) old mid new seat seat' put refl refl (λ m e. absurd (cc e)) (λ m e. absurd (cc e)) (λ asked e. still_synced sync n s old logged seat' of later synced asked) (λ f. absurd f)
 
 -- ---- drawing
 

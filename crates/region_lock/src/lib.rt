@@ -7,7 +7,9 @@
 #![tactic(auto)]
 
 mod answers;
+mod drawing;
 mod editing;
+mod ending;
 mod flush;
 mod gate;
 mod job;

@@ -28,7 +28,6 @@ use std::sync::Wait;
 
 /// The value of a region's lock: its state, its key of the ring, its two desks, the mark of a flush, the versions that are shown, and the
 /// history of what was completed. Contracts see the state, and the call of the flush that is under way.
-#[derive(Drop)]
 pub struct Locked<
     N: LockNaming + log_service::ServiceNaming + region_versions::VersionsNaming,
     R: Wait + Drop,
@@ -40,6 +39,24 @@ pub struct Locked<
     pub(crate) mark: Option<Caller>,
     pub(crate) shower: Shower<N, R>,
     pub(crate) history: History<N>,
+}
+
+/// By hand, so that who drops a region's lock calls it: a derived one is proved anew in each crate that does.
+impl<
+    N: LockNaming + log_service::ServiceNaming + region_versions::VersionsNaming,
+    R: Wait + Drop,
+> Drop for Locked<N, R> {
+    fn drop(self) {
+        let Locked {
+            state: _,
+            pass: _,
+            desk: _,
+            spent: _,
+            mark: _,
+            shower: _,
+            history: _,
+        } = self;
+    }
 }
 
 impl<
@@ -128,7 +145,15 @@ impl<
         ensures pushed { HasPushedEntries result.2 (entries_in self.state.region self.state.lines) }
         ensures owners { AreOwned N.handlers self.state.lines }
     {
-        let Locked { state, pass, .. } = self;
+        let Locked {
+            state,
+            pass,
+            desk: _,
+            spent: _,
+            mark: _,
+            shower: _,
+            history: _,
+        } = self;
         let (base, lines) = state.into_parts();
         (base, lines, pass)
     }

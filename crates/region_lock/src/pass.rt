@@ -8,7 +8,6 @@ use region_state::Line;
 use region_versions::Viewer;
 
 /// What a pass has of one region: its hands of the region's two desks, and its viewer.
-#[derive(Drop)]
 pub struct RegionPass<N: LockNaming + region_versions::VersionsNaming> {
     pub hand: Hand<Line>,
     pub told: Hand<u64>,
@@ -16,6 +15,17 @@ pub struct RegionPass<N: LockNaming + region_versions::VersionsNaming> {
     pub ghost of_desk: { hand.desk ≡ N.desk viewer.region },
     pub ghost of_spent: { told.desk ≡ N.spent viewer.region },
     pub ghost one: { told.number ≡ hand.number },
+}
+
+/// By hand, as that of `Locked`.
+impl<N: LockNaming + region_versions::VersionsNaming> Drop for RegionPass<N> {
+    fn drop(self) {
+        let RegionPass {
+            hand: _,
+            told: _,
+            viewer: _,
+        } = self;
+    }
 }
 
 impl<N: LockNaming + region_versions::VersionsNaming> RegionPass<N> {

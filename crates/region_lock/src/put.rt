@@ -1,22 +1,18 @@
 //! A put into one region, in its steps.
 
-ghost use Rattle.std.specs.Prelude.{◌≡◌, IsTrue, OnOk};
+ghost use Rattle.std.specs.Prelude.{◌≡◌};
 ghost use Rattle.std.specs.Arc.{arc_value};
-ghost use mathlib.Core.List.{IsPrefix};
-ghost use Rattle.region_model.specs.Lines.{last_in};
-ghost use Rattle.region_state.specs.Outcomes.{outcome_at_end};
 ghost use Rattle.log_service.specs.Places.{IsSeatOf, IsLaterSeat};
 ghost use Rattle.region_lock.specs.Answers.{is_sync, put_answer};
 ghost use Rattle.region_lock.specs.Calls.{PutsAt};
 ghost use Rattle.region_lock.specs.Jobs.{IsJob};
-ghost use Rattle.region_lock.specs.Hands.{SameHand};
-ghost use Rattle.region_lock.specs.Met.{HasSeen};
-ghost use Rattle.region_lock.specs.Parts.{EndsPending, WasEnded, AreCalledBelow};
-ghost use Rattle.region_lock.specs.Passes.{IsAtService, SameView, SamePass, known_of};
-ghost use Rattle.region_lock.specs.Puts.{IsAttempted, IsDrawn, IsLogged, IsFaultExact, IsWatched};
+ghost use Rattle.region_lock.specs.Parts.{AreCalledBelow};
+ghost use Rattle.region_lock.specs.Passes.{IsAtService, SamePass, known_of};
+ghost use Rattle.region_lock.specs.Puts.{IsLogged, IsFaultExact};
 
 use crate::answers::PutRefusal;
-use crate::editing::Tried;
+use crate::drawing::draw;
+use crate::ending::{Left, end, show};
 use crate::gate::Gate;
 use crate::job::Job;
 use crate::locked::Locked;
@@ -24,90 +20,11 @@ use crate::naming::LockNaming;
 use crate::pass::RegionPass;
 use crate::waiting::help;
 use disk_images::Disk;
-use kv_cell::{Durability, NoMemory};
+use kv_cell::Durability;
 use log_service::{LogSeat, LogService, Waited};
 use region_state::{Caller, Ended};
 use std::alloc::Global;
 use std::sync::{Mutex, Wait};
-use write_queue::WriteEntry;
-
-/// One try to begin the edit under the region's lock. Where the ring was full the fault word is loaded after it: the job comes back, to be tried
-/// again, only where that load found the word clear.
-fn attempt<
-    N: LockNaming + log_service::ServiceNaming + region_versions::VersionsNaming,
-    D: Disk,
-    R: Wait + Drop,
-    S: Wait,
->(
-    rt: &S,
-    service: &LogService<D, N>,
-    lock: &Mutex<Locked<N, R>>,
-    at: &mut RegionPass<N>,
-    seat: &mut LogSeat,
-    job: Job,
-) -> Result<Result<WriteEntry, PutRefusal>, Job>
-    requires service { IsAtService N.ring service.now at.old.viewer.region seat.old }
-    requires job { IsJob at.old.viewer.region job }
-    requires caller { (job.caller.handler ≡ at.old.hand.number) × AreCalledBelow job.caller.call at.old.hand.record.list }
-    ensures drawn { IsAttempted (last_in (N.region_base at.old.viewer.region) at.old.viewer.lines) at.old.viewer.region job
-        at.old.hand.record.list at.old.told.record.list result at.new.hand.record.list at.new.told.record.list seat.new.device.knows.broken }
-    ensures watched { IsWatched result seat.old.device.knows seat.new.device.knows }
-    ensures same { SameView at.old at.new }
-    ensures seat { IsSeatOf service.now seat.new }
-    ensures later { IsLaterSeat seat.old seat.new }
-{
-    let region = at.viewer.region();
-    let seen = at.viewer.seen();
-    let tried = lock
-        .lock(rt)
-        .draw(rt, service, region, seen, &mut at.hand, &mut at.told, job);
-    match tried {
-        Tried::Begun(entry) => Ok(Ok(entry)),
-        Tried::Spent { last } => Ok(Err(PutRefusal::NumbersSpent { last })),
-        Tried::Memory => Ok(Err(PutRefusal::Memory { logged: None })),
-        Tried::Again(back) => {
-            if service.broken(seat) {
-                Ok(Err(PutRefusal::WriteFault { number: None }))
-            } else {
-                Err(back)
-            }
-        }
-    }
-}
-
-/// Begins the edit, in as many tries as it takes, and helps after each that found the ring full.
-fn draw<
-    N: LockNaming + log_service::ServiceNaming + region_versions::VersionsNaming,
-    D: Disk,
-    R: Wait + Drop,
-    S: Wait,
->(
-    rt: &S,
-    service: &LogService<D, N>,
-    lock: &Mutex<Locked<N, R>>,
-    at: &mut RegionPass<N>,
-    seat: &mut LogSeat,
-    job: Job,
-) -> Result<WriteEntry, PutRefusal>
-    requires service { IsAtService N.ring service.now at.old.viewer.region seat.old }
-    requires job { IsJob at.old.viewer.region job }
-    requires caller { (job.caller.handler ≡ at.old.hand.number) × AreCalledBelow job.caller.call at.old.hand.record.list }
-    ensures drawn { IsDrawn (last_in (N.region_base at.old.viewer.region) at.old.viewer.lines) job at.old.hand.record.list at.old.told.record.list
-        result at.new.hand.record.list at.new.told.record.list seat.new.device.knows.broken }
-    ensures same { SameView at.old at.new }
-    ensures seat { IsSeatOf service.now seat.new }
-    ensures later { IsLaterSeat seat.old seat.new }
-{
-    let mut job = job;
-    'trying: for _ in rt.forever() {
-        match attempt(rt, service, lock, at, seat, job) {
-            Ok(drawn) => return drawn,
-            Err(back) => job = back,
-        }
-        help(rt, service, seat);
-    }
-    unreachable!()
-}
 
 /// Asks that the region's entries up to the number be durable; given up where the log is broken.
 fn ask<
@@ -173,120 +90,6 @@ fn await_log<
             }
         }
     }
-}
-
-/// What is left to do for an edit that has ended, until its pass has seen it shown: nothing, to show it, or to wait since one before it is
-/// pending, and who ends that one shows both.
-#[derive(Drop)]
-enum Left {
-    Nothing,
-    Show,
-    Wait,
-}
-
-/// Ends the edit, in another hold of the region's lock, and shows it in the same hold where none before it is pending.
-fn end<
-    N: LockNaming + log_service::ServiceNaming + region_versions::VersionsNaming,
-    R: Wait + Drop,
-    S: Wait,
->(
-    rt: &S,
-    alloc: Global,
-    lock: &Mutex<Locked<N, R>>,
-    at: &mut RegionPass<N>,
-    entry: WriteEntry,
-    ended: Ended,
-) -> Left
-    requires last { EndsPending at.old.hand.record.list entry }
-    ensures own { WasEnded (outcome_at_end ended) at.old.hand.record.list at.new.hand.record.list }
-    ensures told { at.new.told.record.list ≡ at.old.told.record.list }
-    ensures pass { SamePass at.old at.new }
-    ensures lines { IsPrefix at.old.viewer.lines at.new.viewer.lines }
-    ensures seen { result ≡ Left.Nothing → HasSeen (N.region_base at.new.viewer.region) entry at.new.hand.record.list at.new.viewer.lines }
-{
-    let region = at.viewer.region();
-    'looking: for _ in rt.forever() {
-        let mut guard = lock.lock(rt);
-        if guard.region() == region {
-            let number = entry.number();
-            let point = guard.end(&mut at.hand, entry, ended);
-            if point < number {
-                return Left::Wait;
-            }
-            let _shown = guard.show(alloc);
-            // `meet` is for the proof: what the pass viewed begins the lock's lines, so in each run it is true.
-            if number <= at.viewer.point() && guard.meet(at) {
-                return Left::Nothing;
-            }
-            return Left::Show;
-        }
-    }
-    unreachable!()
-}
-
-/// True where the pass has seen the number, and in the same hold of the region's lock each of its own lines up to there.
-fn is_seen<
-    N: LockNaming + log_service::ServiceNaming + region_versions::VersionsNaming,
-    R: Wait + Drop,
-    S: Wait,
->(rt: &S, lock: &Mutex<Locked<N, R>>, at: &mut RegionPass<N>, number: u64) -> bool
-    ensures seen { IsTrue result → HasSeen (N.region_base at.new.viewer.region) number at.new.hand.record.list at.new.viewer.lines }
-    ensures own { (at.new.hand.record ≡ at.old.hand.record) × SameHand at.old.hand at.new.hand }
-    ensures told { at.new.told.record.list ≡ at.old.told.record.list }
-    ensures region { at.new.viewer.region ≡ at.old.viewer.region }
-    ensures lines { IsPrefix at.old.viewer.lines at.new.viewer.lines }
-{
-    if at.viewer.point() < number {
-        return false;
-    }
-    // For the proof: what the pass viewed begins the lines under the lock (`meet`'s clause is what this hold is for), so in each run it is true.
-    let mut guard = lock.lock(rt);
-    guard.region() == at.viewer.region() && guard.meet(at)
-}
-
-/// Waits until the pass sees the number, where an edit before it is pending, and else shows. After a wait it shows again: a version that
-/// another put had no memory for is shown by nobody else.
-fn show<
-    N: LockNaming + log_service::ServiceNaming + region_versions::VersionsNaming,
-    D: Disk,
-    R: Wait + Drop,
-    S: Wait,
->(
-    rt: &S,
-    alloc: Global,
-    service: &LogService<D, N>,
-    lock: &Mutex<Locked<N, R>>,
-    at: &mut RegionPass<N>,
-    seat: &mut LogSeat,
-    number: u64,
-    waits: bool,
-) -> Result<(), NoMemory>
-    requires service { IsSeatOf service.now seat.old }
-    ensures seen { OnOk result (HasSeen (N.region_base at.new.viewer.region) number at.new.hand.record.list at.new.viewer.lines) }
-    ensures region { at.new.viewer.region ≡ at.old.viewer.region }
-    ensures lines { IsPrefix at.old.viewer.lines at.new.viewer.lines }
-    ensures own { (at.new.hand.record ≡ at.old.hand.record) × SameHand at.old.hand at.new.hand }
-    ensures told { at.new.told.record.list ≡ at.old.told.record.list }
-    ensures seat { IsSeatOf service.now seat.new }
-    ensures later { IsLaterSeat seat.old seat.new }
-{
-    let region = at.viewer.region();
-    let mut waits = waits;
-    'showing: for _ in rt.forever() {
-        let shows = service.shows(region);
-        if is_seen(rt, lock, at, number) {
-            return Ok(());
-        }
-        if waits {
-            let _helped = service.help(rt, seat);
-            service.rest_shows(rt, region, shows);
-        } else {
-            lock.lock(rt).show(alloc)?;
-            service.tell_show(region);
-        }
-        waits = !waits;
-    }
-    unreachable!()
 }
 
 /// A put into one region, once its memory is taken: the number is drawn and the entry pushed in one hold of the region's lock; the put

@@ -1,6 +1,6 @@
 //! A roll, as a handler calls it.
 
-ghost use Rattle.log_service.specs.Places.{IsSeatOf, IsLaterSeat};
+ghost use Rattle.log_service.specs.Places.{IsSeatOf};
 ghost use Rattle.region_lock.specs.Answers.{roll_answer};
 ghost use Rattle.region_lock.specs.Calls.{RollsAt};
 
