@@ -2,12 +2,11 @@
 
 use crate::bench::Bench;
 use crate::entries::{start, two_regions};
-use crate::image::{Mark, assert_images};
+use crate::image::{Mark, are_images};
 use crate::script::{ANSWERS, Answer, SCRIPT, Step, numbers, take};
 use disk_fakes::{CallKind, Fail, MemDisk};
 use log_device::{DeviceRefusal, DeviceWhy};
 use std::alloc::Global;
-use std::process::Abort;
 use std::test::Fail as TestFail;
 
 // The disk calls of the script, and the step in which each is made; step 0 is the start.
@@ -112,68 +111,73 @@ fn run(
     Ok(0)
 }
 
-/// Asserts that the device is broken, and that no further call changes anything.
-fn assert_broken<R: Abort>(
-    rt: &R,
-    alloc: Global,
-    bench: &mut Bench<MemDisk>,
-) -> Result<(), TestFail> {
-    assert!(rt; bench.device.broken());
-    let before = numbers(bench);
-    let calls = all_calls(bench.device.disk());
+/// Whether each call of a device that is broken is refused.
+fn refuses_all(alloc: Global, bench: &mut Bench<MemDisk>) -> Result<bool, TestFail> {
     for step in AFTER {
         let want = match step {
             Step::Put(_) => Answer::Full,
             _ => Answer::WriteFault,
         };
-        assert_eq!(rt; take(alloc, bench, step)?, want, "{step:?}");
+        if take(alloc, bench, step)? != want {
+            return Ok(false);
+        }
     }
-    assert!(rt; bench.device.broken());
-    assert_eq!(rt; all_calls(bench.device.disk()), calls);
-    assert_eq!(rt; numbers(bench), before);
-    Ok(())
+    Ok(true)
 }
 
-/// Asserts what comes of a script whose step of this number has a disk call that fails. What a crash leaves at a moment
+/// Whether the device is broken, and no further call changes anything.
+fn stays_broken(alloc: Global, bench: &mut Bench<MemDisk>) -> Result<bool, TestFail> {
+    let broken = bench.device.broken();
+    let before = numbers(bench);
+    let calls = all_calls(bench.device.disk());
+    let refused = refuses_all(alloc, bench)?;
+    Ok(
+        broken
+            && refused
+            && bench.device.broken()
+            && all_calls(bench.device.disk()) == calls
+            && numbers(bench) == before,
+    )
+}
+
+/// Whether a script whose step of this number has a disk call that fails ends as it has to. What a crash leaves at a moment
 /// before that step is what it leaves of a script without a fault, as the disk calls are the same up to there.
-fn assert_faulty<R: Abort>(rt: &R, alloc: Global, fail: Fail, step: usize) -> Result<(), TestFail> {
+fn is_faulty(alloc: Global, fail: Fail, step: usize) -> Result<bool, TestFail> {
     match start(alloc, &[fail])? {
-        Err(refusal) => assert_refused(rt, alloc, &refusal, step),
+        Err(refusal) => is_refused(alloc, &refusal, step),
         Ok(bench) => {
             let mut bench = bench;
             let mut marks = Vec::new(alloc);
-            assert_stops(rt, alloc, &mut bench, &mut marks, step)
+            stops_at(alloc, &mut bench, &mut marks, step)
         }
     }
 }
 
-/// Asserts what comes of a start that is refused.
-fn assert_refused<R: Abort>(
-    rt: &R,
+/// Whether a start that is refused leaves what it has to.
+fn is_refused(
     alloc: Global,
     refusal: &DeviceRefusal<MemDisk>,
     step: usize,
-) -> Result<(), TestFail> {
-    assert_eq!(rt; step, 0);
-    assert_eq!(rt; refusal.why, DeviceWhy::DiskFault);
-    assert_images(rt, alloc, &refusal.disk, &[], 0)
+) -> Result<bool, TestFail> {
+    let images = are_images(alloc, &refusal.disk, &[], 0)?;
+    Ok(step == 0 && refusal.why == DeviceWhy::DiskFault && images)
 }
 
-/// Asserts what comes of the script on a device whose disk fails in this step.
-fn assert_stops<R: Abort>(
-    rt: &R,
+/// Whether the script on a device whose disk fails in this step ends there, and leaves what it has to.
+fn stops_at(
     alloc: Global,
     bench: &mut Bench<MemDisk>,
     marks: &mut Vec<Mark>,
     step: usize,
-) -> Result<(), TestFail> {
-    assert_eq!(rt; run(alloc, bench, marks)?, step);
-    assert_broken(rt, alloc, bench)?;
+) -> Result<bool, TestFail> {
+    let stopped = run(alloc, bench, marks)? == step;
+    let broken = stays_broken(alloc, bench)?;
     let first = match marks.last() {
         Some(mark) => mark.clock,
         None => 0,
     };
-    assert_images(rt, alloc, bench.device.disk(), marks.as_slice(), first)
+    let images = are_images(alloc, bench.device.disk(), marks.as_slice(), first)?;
+    Ok(stopped && broken && images)
 }
 
 /// How many calls of this kind the script makes.
@@ -191,29 +195,29 @@ fn last_nth(kind: CallKind) -> u64 {
 fn each_disk_call_fails(rt: HostRuntime) -> Result<(), TestFail> {
     let alloc = rt.alloc();
     for (call, nth, step) in CALLS {
-        assert_faulty(&rt, alloc, Fail { call, nth }, step)?;
+        assert!(rt; is_faulty(alloc, Fail { call, nth }, step)?, "{step} {nth}");
     }
     Ok(())
 }
 
-/// Asserts how many calls of each kind the script made.
-fn assert_calls<R: Abort>(rt: &R, disk: &MemDisk) -> Result<(), TestFail> {
+/// Whether the script made so many calls of each kind.
+fn made_calls(disk: &MemDisk) -> bool {
+    let mut all = true;
     for kind in KINDS {
-        assert_eq!(rt; disk.calls(kind), last_nth(kind), "{kind:?}");
+        all = all && disk.calls(kind) == last_nth(kind);
     }
-    Ok(())
+    all
 }
 
-/// Asserts what comes of the script without a fault.
-fn assert_whole<R: Abort>(
-    rt: &R,
+/// Whether the script without a fault comes to its end, and leaves what it has to.
+fn ends_whole(
     alloc: Global,
     bench: &mut Bench<MemDisk>,
     marks: &mut Vec<Mark>,
-) -> Result<(), TestFail> {
-    assert_eq!(rt; run(alloc, bench, marks)?, 0);
-    assert_calls(rt, bench.device.disk())?;
-    assert_images(rt, alloc, bench.device.disk(), marks.as_slice(), 0)
+) -> Result<bool, TestFail> {
+    let ended = run(alloc, bench, marks)? == 0;
+    let images = are_images(alloc, bench.device.disk(), marks.as_slice(), 0)?;
+    Ok(ended && images && made_calls(bench.device.disk()))
 }
 
 #[test]
@@ -221,25 +225,25 @@ fn stopped_at_each_moment(rt: HostRuntime) -> Result<(), TestFail> {
     let alloc = rt.alloc();
     let mut bench = two_regions(alloc)?;
     let mut marks = Vec::new(alloc);
-    assert_whole(&rt, alloc, &mut bench, &mut marks)
+    assert!(rt; ends_whole(alloc, &mut bench, &mut marks)?);
+    Ok(())
 }
 
-/// Asserts what the device answers to each step, and its numbers then.
-fn assert_numbers<R: Abort>(
-    rt: &R,
-    alloc: Global,
-    bench: &mut Bench<MemDisk>,
-) -> Result<(), TestFail> {
-    for (step, (answer, after)) in SCRIPT.into_iter().zip(ANSWERS) {
-        assert_eq!(rt; take(alloc, bench, step)?, answer, "{step:?}");
-        assert_eq!(rt; numbers(bench), after, "{step:?}");
+/// The first step that the device answers otherwise than it has to, or behind which it has other numbers.
+fn first_wrong(alloc: Global, bench: &mut Bench<MemDisk>) -> Result<Option<usize>, TestFail> {
+    for i in 0..11 {
+        let (answer, after) = ANSWERS[i];
+        if take(alloc, bench, SCRIPT[i])? != answer || numbers(bench) != after {
+            return Ok(Some(i));
+        }
     }
-    Ok(())
+    Ok(None)
 }
 
 #[test]
 fn numbers_rise_step_by_step(rt: HostRuntime) -> Result<(), TestFail> {
     let alloc = rt.alloc();
     let mut bench = two_regions(alloc)?;
-    assert_numbers(&rt, alloc, &mut bench)
+    assert!(rt; first_wrong(alloc, &mut bench)?.is_none());
+    Ok(())
 }

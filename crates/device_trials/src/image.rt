@@ -10,12 +10,11 @@ use entry_frame::Entry;
 use kv_cell::Cell;
 use log_file::{LogText, read_log};
 use std::alloc::Global;
-use std::process::Abort;
 use std::test::Fail as TestFail;
 use store_file::{StoreText, read_store};
 
 /// What stood after a call: the clock, how many edits were staged, and what was synced of regions 1 and 2.
-#[derive(Clone, Copy, Debug, PartialEq, Eq)]
+#[derive(Clone, Copy)]
 pub(crate) struct Mark {
     pub(crate) clock: u64,
     pub(crate) staged: usize,
@@ -216,24 +215,34 @@ fn most_at(marks: &[Mark], moment: u64) -> usize {
     staged
 }
 
-/// Asserts that a crash at this moment or at a later one leaves the first edits, with all that was synced by then.
-pub(crate) fn assert_images<R: Abort>(
-    rt: &R,
+/// Whether a crash at this moment leaves the first edits, so many at least and at most.
+fn leaves(
+    alloc: Global,
+    disk: &MemDisk,
+    moment: u64,
+    fewest: usize,
+    most: usize,
+) -> Result<bool, TestFail> {
+    let mut all = true;
+    for choice in 0..4 {
+        let count = left_at(alloc, disk, moment, choice)?;
+        all = all && fewest <= count && count <= most;
+    }
+    Ok(all)
+}
+
+/// Whether a crash at this moment or at a later one leaves the first edits, with all that was synced by then.
+pub(crate) fn are_images(
     alloc: Global,
     disk: &MemDisk,
     marks: &[Mark],
     first: u64,
-) -> Result<(), TestFail> {
+) -> Result<bool, TestFail> {
     for moment in first..disk.clock().saturating_add(1) {
-        let fewest = fewest_at(marks, moment);
-        let most = most_at(marks, moment);
-        for choice in 0..4 {
-            let count = left_at(alloc, disk, moment, choice)?;
-            assert!(rt;
-                fewest <= count && count <= most,
-                "moment {moment} choice {choice}: {fewest} {count} {most}"
-            );
+        let (fewest, most) = (fewest_at(marks, moment), most_at(marks, moment));
+        if !leaves(alloc, disk, moment, fewest, most)? {
+            return Ok(false);
         }
     }
-    Ok(())
+    Ok(true)
 }

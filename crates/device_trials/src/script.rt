@@ -8,7 +8,7 @@ use std::alloc::Global;
 use std::test::*;
 
 /// A call of the device.
-#[derive(Clone, Copy, Debug, PartialEq, Eq)]
+#[derive(Clone, Copy)]
 pub(crate) enum Step {
     /// Into family `f` of a region.
     Put(u32),
@@ -21,7 +21,7 @@ pub(crate) enum Step {
 }
 
 /// What it answers.
-#[derive(Clone, Copy, Debug, PartialEq, Eq)]
+#[derive(Clone, Copy, PartialEq, Eq)]
 pub(crate) enum Answer {
     /// The number that was staged.
     Staged(u64),

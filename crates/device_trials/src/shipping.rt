@@ -8,7 +8,6 @@ use disk_fakes::MemDisk;
 use log_tail::{Position, Tail};
 use ship_queue::{MemPeer, ship_all};
 use std::alloc::Global;
-use std::process::Abort;
 use std::sync::Wait;
 use std::test::Fail;
 use std::thread::Threads;
@@ -62,43 +61,44 @@ fn ship_now<R: Threads + Wait + Sync + AllocGlobal>(
     ship_at(rt, disk, peer, disk.clock())
 }
 
-/// Asserts that so many of the script's edits were shipped, each once and in order, and that this position is recorded.
-fn assert_shipped<R: Abort>(rt: &R, peer: &MemPeer, want: (usize, u64, u64)) {
+/// Whether so many of the script's edits were shipped, each once and in order, and this position is recorded.
+fn is_shipped(peer: &MemPeer, want: (usize, u64, u64)) -> bool {
     let (count, file, entries) = want;
-    assert_eq!(rt; peer.recorded(), Some(Position { file, entries }));
-    assert_eq!(rt; peer.shipped().len(), count);
+    let mut all = peer.recorded() == Some(Position { file, entries })
+        && peer.shipped().len() == count;
     for (i, one) in peer.shipped().iter().enumerate() {
         let shipped = (one.region, one.number, one.at.file, one.at.entries);
-        assert_eq!(rt; SHIPPED.get(i), Some(&shipped));
+        all = all && SHIPPED.get(i) == Some(&shipped);
     }
+    all
 }
 
-/// Takes a device through the script, and ships behind the steps with these numbers and at the end.
-fn ship_steps<R: Threads + Wait + Sync + AllocGlobal + Abort>(
+/// Takes a device through the script, and ships behind the steps with these numbers and at the end. Whether each ships what it has to.
+fn ship_steps<R: Threads + Wait + Sync + AllocGlobal>(
     rt: &R,
     bench: &mut Bench<MemDisk>,
     peer: &mut MemPeer,
     first: usize,
     second: usize,
-) -> Result<(), Fail> {
+) -> Result<bool, Fail> {
+    let mut all = true;
     for i in 0..11 {
         take(rt.alloc(), bench, SCRIPT[i])?;
         if i == first || i == second {
             ship_now(rt, bench, peer)?;
-            assert_shipped(rt, peer, BEHIND[i]);
+            all = all && is_shipped(peer, BEHIND[i]);
         }
     }
     ship_now(rt, bench, peer)?;
-    assert_shipped(rt, peer, BEHIND[10]);
-    Ok(())
+    Ok(all && is_shipped(peer, BEHIND[10]))
 }
 
 /// The same with a device and a peer that begin here.
-fn ship_behind<R: Threads + Wait + Sync + AllocGlobal + Abort>(
+fn ship_behind<R: Threads + Wait + Sync + AllocGlobal>(
     rt: &R,
     first: usize,
     second: usize,
-) -> Result<(), Fail> {
+) -> Result<bool, Fail> {
     let alloc = rt.alloc();
     let mut bench = two_regions(alloc)?;
     let mut peer = MemPeer::new(alloc);
@@ -108,7 +108,7 @@ fn ship_behind<R: Threads + Wait + Sync + AllocGlobal + Abort>(
 #[test]
 fn shipped_behind_each_two_steps(rt: HostRuntime) -> Result<(), Fail> {
     for pair in 0..121 {
-        ship_behind(&rt, pair / 11, pair % 11)?;
+        assert!(rt; ship_behind(&rt, pair / 11, pair % 11)?, "{pair}");
     }
     Ok(())
 }
@@ -132,17 +132,16 @@ fn take_all(alloc: Global, bench: &mut Bench<MemDisk>) -> Result<(), Fail> {
     Ok(())
 }
 
-/// Ships at each moment of a disk, and asserts what was shipped.
-fn ship_moments<R: Threads + Wait + Sync + AllocGlobal + Abort>(
+/// Ships at each moment of a disk. Whether all was shipped.
+fn ship_moments<R: Threads + Wait + Sync + AllocGlobal>(
     rt: &R,
     disk: &MemDisk,
     peer: &mut MemPeer,
-) -> Result<(), Fail> {
+) -> Result<bool, Fail> {
     for moment in 0..disk.clock().saturating_add(1) {
         ship_at(rt, disk, peer, moment)?;
     }
-    assert_shipped(rt, peer, BEHIND[10]);
-    Ok(())
+    Ok(is_shipped(peer, BEHIND[10]))
 }
 
 #[test]
@@ -151,5 +150,6 @@ fn shipped_at_each_moment(rt: HostRuntime) -> Result<(), Fail> {
     let mut bench = two_regions(alloc)?;
     take_all(alloc, &mut bench)?;
     let mut peer = MemPeer::new(alloc);
-    ship_moments(&rt, bench.device.disk(), &mut peer)
+    assert!(rt; ship_moments(&rt, bench.device.disk(), &mut peer)?);
+    Ok(())
 }

@@ -14,7 +14,7 @@ use disk_images::Name;
 use std::alloc::{AllocError, Global};
 
 /// What a crash leaves of a call that nothing has made durable.
-#[derive(Clone, Copy, Debug, PartialEq, Eq)]
+#[derive(Clone, Copy)]
 enum Fate {
     Done,
     Lost,

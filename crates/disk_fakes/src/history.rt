@@ -274,7 +274,7 @@ impl History {
 }
 
 /// Reads what stands from this place on.
-fn read_from(bytes: &[u8], at: usize, into: &mut [u8]) -> usize
+pub fn read_from(bytes: &[u8], at: usize, into: &mut [u8]) -> usize
     requires { at ≤ length bytes.now }
     ensures count { result ≡ min (length into.old) (length bytes.now - at) }
     ensures bytes { into.new ≡ take result (drop at bytes.now) ++ drop result into.old }

@@ -3,6 +3,7 @@
 ghost use Rattle.std.specs.Prelude.{◌≡◌, ◌≤◌, [], IfOk, OnOk, OnErr, vec_len};
 ghost use Rattle.disk_images.specs.Calls.{Rose};
 
+use crate::history::read_from;
 use disk_images::{Failed, Sink, Source};
 use kv_cell::NoMemory;
 use std::alloc::Global;
@@ -86,9 +87,7 @@ impl Source for MemSource {
 
     fn read(&mut self, into: &mut [u8]) -> Result<usize, Failed> {
         self.plan.begin()?;
-        let rest = &self.bytes[self.read..];
-        let n = rest.len().min(into.len());
-        into[..n].copy_from_slice(&rest[..n]);
+        let n = read_from(&self.bytes, self.read, into);
         self.read += n;
         Ok(n)
     }

@@ -8,7 +8,7 @@ use crate::table::FileTable;
 use disk_images::Name;
 use std::alloc::AllocError;
 
-#[derive(Clone, Copy, Debug, PartialEq, Eq)]
+#[derive(Clone, Copy)]
 pub enum SafeCall {
     Create(Name),
     // a file, an offset in it, and where the bytes stand in memory, and how many
@@ -18,7 +18,7 @@ pub enum SafeCall {
 }
 
 /// A file's size behind a call: known, or that of a file before the call, if it doesn't reach less far.
-#[derive(Clone, Copy, Debug, PartialEq, Eq)]
+#[derive(Clone, Copy)]
 pub enum SizeStep {
     Is(u64),
     NotThere,
@@ -26,7 +26,7 @@ pub enum SizeStep {
 }
 
 /// A file's byte behind a call: in memory, so far behind a place, or the byte of a file before the call.
-#[derive(Clone, Copy, Debug, PartialEq, Eq)]
+#[derive(Clone, Copy)]
 pub enum ByteStep {
     At(usize, usize),
     Before(Name),

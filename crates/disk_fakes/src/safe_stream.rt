@@ -3,6 +3,7 @@
 ghost use Rattle.std.specs.Prelude.{◌≡◌, ◌<◌, ◌≤◌, ◌+◌, ◌++◌, [], length, take, IfOk, OnErr, IsOk, IsErr, vec_len};
 ghost use Rattle.disk_images.specs.Calls.{HasCause};
 
+use crate::history::read_from;
 use disk_images::{Failed, Sink, Source};
 use kv_cell::NoMemory;
 use std::alloc::Global;
@@ -41,9 +42,7 @@ impl Source for SafeSource {
     ghost faults = { λ source. 0 };
 
     fn read(&mut self, into: &mut [u8]) -> Result<usize, Failed> {
-        let rest = &self.bytes[self.read..];
-        let n = rest.len().min(into.len());
-        into[..n].copy_from_slice(&rest[..n]);
+        let n = read_from(&self.bytes, self.read, into);
         self.read += n;
         Ok(n)
     }

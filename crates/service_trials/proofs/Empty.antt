@@ -1,9 +1,9 @@
 -- A disk without files is a store that was opened.
 use Rattle.std.proofs.Common.{◌≡◌, inr, ℕ, ◌+◌, ◌≤◌, ◌^◌, List, Some, Contains, refl, sym, ◌∙◌, arith}
 use Rattle.log_model.specs.declared.name.Name.{Name}
-use Rattle.log_model.specs.Files.{Files, content, IsAbsent, IsPresent, IsFit}
+use Rattle.log_model.specs.Files.{content, IsAbsent, IsFit}
 use Rattle.log_model.specs.Recovered.{IsFlushed}
-use Rattle.disk_images.specs.Crash.{DiskView, IsQuiet, IsImageNow}
+use Rattle.disk_images.specs.Crash.{DiskView, IsQuiet}
 use Rattle.log_ledger.specs.declared.base.RegionBase.{RegionBase}
 use Rattle.log_device.specs.Opened.{IsOpened}
 

@@ -1,5 +1,4 @@
 -- A watched disk, and a seat of a service, may go to another thread.
-use denote.RattleType.{RattleType}
 use denote.Param.Send.{IsSend, sendable}
 use denote.Param.SendFields.{as_row_send, declared_send}
 use denote.Struct.Field.{row_field}
@@ -49,7 +48,7 @@ history_send =
 plan_send : IsSend plans.the_row
 plan_send = search (sendable, crosses) fits 5000 depth 30
 
-pub mem_send : IsSend mem.the_row
+mem_send : IsSend mem.the_row
 mem_send = declared_send mem.the_type (history_send, (plan_send, tt))
 
 pub disk_send : IsSend (watch.the_row mem.the_row)

@@ -1,45 +1,37 @@
-//! What is tried on a service, and what one thread does while another one is held back in a commit.
+//! What three of sixteen members try on a service, and what two do while the third is held back in a commit.
 
-ghost use Rattle.std.specs.Prelude.{◌≡◌, ◌≤◌, ◌+◌, IfSome};
-ghost use Rattle.append_ring.specs.Parts.{last_pushed};
-ghost use Rattle.log_service.specs.Items.{number_of};
-ghost use Rattle.log_service.specs.Places.{IsSeatOf};
+ghost use Rattle.std.specs.Prelude.{◌≡◌, ◌≤◌, length, All, vec_capacity};
+ghost use Rattle.service_trials.specs.Crew.{IsOf};
 
+use crate::crowd::{give_back, take_last};
 use crate::faults::small_script;
 use crate::held::{HeldDisk, HeldTrial, Trial};
+use crate::member::Member;
 use crate::overlap::move_beside;
-use crate::puts::{ask, put};
+use crate::puts::{ask, move_once, put};
 use crate::queues::roll_full;
 use crate::rolls::roll_beside;
 use crate::waits::wait_beside;
 use crate::watch::{Watch, commit_watched};
-use append_ring::RingKey;
-use log_service::{ConsumerTurn, Item, LogSeat, LogService, ServiceNaming, SyncTurn};
+use log_service::{ConsumerTurn, LogService, ServiceNaming, SyncTurn};
 use std::alloc::Global;
 use std::process::Abort;
 use std::sync::Wait;
 use std::thread::{Threads, join_mut};
 
-/// Pushes the edit of this number with its wish, and moves both in one turn. None where it couldn't.
+/// Pushes the member's next edit with its wish, and moves both in one turn. None where it couldn't.
 pub(crate) fn put_and_move<N: ServiceNaming, R: Wait>(
     rt: &R,
     alloc: Global,
     service: &LogService<HeldDisk, N>,
-    pass: &mut RingKey<Item>,
-    seat: &mut LogSeat,
-    number: u64,
+    member: &mut Member,
 ) -> Option<()>
-    requires ring { (pass.old.pass.table_id ≡ service.now.ring) × (pass.old.region ≡ 1) }
-    requires next { last_pushed number_of pass.old + 1 ≡ number }
-    requires number { number ≤ 8 }
-    requires seat { IsSeatOf service.now seat.old }
-    ensures ring { (pass.new.pass.table_id ≡ service.now.ring) × (pass.new.region ≡ 1) }
-    ensures last { IfSome result (λ _. last_pushed number_of pass.new ≡ number) }
-    ensures seat { IsSeatOf service.now seat.new }
+    requires { IsOf service.now member.old }
+    ensures { IsOf service.now member.new }
 {
-    put(rt, alloc, service, pass, number)?;
-    ask(rt, service, pass, number)?;
-    if service.consumer_turn(rt, seat) == ConsumerTurn::Moved(2) {
+    put(rt, alloc, service, member)?;
+    ask(rt, service, member)?;
+    if move_once(rt, service, member) == ConsumerTurn::Moved(2) {
         Some(())
     } else {
         None
@@ -51,24 +43,20 @@ fn run_beside<N: ServiceNaming + Send + Sync, R: Wait + Threads + Sync + Abort>(
     rt: &R,
     alloc: Global,
     service: &LogService<HeldDisk, N>,
-    pass: &mut RingKey<Item>,
-    seat: &mut LogSeat,
+    first: &mut Member,
+    second: &mut Member,
     watch: &Watch,
     before: u64,
     trial: HeldTrial,
 ) -> Option<u64>
-    requires regions { service.now.regions ≡ 1 }
-    requires ring { (pass.old.pass.table_id ≡ service.now.ring) × (pass.old.region ≡ 1) }
-    requires last { last_pushed number_of pass.old ≡ 1 }
-    requires seat { IsSeatOf service.now seat.old }
-    ensures ring { (pass.new.pass.table_id ≡ service.now.ring) × (pass.new.region ≡ 1) }
-    ensures seat { IsSeatOf service.now seat.new }
+    requires { IsOf service.now first.old × IsOf service.now second.old }
+    ensures { IsOf service.now first.new × IsOf service.now second.new }
 {
     let answer = match trial {
-        HeldTrial::Move => move_beside(rt, alloc, service, pass, seat, watch, before),
-        HeldTrial::Roll => roll_beside(rt, alloc, service, pass, seat, watch, before),
-        HeldTrial::Wait => wait_beside(rt, service, pass, seat, watch, before),
-        HeldTrial::Full => roll_full(rt, alloc, service, pass, seat, watch, before),
+        HeldTrial::Move => move_beside(rt, alloc, service, first, watch, before),
+        HeldTrial::Roll => roll_beside(rt, alloc, service, first, watch, before),
+        HeldTrial::Wait => wait_beside(rt, service, first, second, watch, before),
+        HeldTrial::Full => roll_full(rt, alloc, service, first, second, watch, before),
     };
     watch.release();
     answer
@@ -79,33 +67,27 @@ fn beside_commit<N: ServiceNaming + Send + Sync, R: Wait + Threads + Sync + Abor
     rt: &R,
     alloc: Global,
     service: &LogService<HeldDisk, N>,
-    pass: &mut RingKey<Item>,
-    first: &mut LogSeat,
-    second: &mut LogSeat,
+    first: &mut Member,
+    second: &mut Member,
+    third: &mut Member,
     watch: &Watch,
     trial: HeldTrial,
 ) -> Option<u64>
-    requires regions { service.now.regions ≡ 1 }
-    requires ring { (pass.old.pass.table_id ≡ service.now.ring) × (pass.old.region ≡ 1) }
-    requires last { last_pushed number_of pass.old ≡ 0 }
-    requires seats { IsSeatOf service.now first.old × IsSeatOf service.now second.old }
-    ensures ring { (pass.new.pass.table_id ≡ service.now.ring) × (pass.new.region ≡ 1) }
-    ensures seats { IsSeatOf service.now first.new × IsSeatOf service.now second.new }
+    requires { IsOf service.now first.old × IsOf service.now second.old × IsOf service.now third.old }
+    ensures { IsOf service.now first.new × IsOf service.now second.new × IsOf service.now third.new }
 {
-    put_and_move(rt, alloc, service, pass, first, 1)?;
+    put_and_move(rt, alloc, service, first)?;
     let before = watch.hold();
     let (commit, answer) = join_mut(
         rt,
         &mut || -> SyncTurn
-            requires { IsSeatOf service.now first.now }
-            ensures { IsSeatOf service.entry.now first.exit.now }
-        { commit_watched(rt, service, first, watch) },
+            requires { IsOf service.now third.now }
+            ensures { IsOf service.entry.now third.exit.now }
+        { commit_watched(rt, service, third, watch) },
         &mut || -> Option<u64>
-            requires { (service.now.regions ≡ 1) × (pass.now.pass.table_id ≡ service.now.ring) × (pass.now.region ≡ 1)
-                × (last_pushed number_of pass.now ≡ 1) × IsSeatOf service.now second.now }
-            ensures { (pass.exit.now.pass.table_id ≡ service.entry.now.ring) × (pass.exit.now.region ≡ 1)
-                × IsSeatOf service.entry.now second.exit.now }
-        { run_beside(rt, alloc, service, pass, second, watch, before, trial) },
+            requires { IsOf service.now first.now × IsOf service.now second.now }
+            ensures { IsOf service.entry.now first.exit.now × IsOf service.entry.now second.exit.now }
+        { run_beside(rt, alloc, service, first, second, watch, before, trial) },
     );
     if commit == SyncTurn::Synced(1) {
         answer
@@ -114,28 +96,38 @@ fn beside_commit<N: ServiceNaming + Send + Sync, R: Wait + Threads + Sync + Abor
     }
 }
 
-/// Runs a trial.
-pub(crate) fn while_held<N: ServiceNaming + Send + Sync, R: Wait + Threads + Sync + Abort>(
+/// Runs a trial with the last three of sixteen members, of which that of the last region puts.
+pub(crate) fn with_three<N: ServiceNaming + Send + Sync, R: Wait + Threads + Sync + Abort>(
     rt: &R,
     alloc: Global,
     service: &LogService<HeldDisk, N>,
-    pass: &mut RingKey<Item>,
-    first: &mut LogSeat,
-    second: &mut LogSeat,
+    crew: &mut Vec<Member>,
     watch: &Watch,
     trial: Trial,
 ) -> Option<u64>
-    requires regions { service.now.regions ≡ 1 }
-    requires ring { (pass.old.pass.table_id ≡ service.now.ring) × (pass.old.region ≡ 1) }
-    requires last { last_pushed number_of pass.old ≡ 0 }
-    requires seats { IsSeatOf service.now first.old × IsSeatOf service.now second.old }
-    ensures ring { (pass.new.pass.table_id ≡ service.now.ring) × (pass.new.region ≡ 1) }
-    ensures seats { IsSeatOf service.now first.new × IsSeatOf service.now second.new }
+    requires crew { (length crew.old.items ≡ 16) × All (IsOf service.now) crew.old.items }
+    requires room { 16 ≤ vec_capacity crew.old }
+    ensures { (length crew.new.items ≡ 16) × All (IsOf service.now) crew.new.items }
 {
-    match trial {
-        Trial::Script => small_script(rt, alloc, service, pass, first),
-        Trial::Beside(held) => {
-            beside_commit(rt, alloc, service, pass, first, second, watch, held)
-        }
-    }
+    let mut first = take_last(service, crew);
+    let mut second = take_last(service, crew);
+    let mut third = take_last(service, crew);
+    let answer = match trial {
+        Trial::Crowd => None,
+        Trial::Script => small_script(rt, alloc, service, &mut first),
+        Trial::Beside(held) => beside_commit(
+            rt,
+            alloc,
+            service,
+            &mut first,
+            &mut second,
+            &mut third,
+            watch,
+            held,
+        ),
+    };
+    give_back(service, crew, third);
+    give_back(service, crew, second);
+    give_back(service, crew, first);
+    answer
 }

@@ -8,9 +8,10 @@ ghost use Rattle.log_service.specs.Places.{IsSeatOf};
 ghost use Rattle.service_trials.specs.Crew.{IsOf};
 
 use crate::entries::truck;
+use crate::held::HeldDisk;
 use crate::member::Member;
+use crate::puts::wait_own;
 use append_ring::RingKey;
-use disk_fakes::MemDisk;
 use log_service::{Helped, Item, LogSeat, LogService, ServiceNaming, Waited};
 use std::alloc::Global;
 use std::sync::Wait;
@@ -28,7 +29,7 @@ const SINGLE_PUTS: u64 = 500;
 const BURST: u64 = 250;
 
 /// Helps the log once. Where another thread does it, it sleeps until a turn of the device has ended.
-fn help<N: ServiceNaming, R: Wait>(rt: &R, service: &LogService<MemDisk, N>, seat: &mut LogSeat)
+fn help<N: ServiceNaming, R: Wait>(rt: &R, service: &LogService<HeldDisk, N>, seat: &mut LogSeat)
     requires { IsSeatOf service.now seat.old }
     ensures { IsSeatOf service.now seat.new }
 {
@@ -43,7 +44,7 @@ fn help<N: ServiceNaming, R: Wait>(rt: &R, service: &LogService<MemDisk, N>, sea
 /// Pushes an item. Where the ring is full it helps the log and tries again, and adds one to `full`. False where the log is broken.
 fn push<N: ServiceNaming, R: Wait>(
     rt: &R,
-    service: &LogService<MemDisk, N>,
+    service: &LogService<HeldDisk, N>,
     pass: &mut RingKey<Item>,
     seat: &mut LogSeat,
     full: &mut u64,
@@ -78,7 +79,7 @@ fn push<N: ServiceNaming, R: Wait>(
 fn put<N: ServiceNaming, R: Wait>(
     rt: &R,
     alloc: Global,
-    service: &LogService<MemDisk, N>,
+    service: &LogService<HeldDisk, N>,
     member: &mut Member,
     number: u64,
 ) -> bool
@@ -107,7 +108,7 @@ fn put<N: ServiceNaming, R: Wait>(
 /// Asks that the edits that a member pushed be durable, and waits for it. Whether they are.
 fn settle<N: ServiceNaming, R: Wait>(
     rt: &R,
-    service: &LogService<MemDisk, N>,
+    service: &LogService<HeldDisk, N>,
     member: &mut Member,
 ) -> bool
     requires { IsOf service.now member.old }
@@ -125,7 +126,7 @@ fn settle<N: ServiceNaming, R: Wait>(
     if !push(rt, service, pass, seat, full, Item::Sync { region, number }) {
         return false;
     }
-    if service.wait_synced(rt, seat, region, number) != Waited::Synced {
+    if wait_own(rt, service, member) != Waited::Synced {
         return false;
     }
     member.durable = number;
@@ -141,7 +142,7 @@ fn waits_behind(number: u64) -> bool {
 fn put_up_to<N: ServiceNaming, R: Wait>(
     rt: &R,
     alloc: Global,
-    service: &LogService<MemDisk, N>,
+    service: &LogService<HeldDisk, N>,
     member: &mut Member,
     last: u64,
 )
@@ -163,7 +164,7 @@ fn put_up_to<N: ServiceNaming, R: Wait>(
 pub(crate) fn put_each<N: ServiceNaming + Send + Sync, R: Wait + Threads + Sync>(
     rt: &R,
     alloc: Global,
-    service: &LogService<MemDisk, N>,
+    service: &LogService<HeldDisk, N>,
     crew: &mut Vec<Member>,
     last: u64,
 )

@@ -3,9 +3,9 @@
 ghost use Rattle.std.specs.Prelude.{◌≡◌, ◌+◌, ◌≤◌, ◌<◌, [], length, All, vec_capacity};
 ghost use Rattle.service_trials.specs.Crew.{AreIn, AreOut, IsOf};
 
+use crate::held::HeldDisk;
 use crate::member::Member;
 use append_ring::RingKeys;
-use disk_fakes::MemDisk;
 use log_service::{Item, LogSeats, LogService, ServiceNaming};
 use std::sync::Wait;
 
@@ -21,7 +21,7 @@ fn sure_same<R: Wait>(rt: &R, one: u32, other: u32)
 
 /// Gives each of sixteen members, for whom there is room, its pass and its seat.
 pub(crate) fn hand_out<N: ServiceNaming>(
-    service: &LogService<MemDisk, N>,
+    service: &LogService<HeldDisk, N>,
     passes: &mut RingKeys<Item>,
     seats: &mut LogSeats,
     crew: &mut Vec<Member>,
@@ -31,6 +31,7 @@ pub(crate) fn hand_out<N: ServiceNaming>(
     requires room { (crew.old.items ≡ []) × (16 ≤ vec_capacity crew.old) }
     ensures out { AreOut service.now 16 passes.new seats.new.consumers seats.new.devices }
     ensures crew { (length crew.new.items ≡ 16) × All (IsOf service.now) crew.new.items }
+    ensures room { 16 ≤ vec_capacity crew.new }
 {
     let _ = service;
     for given in 0..16u32 {
@@ -51,6 +52,40 @@ pub(crate) fn hand_out<N: ServiceNaming>(
     }
 }
 
+/// Takes out the last member.
+pub(crate) fn take_last<N: ServiceNaming>(
+    service: &LogService<HeldDisk, N>,
+    crew: &mut Vec<Member>,
+) -> Member
+    requires some { 0 < length crew.old.items }
+    requires of { All (IsOf service.now) crew.old.items }
+    ensures of { All (IsOf service.now) crew.new.items × IsOf service.now result }
+    ensures count { length crew.new.items + 1 ≡ length crew.old.items }
+    ensures room { vec_capacity crew.new ≡ vec_capacity crew.old }
+{
+    let _ = service;
+    let Some(member) = crew.pop() else {
+        unreachable!()
+    };
+    member
+}
+
+/// Puts a member behind the others.
+pub(crate) fn give_back<N: ServiceNaming>(
+    service: &LogService<HeldDisk, N>,
+    crew: &mut Vec<Member>,
+    member: Member,
+)
+    requires room { length crew.old.items < vec_capacity crew.old }
+    requires of { All (IsOf service.now) crew.old.items × IsOf service.now member }
+    ensures of { All (IsOf service.now) crew.new.items }
+    ensures count { length crew.new.items ≡ length crew.old.items + 1 }
+    ensures room { vec_capacity crew.new ≡ vec_capacity crew.old }
+{
+    let _ = service;
+    crew.push_reserved(member);
+}
+
 /// What the members told: how many edits are durable, and how often the ring was found full.
 #[derive(Clone, Copy)]
 pub(crate) struct Told {
@@ -61,7 +96,7 @@ pub(crate) struct Told {
 /// Takes back what a member has, which is of the region behind this one. What it told.
 fn one_back<N: ServiceNaming, R: Wait>(
     rt: &R,
-    service: &LogService<MemDisk, N>,
+    service: &LogService<HeldDisk, N>,
     member: Member,
     passes: &mut RingKeys<Item>,
     seats: &mut LogSeats,
@@ -89,7 +124,7 @@ fn one_back<N: ServiceNaming, R: Wait>(
 /// Takes all back, in the order of the regions. What they told, summed up.
 pub(crate) fn take_back<N: ServiceNaming, R: Wait>(
     rt: &R,
-    service: &LogService<MemDisk, N>,
+    service: &LogService<HeldDisk, N>,
     crew: Vec<Member>,
     passes: &mut RingKeys<Item>,
     seats: &mut LogSeats,

@@ -1,43 +1,48 @@
 //! A fault of each disk call of a small script, and what a crash leaves then.
 
-ghost use Rattle.std.specs.Prelude.{◌≡◌, ◌≤◌, ◌+◌, IfSome};
-ghost use Rattle.append_ring.specs.Parts.{last_pushed};
-ghost use Rattle.log_service.specs.Items.{number_of};
-ghost use Rattle.log_service.specs.Places.{IsSeatOf};
+ghost use Rattle.service_trials.specs.Crew.{IsOf};
 
 use crate::held::{HeldDisk, HeldEnd, Trial, run_held};
 use crate::image::left_by_crashes;
-use crate::puts::{ask, put};
-use append_ring::RingKey;
+use crate::member::Member;
+use crate::puts::{ask, put, roll_once, wait_own};
 use disk_fakes::{CallKind, Fail};
-use log_service::{Item, LogSeat, LogService, ServiceNaming, Waited};
+use log_service::{LogService, ServiceNaming, Waited};
 use std::alloc::Global;
 use std::process::Abort;
 use std::sync::Wait;
 use std::test::{Fail as TestFail, *};
 use std::thread::Threads;
 
-/// Pushes the edit of this number with its wish, and waits for both.
+/// Pushes the next edit with its wish, and waits for both.
 fn put_and_wait<N: ServiceNaming, R: Wait>(
     rt: &R,
     alloc: Global,
     service: &LogService<HeldDisk, N>,
-    pass: &mut RingKey<Item>,
-    seat: &mut LogSeat,
-    number: u64,
+    member: &mut Member,
 ) -> Option<Waited>
-    requires regions { service.now.regions ≡ 1 }
-    requires ring { (pass.old.pass.table_id ≡ service.now.ring) × (pass.old.region ≡ 1) }
-    requires next { last_pushed number_of pass.old + 1 ≡ number }
-    requires number { number ≤ 8 }
-    requires seat { IsSeatOf service.now seat.old }
-    ensures ring { (pass.new.pass.table_id ≡ service.now.ring) × (pass.new.region ≡ 1) }
-    ensures last { IfSome result (λ _. last_pushed number_of pass.new ≡ number) }
-    ensures seat { IsSeatOf service.now seat.new }
+    requires { IsOf service.now member.old }
+    ensures { IsOf service.now member.new }
 {
-    put(rt, alloc, service, pass, number)?;
-    ask(rt, service, pass, number)?;
-    Some(service.wait_synced(rt, seat, 1, number))
+    put(rt, alloc, service, member)?;
+    ask(rt, service, member)?;
+    Some(wait_own(rt, service, member))
+}
+
+/// Flushes the member's region up to its last edit.
+fn flush_own<N: ServiceNaming, R: Wait>(
+    rt: &R,
+    alloc: Global,
+    service: &LogService<HeldDisk, N>,
+    member: &mut Member,
+)
+    requires { IsOf service.now member.old }
+    ensures { IsOf service.now member.new }
+{
+    let region = member.pass.region;
+    let number = member.pushed;
+    let Member { seat, .. } = member;
+    let _flushed = service.flush(rt, alloc, seat, region, number, None);
 }
 
 /// Three puts of which two are waited for, with a roll and a flush behind them. The last number that a wait called durable.
@@ -45,21 +50,16 @@ pub(crate) fn small_script<N: ServiceNaming, R: Wait>(
     rt: &R,
     alloc: Global,
     service: &LogService<HeldDisk, N>,
-    pass: &mut RingKey<Item>,
-    seat: &mut LogSeat,
+    member: &mut Member,
 ) -> Option<u64>
-    requires regions { service.now.regions ≡ 1 }
-    requires ring { (pass.old.pass.table_id ≡ service.now.ring) × (pass.old.region ≡ 1) }
-    requires last { last_pushed number_of pass.old ≡ 0 }
-    requires seat { IsSeatOf service.now seat.old }
-    ensures ring { (pass.new.pass.table_id ≡ service.now.ring) × (pass.new.region ≡ 1) }
-    ensures seat { IsSeatOf service.now seat.new }
+    requires { IsOf service.now member.old }
+    ensures { IsOf service.now member.new }
 {
-    let first = put_and_wait(rt, alloc, service, pass, seat, 1)?;
-    let _rolled = service.roll(rt, alloc, seat);
-    let second = put_and_wait(rt, alloc, service, pass, seat, 2)?;
-    put(rt, alloc, service, pass, 3)?;
-    let _flushed = service.flush(rt, alloc, seat, 1, 3, None);
+    let first = put_and_wait(rt, alloc, service, member)?;
+    let _rolled = roll_once(rt, alloc, service, member);
+    let second = put_and_wait(rt, alloc, service, member)?;
+    put(rt, alloc, service, member)?;
+    flush_own(rt, alloc, service, member);
     match (first, second) {
         (Waited::Synced, Waited::Synced) => Some(2),
         (Waited::Synced, Waited::Broken) => Some(1),
@@ -70,7 +70,7 @@ pub(crate) fn small_script<N: ServiceNaming, R: Wait>(
 /// Whether what is left is as it has to be: broken exactly where the fault came, no less synced than was waited for, each image with the
 /// first of the three edits, at least those synced, and all where the log isn't broken. Without a fault two were waited for, and the three
 /// are synced.
-fn is_right(alloc: Global, left: &HeldEnd, reached: bool) -> Result<bool, TestFail> {
+pub(crate) fn is_right(alloc: Global, left: &HeldEnd, reached: bool) -> Result<bool, TestFail> {
     let (fewest, most) = left_by_crashes(alloc, left.disk.disk())?;
     if !left.started {
         return Ok(reached && most == 0);
@@ -88,6 +88,17 @@ fn is_right(alloc: Global, left: &HeldEnd, reached: bool) -> Result<bool, TestFa
     )
 }
 
+/// Whether the script made so many calls of the kind, and whether its end is right.
+fn judged(
+    alloc: Global,
+    left: &HeldEnd,
+    call: CallKind,
+    nth: u64,
+) -> Result<(bool, bool), TestFail> {
+    let reached = left.disk.disk().calls(call) >= nth;
+    Ok((reached, is_right(alloc, left, reached)?))
+}
+
 /// The script with a fault of this call: whether it makes so many calls of the kind, and whether its end is right.
 fn fails_at<R: Wait + Threads + Sync + Abort>(
     rt: &R,
@@ -96,8 +107,7 @@ fn fails_at<R: Wait + Threads + Sync + Abort>(
     nth: u64,
 ) -> Result<(bool, bool), TestFail> {
     let left = run_held(rt, alloc, &[Fail { call, nth }], Trial::Script)?;
-    let reached = left.disk.disk().calls(call) >= nth;
-    Ok((reached, is_right(alloc, &left, reached)?))
+    judged(alloc, &left, call, nth)
 }
 
 const KINDS: [CallKind; 9] = [

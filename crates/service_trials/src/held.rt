@@ -1,22 +1,25 @@
-//! A service with one region and two seats, from its start to its close, over an empty disk whose syncs can be held back.
+//! A service of sixteen regions and seats, from its start to its close, over an empty disk whose syncs can be held back.
 
-ghost use Rattle.std.specs.Prelude.{◌≡◌, ◌<◌, ◌≤◌, ℕ, [], ◌∷◌, length};
+ghost use Rattle.std.specs.Prelude.{◌≡◌, ◌≤◌, ℕ, [], length, replicate, vec_capacity, All, IfOk};
 ghost use Rattle.crossbeam_queue.specs.Passes.{view};
-ghost use Rattle.log_model.specs.Files.{Files};
+ghost use Rattle.log_model.specs.Files.{Files, IsAbsent};
 ghost use Rattle.log_ledger.specs.History.{History};
 ghost use Rattle.log_device.specs.Whole.{disk_of};
+ghost use Rattle.disk_images.specs.Crash.{IsQuiet};
 ghost use Rattle.disk_fakes.specs.Watch.{watched};
 ghost use Rattle.disk_fakes.specs.Views.{view_of, faults_of};
-ghost use Rattle.log_berth.specs.Standing.{AreBack};
-ghost use Rattle.log_service.specs.Begun.{IsFresh, BeginsAs, AreParts};
-ghost use Rattle.log_service.specs.Places.{IsSeatOf};
+ghost use Rattle.log_service.specs.Begun.{IsFresh, BeginsAs, AreNewParts, AreParts};
+ghost use Rattle.service_trials.specs.Crew.{IsOf};
 
-use crate::beside::while_held;
+use crate::beside::with_three;
+use crate::crew::{FIRST_PUTS, PUTS, put_each};
+use crate::crowd::{Told, hand_out, take_back};
+use crate::member::Member;
+use crate::regions::{REGIONS, sixteen_rings};
 use crate::watch::Watch;
 use disk_fakes::{Fail, MemDisk, WatchDisk};
 use log_device::Device;
-use log_ledger::RegionBase;
-use log_service::{LogSeat, LogSeats, LogService, Rings, ServiceNaming, ServiceParts};
+use log_service::{LogService, Rings, ServiceNaming, ServiceParts};
 use std::alloc::Global;
 use std::marker::Brand;
 use std::process::Abort;
@@ -28,13 +31,6 @@ use std::thread::Threads;
 
 pub(crate) type HeldDisk = WatchDisk<MemDisk>;
 
-/// Region 1, of which nothing is stored.
-const ONE_REGION: [RegionBase; 1] = [RegionBase {
-    region: 1,
-    flushed: 0,
-    next_store: 1,
-}];
-
 /// What is tried while a sync is held back.
 #[derive(Clone, Copy)]
 pub(crate) enum HeldTrial {
@@ -44,42 +40,58 @@ pub(crate) enum HeldTrial {
     Full,
 }
 
-/// What is tried: a script alone, or something beside a commit that is held back.
+/// What is tried: puts of sixteen threads, a script alone, or something beside a commit that is held back.
 #[derive(Clone, Copy)]
 pub(crate) enum Trial {
+    Crowd,
     Script,
     Beside(HeldTrial),
 }
 
-/// What is left of a service, and what its trial found. Where the device was refused nothing was started.
+/// What is left of a service, and what its trial found: up to which edits the last region is synced, and the least number up to which any is.
+/// Where the device was refused nothing was started.
 #[derive(Drop)]
 pub(crate) struct HeldEnd {
     pub(crate) disk: HeldDisk,
     pub(crate) started: bool,
     pub(crate) broken: bool,
     pub(crate) synced: u64,
+    pub(crate) least: u64,
+    pub(crate) told: Told,
     pub(crate) answer: Option<u64>,
 }
 
-/// The two seats of a service.
-fn two_seats<N: ServiceNaming>(
+/// The last and the least of sixteen numbers.
+fn last_and_least(numbers: &[u64]) -> (u64, u64) {
+    let mut last = 0;
+    let mut least = u64::MAX;
+    for number in numbers.iter().take(16) {
+        last = *number;
+        least = least.min(last);
+    }
+    (last, least)
+}
+
+/// Runs a trial with sixteen members.
+fn run_trial<N: ServiceNaming + Send + Sync, R: Wait + Threads + Sync + Abort>(
+    rt: &R,
+    alloc: Global,
     service: &LogService<HeldDisk, N>,
-    mut seats: LogSeats,
-) -> (LogSeats, LogSeat, LogSeat)
-    requires consumers { AreBack service.now.consumer seats.consumers.seats × (length seats.consumers.seats ≡ 2) × (2 ≤ seats.consumers.room) }
-    requires devices { AreBack service.now.device seats.devices.seats × (length seats.devices.seats ≡ 2) × (2 ≤ seats.devices.room) }
-    ensures left { (result.0.consumers.seats ≡ []) × (result.0.devices.seats ≡ []) × (2 ≤ result.0.consumers.room) × (2 ≤ result.0.devices.room) }
-    ensures first { IsSeatOf service.now result.1 }
-    ensures second { IsSeatOf service.now result.2 }
+    crew: &mut Vec<Member>,
+    watch: &Watch,
+    trial: Trial,
+) -> Option<u64>
+    requires crew { (length crew.old.items ≡ 16) × All (IsOf service.now) crew.old.items }
+    requires room { 16 ≤ vec_capacity crew.old }
+    ensures { (length crew.new.items ≡ 16) × All (IsOf service.now) crew.new.items }
 {
-    let _ = service;
-    let Some(first) = seats.next() else {
-        unreachable!()
-    };
-    let Some(second) = seats.next() else {
-        unreachable!()
-    };
-    (seats, first, second)
+    match trial {
+        Trial::Crowd => {}
+        _ => return with_three(rt, alloc, service, crew, watch, trial),
+    }
+    put_each(rt, alloc, service, crew, FIRST_PUTS);
+    put_each(rt, alloc, service, crew, PUTS);
+    None
 }
 
 /// Starts a service over a device, has a trial run on it, and closes it.
@@ -89,10 +101,11 @@ fn over_held<N: ServiceNaming + Send + Sync, R: Wait + Threads + Sync + Abort>(
     rings: Rings,
     device: Device<HeldDisk>,
     _found: Snapshot<HeldDisk>,
+    room: Vec<Member>,
     watch: &Watch,
     trial: Trial,
 ) -> Option<HeldEnd>
-    requires lasts { N.lasts ≡ 0 ∷ [] }
+    requires lasts { N.lasts ≡ replicate 16 0 }
     requires items { (rings.items.ring.capacity ≡ 1024)
         × AreParts N.ring N.lasts rings.items.ring.id rings.items.consumer.pass.table_id (view rings.items.consumer.pass) rings.items.passes }
     requires chains { (rings.chains.ring.capacity ≡ 2)
@@ -103,42 +116,90 @@ fn over_held<N: ServiceNaming + Send + Sync, R: Wait + Threads + Sync + Abort>(
     requires past { (t : ℕ) (J : Files) → t ≤ N.start
         → ((view_of (watched (disk_of device))).image t J → N.past t J) × (N.past t J → (view_of (watched (disk_of device))).image t J) }
     requires faults { N.faults ≡ faults_of (watched (disk_of device)) }
+    requires room { (room.items ≡ []) × (16 ≤ vec_capacity room) }
 {
     let Ok(
         ServiceParts {
             service,
             mut passes,
-            seats,
+            mut seats,
         },
-    ) = LogService::<HeldDisk, N>::start(alloc, rings, device, 1, 2)
+    ) = LogService::<HeldDisk, N>::start(alloc, rings, device, 16, 16)
     else {
         return None;
     };
-    let (mut seats, mut first, mut second) = two_seats(&service, seats);
-    let Some(mut pass) = passes.next() else {
-        unreachable!()
-    };
-    let answer = while_held(
-        rt,
-        alloc,
-        &service,
-        &mut pass,
-        &mut first,
-        &mut second,
-        watch,
-        trial,
-    );
-    passes.put_back(pass);
-    seats.put_back(first);
-    seats.put_back(second);
+    let mut crew = room;
+    hand_out(&service, &mut passes, &mut seats, &mut crew);
+    let answer = run_trial(rt, alloc, &service, &mut crew, watch, trial);
+    let told = take_back(rt, &service, crew, &mut passes, &mut seats);
     let closed = service.close(rt, seats, passes);
+    let (synced, least) = last_and_least(closed.synced.as_slice());
     Some(HeldEnd {
         disk: closed.disk,
         started: true,
         broken: closed.broken,
-        synced: closed.synced.as_slice()[0],
+        synced,
+        least,
+        told,
         answer,
     })
+}
+
+/// An empty disk whose calls of these kinds and numbers fail, and what two threads tell one another of it.
+fn watched_disk(alloc: Global, fails: &[Fail]) -> Result<(HeldDisk, Watch), TestFail>
+    ensures empty { IfOk result (λ r. (m : _) → IsAbsent (view_of (watched r.0)).files m) }
+    ensures none_gone { IfOk result (λ r. (m : _) → ¬ (view_of (watched r.0)).gone m) }
+    ensures quiet { IfOk result (λ r. IsQuiet (view_of (watched r.0))) }
+{
+    let seen = Arc::new(alloc, AtomicU64::new(0))?;
+    let held = Arc::new(alloc, AtomicU64::new(0))?;
+    let its_seen = Arc::try_clone(&seen)?;
+    let its_held = Arc::try_clone(&held)?;
+    let mem = MemDisk::new(alloc, fails)?;
+    Ok((
+        WatchDisk::new(mem, its_seen, its_held),
+        Watch::new(seen, held),
+    ))
+}
+
+/// Runs a trial over an empty disk.
+fn on_disk<R: Wait + Threads + Sync + Abort>(
+    rt: &R,
+    alloc: Global,
+    rings: Rings,
+    room: Vec<Member>,
+    disk: HeldDisk,
+    watch: &Watch,
+    trial: Trial,
+) -> Result<HeldEnd, TestFail>
+    requires items { (rings.items.ring.capacity ≡ 1024)
+        × AreNewParts rings.items.ring.id (replicate 16 0) rings.items.consumer.pass.table_id (view rings.items.consumer.pass) rings.items.passes }
+    requires chains { (rings.chains.ring.capacity ≡ 2)
+        × AreNewParts rings.chains.ring.id (replicate 16 0) rings.chains.consumer.pass.table_id (view rings.chains.consumer.pass) rings.chains.passes }
+    requires room { (room.items ≡ []) × (16 ≤ vec_capacity room) }
+    requires empty { (m : _) → IsAbsent (view_of (watched disk)).files m }
+    requires none_gone { (m : _) → ¬ (view_of (watched disk)).gone m }
+    requires quiet { IsQuiet (view_of (watched disk)) }
+{
+    let found = Snapshot::of(&disk);
+    match Device::start(alloc, disk, &REGIONS) {
+        Ok(device) => {
+            let ended = over_held::<Brand, R>(rt, alloc, rings, device, found, room, watch, trial);
+            Ok(ended.ok_or("memory is ample")?)
+        }
+        Err(refusal) => Ok(HeldEnd {
+            disk: refusal.disk,
+            started: false,
+            broken: false,
+            synced: 0,
+            least: 0,
+            told: Told {
+                durable: 0,
+                full: 0,
+            },
+            answer: None,
+        }),
+    }
 }
 
 /// Runs a trial over an empty disk whose calls of these kinds and numbers fail.
@@ -148,27 +209,8 @@ pub(crate) fn run_held<R: Wait + Threads + Sync + Abort>(
     fails: &[Fail],
     trial: Trial,
 ) -> Result<HeldEnd, TestFail> {
-    let seen = Arc::new(alloc, AtomicU64::new(0))?;
-    let held = Arc::new(alloc, AtomicU64::new(0))?;
-    let mem = MemDisk::new(alloc, fails)?;
-    let disk = WatchDisk::new(mem, Arc::try_clone(&seen)?, Arc::try_clone(&held)?);
-    let watch = Watch::new(seen, held);
-    let rings = match Rings::new(alloc, &[0]) {
-        Ok(rings) => rings,
-        Err(_) => Err("memory is ample")?,
-    };
-    let found = Snapshot::of(&disk);
-    match Device::start(alloc, disk, &ONE_REGION) {
-        Ok(device) => {
-            let ended = over_held::<Brand, R>(rt, alloc, rings, device, found, &watch, trial);
-            Ok(ended.ok_or("memory is ample")?)
-        }
-        Err(refusal) => Ok(HeldEnd {
-            disk: refusal.disk,
-            started: false,
-            broken: false,
-            synced: 0,
-            answer: None,
-        }),
-    }
+    let rings = sixteen_rings(alloc)?;
+    let room = Vec::with_capacity(alloc, 16)?;
+    let (disk, watch) = watched_disk(alloc, fails)?;
+    on_disk(rt, alloc, rings, room, disk, &watch, trial)
 }

@@ -1,4 +1,4 @@
-//! What a crash leaves of region 1, read back.
+//! What a crash leaves of one region, read back.
 
 use disk_fakes::MemDisk;
 use disk_images::{Disk, Name, NameKind};
@@ -11,6 +11,9 @@ use store_file::{StoreText, read_store};
 
 /// How many edits a script has at most.
 const MOST: usize = 8;
+
+/// The region that is put into: the last of sixteen.
+const REGION: u32 = 16;
 
 /// Which of the edits from 1 on the files of an image recover to, and up to which one they are flushed.
 #[derive(Drop)]
@@ -146,11 +149,11 @@ pub(crate) fn left_by_crashes(alloc: Global, disk: &MemDisk) -> Result<(u64, u64
     Ok((fewest, most))
 }
 
-/// Whether the entries of region 1 are those of the numbers `from` to `to`, without `to`, in their order.
+/// Whether the entries of the region are those of the numbers `from` to `to`, without `to`, in their order.
 fn are_numbers(entries: &[Entry], from: u64, to: u64) -> bool {
     let mut next = from;
     for entry in entries {
-        if entry.region == 1 {
+        if entry.region == REGION {
             if entry.number != next {
                 return false;
             }
@@ -160,7 +163,7 @@ fn are_numbers(entries: &[Entry], from: u64, to: u64) -> bool {
     next == to
 }
 
-/// Whether the entries of region 1 in a log, which a crash now leaves by this choice, are those of the numbers `from` to `to`, without `to`,
+/// Whether the entries of the region in a log, which a crash now leaves by this choice, are those of the numbers `from` to `to`, without `to`,
 /// in their order.
 pub(crate) fn has_numbers(
     alloc: Global,

@@ -10,6 +10,8 @@ mod crew;
 #[cfg(test)]
 mod crowd;
 #[cfg(test)]
+mod ends;
+#[cfg(test)]
 mod entries;
 #[cfg(test)]
 mod faults;
@@ -24,6 +26,8 @@ mod overlap;
 mod puts;
 #[cfg(test)]
 mod queues;
+#[cfg(test)]
+mod regions;
 #[cfg(test)]
 mod rolls;
 #[cfg(test)]

@@ -1,93 +1,173 @@
-//! What is pushed into a service.
+//! What one member does on a service.
 
-ghost use Rattle.std.specs.Prelude.{◌≡◌, ◌+◌, ◌<◌, ◌≤◌, ◌^◌, IfSome, IfNone};
+ghost use Rattle.std.specs.Prelude.{◌≡◌, IsTrue, IsFalse};
 ghost use Rattle.append_ring.specs.Parts.{last_pushed};
-ghost use Rattle.log_service.specs.Items.{number_of};
+ghost use Rattle.append_ring.specs.Rules.{Follows, next_or};
+ghost use Rattle.log_service.specs.Items.{region_of, number_of, IsWholeItem};
+ghost use Rattle.service_trials.specs.Crew.{IsOf};
 
 use crate::entries::truck;
+use crate::held::HeldDisk;
+use crate::member::Member;
 use append_ring::RingKey;
-use disk_images::Disk;
-use log_service::{Item, LogService, ServiceNaming};
+use log_service::{ConsumerTurn, Item, LogService, ServiceNaming, SyncTurn, Waited};
 use std::alloc::Global;
 use std::sync::Wait;
 
-/// Pushes the next edit of the pass's region.
-pub(crate) fn put<D: Disk, N: ServiceNaming, R: Wait>(
+/// How many edits a member puts at most.
+const MOST: u64 = 2_000;
+
+/// Pushes an item. False where the ring is full.
+fn push_once<N: ServiceNaming, R: Wait>(
+    rt: &R,
+    service: &LogService<HeldDisk, N>,
+    pass: &mut RingKey<Item>,
+    item: Item,
+) -> bool
+    requires ring { pass.old.pass.table_id ≡ service.now.ring }
+    requires region { region_of item ≡ pass.old.region }
+    requires whole { IsWholeItem item }
+    requires follows { Follows number_of (last_pushed number_of pass.old) item }
+    ensures pass { (pass.new.pass.table_id ≡ pass.old.pass.table_id) × (pass.new.region ≡ pass.old.region) }
+    ensures pushed { IsTrue result → last_pushed number_of pass.new ≡ next_or number_of (last_pushed number_of pass.old) (number_of item) }
+    ensures refused { IsFalse result → last_pushed number_of pass.new ≡ last_pushed number_of pass.old }
+{
+    match service.push(rt, pass, item) {
+        Ok(()) => {}
+        Err(_) => return false,
+    }
+    true
+}
+
+/// Pushes the member's next edit.
+pub(crate) fn put<N: ServiceNaming, R: Wait>(
     rt: &R,
     alloc: Global,
-    service: &LogService<D, N>,
-    pass: &mut RingKey<Item>,
-    number: u64,
+    service: &LogService<HeldDisk, N>,
+    member: &mut Member,
 ) -> Option<()>
-    requires ring { pass.old.pass.table_id ≡ service.now.ring }
-    requires region { pass.old.region ≤ 64 }
-    requires next { last_pushed number_of pass.old + 1 ≡ number }
-    requires number { number < 2 ^ 48 }
-    ensures same { (pass.new.pass.table_id ≡ pass.old.pass.table_id) × (pass.new.region ≡ pass.old.region) }
-    ensures last { IfSome result (λ _. last_pushed number_of pass.new ≡ number) }
-    ensures none { IfNone result (last_pushed number_of pass.new ≡ last_pushed number_of pass.old) }
+    requires { IsOf service.now member.old }
+    ensures { IsOf service.now member.new }
 {
-    let truck = truck(alloc, pass.region, number)?;
-    match service.push(rt, pass, Item::Append(truck)) {
-        Ok(()) => {}
-        Err(_) => return None,
+    if member.pushed >= MOST {
+        return None;
+    }
+    let number = member.pushed + 1;
+    let truck = truck(alloc, member.pass.region, number)?;
+    let Member { pass, .. } = member;
+    if !push_once(rt, service, pass, Item::Append(truck)) {
+        return None;
+    }
+    member.pushed = number;
+    Some(())
+}
+
+/// Pushes the wish that the member's edits be durable.
+pub(crate) fn ask<N: ServiceNaming, R: Wait>(
+    rt: &R,
+    service: &LogService<HeldDisk, N>,
+    member: &mut Member,
+) -> Option<()>
+    requires { IsOf service.now member.old }
+    ensures { IsOf service.now member.new }
+{
+    let region = member.pass.region;
+    let number = member.pushed;
+    let Member { pass, .. } = member;
+    if !push_once(rt, service, pass, Item::Sync { region, number }) {
+        return None;
     }
     Some(())
 }
 
-/// Pushes the wish that the edits up to a number be durable.
-pub(crate) fn ask<D: Disk, N: ServiceNaming, R: Wait>(
-    rt: &R,
-    service: &LogService<D, N>,
-    pass: &mut RingKey<Item>,
-    number: u64,
-) -> Option<()>
-    requires ring { pass.old.pass.table_id ≡ service.now.ring }
-    ensures same { (pass.new.pass.table_id ≡ pass.old.pass.table_id) × (pass.new.region ≡ pass.old.region) }
-    ensures last { IfSome result (λ _. last_pushed number_of pass.new ≡ last_pushed number_of pass.old) }
-{
-    let region = pass.region;
-    match service.push(rt, pass, Item::Sync { region, number }) {
-        Ok(()) => {}
-        Err(_) => return None,
-    }
-    Some(())
-}
-
-/// Pushes the edits behind this number, up to another.
-pub(crate) fn put_all<D: Disk, N: ServiceNaming, R: Wait>(
+/// Pushes the member's edits up to a number.
+pub(crate) fn put_all<N: ServiceNaming, R: Wait>(
     rt: &R,
     alloc: Global,
-    service: &LogService<D, N>,
-    pass: &mut RingKey<Item>,
-    from: u64,
+    service: &LogService<HeldDisk, N>,
+    member: &mut Member,
     last: u64,
 ) -> Option<()>
-    requires ring { pass.old.pass.table_id ≡ service.now.ring }
-    requires region { pass.old.region ≤ 64 }
-    requires from { last_pushed number_of pass.old ≡ from }
-    requires last { (from ≤ last) × (last ≤ 2000) }
-    ensures same { (pass.new.pass.table_id ≡ pass.old.pass.table_id) × (pass.new.region ≡ pass.old.region) }
-    ensures last { IfSome result (λ _. last_pushed number_of pass.new ≡ last) }
+    requires { IsOf service.now member.old }
+    ensures { IsOf service.now member.new }
 {
-    for before in from..last {
-        put(rt, alloc, service, pass, before + 1)?;
+    for _ in member.pushed..last {
+        put(rt, alloc, service, member)?;
     }
     Some(())
 }
 
 /// Pushes wishes until the ring is full.
-pub(crate) fn fill<D: Disk, N: ServiceNaming, R: Wait>(
+pub(crate) fn fill<N: ServiceNaming, R: Wait>(
     rt: &R,
-    service: &LogService<D, N>,
-    pass: &mut RingKey<Item>,
+    service: &LogService<HeldDisk, N>,
+    member: &mut Member,
 )
-    requires ring { pass.old.pass.table_id ≡ service.now.ring }
-    ensures same { (pass.new.pass.table_id ≡ pass.old.pass.table_id) × (pass.new.region ≡ pass.old.region) }
+    requires { IsOf service.now member.old }
+    ensures { IsOf service.now member.new }
 {
     for _ in 0..2_000u32 {
-        if ask(rt, service, pass, 1).is_none() {
+        if ask(rt, service, member).is_none() {
             return;
         }
     }
+}
+
+/// Takes a consumer's turn.
+pub(crate) fn move_once<N: ServiceNaming, R: Wait>(
+    rt: &R,
+    service: &LogService<HeldDisk, N>,
+    member: &mut Member,
+) -> ConsumerTurn
+    requires { IsOf service.now member.old }
+    ensures { IsOf service.now member.new }
+{
+    let Member { seat, .. } = member;
+    service.consumer_turn(rt, seat)
+}
+
+/// Takes a sync turn.
+pub(crate) fn sync_once<N: ServiceNaming, R: Wait>(
+    rt: &R,
+    service: &LogService<HeldDisk, N>,
+    member: &mut Member,
+) -> SyncTurn
+    requires { IsOf service.now member.old }
+    ensures { IsOf service.now member.new }
+{
+    let Member { seat, .. } = member;
+    service.sync_turn(rt, seat)
+}
+
+/// Rolls. How many entries the first log has, where that was closed.
+pub(crate) fn roll_once<N: ServiceNaming, R: Wait>(
+    rt: &R,
+    alloc: Global,
+    service: &LogService<HeldDisk, N>,
+    member: &mut Member,
+) -> Option<u64>
+    requires { IsOf service.now member.old }
+    ensures { IsOf service.now member.new }
+{
+    let Member { seat, .. } = member;
+    match service.roll(rt, alloc, seat) {
+        Ok(rolled) if rolled.closed == 1 => Some(rolled.entries),
+        _ => None,
+    }
+}
+
+/// Waits for the member's edits.
+pub(crate) fn wait_own<N: ServiceNaming, R: Wait>(
+    rt: &R,
+    service: &LogService<HeldDisk, N>,
+    member: &mut Member,
+) -> Waited
+    requires { IsOf service.now member.old }
+    ensures of { IsOf service.now member.new }
+    ensures pushed { member.new.pushed ≡ member.old.pushed }
+{
+    let region = member.pass.region;
+    let number = member.pushed;
+    let Member { seat, .. } = member;
+    service.wait_synced(rt, seat, region, number)
 }

@@ -1,40 +1,31 @@
 //! A roll behind edits that were moved while a commit was under way.
 
-ghost use Rattle.std.specs.Prelude.{◌≡◌, ◌≤◌, ◌+◌, IfSome};
-ghost use Rattle.append_ring.specs.Parts.{last_pushed};
-ghost use Rattle.log_service.specs.Items.{number_of};
-ghost use Rattle.log_service.specs.Places.{IsSeatOf};
+ghost use Rattle.service_trials.specs.Crew.{IsOf};
 
 use crate::beside::put_and_move;
-use crate::held::{HeldDisk, HeldTrial, Trial, run_held};
+use crate::ends::ends_right;
+use crate::held::{HeldDisk, HeldEnd, HeldTrial, Trial};
 use crate::image::has_numbers;
-use crate::puts::put;
+use crate::member::Member;
+use crate::puts::{move_once, put, roll_once, sync_once};
 use crate::watch::Watch;
-use append_ring::RingKey;
-use log_service::{ConsumerTurn, Item, LogSeat, LogService, ServiceNaming, SyncTurn};
+use log_service::{ConsumerTurn, LogService, ServiceNaming, SyncTurn};
 use std::alloc::Global;
 use std::sync::Wait;
 use std::test::*;
 
-/// Pushes the edit of this number with its wish, and moves both before a sync turn that finds the device busy. None where it couldn't.
+/// Pushes the next edit with its wish, and moves both before a sync turn that finds the device busy. None where it couldn't.
 fn leave_one<N: ServiceNaming, R: Wait>(
     rt: &R,
     alloc: Global,
     service: &LogService<HeldDisk, N>,
-    pass: &mut RingKey<Item>,
-    seat: &mut LogSeat,
-    number: u64,
+    member: &mut Member,
 ) -> Option<()>
-    requires ring { (pass.old.pass.table_id ≡ service.now.ring) × (pass.old.region ≡ 1) }
-    requires next { last_pushed number_of pass.old + 1 ≡ number }
-    requires number { number ≤ 8 }
-    requires seat { IsSeatOf service.now seat.old }
-    ensures ring { (pass.new.pass.table_id ≡ service.now.ring) × (pass.new.region ≡ 1) }
-    ensures last { IfSome result (λ _. last_pushed number_of pass.new ≡ number) }
-    ensures seat { IsSeatOf service.now seat.new }
+    requires { IsOf service.now member.old }
+    ensures { IsOf service.now member.new }
 {
-    put_and_move(rt, alloc, service, pass, seat, number)?;
-    if service.sync_turn(rt, seat) == SyncTurn::Busy {
+    put_and_move(rt, alloc, service, member)?;
+    if sync_once(rt, service, member) == SyncTurn::Busy {
         Some(())
     } else {
         None
@@ -47,20 +38,16 @@ fn leave_four<N: ServiceNaming, R: Wait>(
     rt: &R,
     alloc: Global,
     service: &LogService<HeldDisk, N>,
-    pass: &mut RingKey<Item>,
-    seat: &mut LogSeat,
+    member: &mut Member,
 ) -> Option<()>
-    requires ring { (pass.old.pass.table_id ≡ service.now.ring) × (pass.old.region ≡ 1) }
-    requires last { last_pushed number_of pass.old ≡ 1 }
-    requires seat { IsSeatOf service.now seat.old }
-    ensures ring { (pass.new.pass.table_id ≡ service.now.ring) × (pass.new.region ≡ 1) }
-    ensures seat { IsSeatOf service.now seat.new }
+    requires { IsOf service.now member.old }
+    ensures { IsOf service.now member.new }
 {
-    leave_one(rt, alloc, service, pass, seat, 2)?;
-    leave_one(rt, alloc, service, pass, seat, 3)?;
-    put(rt, alloc, service, pass, 4)?;
-    let moved = service.consumer_turn(rt, seat);
-    put(rt, alloc, service, pass, 5)?;
+    leave_one(rt, alloc, service, member)?;
+    leave_one(rt, alloc, service, member)?;
+    put(rt, alloc, service, member)?;
+    let moved = move_once(rt, service, member);
+    put(rt, alloc, service, member)?;
     if moved == ConsumerTurn::Moved(1) {
         Some(())
     } else {
@@ -73,40 +60,35 @@ pub(crate) fn roll_beside<N: ServiceNaming, R: Wait>(
     rt: &R,
     alloc: Global,
     service: &LogService<HeldDisk, N>,
-    pass: &mut RingKey<Item>,
-    seat: &mut LogSeat,
+    member: &mut Member,
     watch: &Watch,
     before: u64,
 ) -> Option<u64>
-    requires ring { (pass.old.pass.table_id ≡ service.now.ring) × (pass.old.region ≡ 1) }
-    requires last { last_pushed number_of pass.old ≡ 1 }
-    requires seat { IsSeatOf service.now seat.old }
-    ensures ring { (pass.new.pass.table_id ≡ service.now.ring) × (pass.new.region ≡ 1) }
-    ensures seat { IsSeatOf service.now seat.new }
+    requires { IsOf service.now member.old }
+    ensures { IsOf service.now member.new }
 {
     watch.wait_begun(before);
-    leave_four(rt, alloc, service, pass, seat)?;
+    leave_four(rt, alloc, service, member)?;
     let apart = watch.is_held(before);
     watch.release();
-    match service.roll(rt, alloc, seat) {
-        Ok(rolled) if apart && rolled.closed == 1 => Some(rolled.entries),
-        _ => None,
+    let rolled = roll_once(rt, alloc, service, member);
+    if apart { rolled } else { None }
+}
+
+/// Whether the roll closed the log behind the fifth edit, which it moved too.
+pub(crate) fn was_rolled(alloc: Global, left: &HeldEnd) -> Result<bool, Fail> {
+    let mut right = left.answer == Some(5) && !left.broken && left.synced == 5;
+    let disk = left.disk.disk();
+    for choice in 0..4 {
+        let closed = has_numbers(alloc, disk, choice, 1, 1, 6)?;
+        let next = has_numbers(alloc, disk, choice, 2, 6, 6)?;
+        right = right && closed && next;
     }
+    Ok(right)
 }
 
 #[test]
 fn roll_behind_a_load(rt: HostRuntime) -> Result<(), Fail> {
-    let alloc = rt.alloc();
-    let left = run_held(&rt, alloc, &[], Trial::Beside(HeldTrial::Roll))?;
-    assert_eq!(rt;
-        (left.answer, left.broken, left.synced),
-        (Some(5), false, 5)
-    );
-    // The roll moved the fifth too.
-    let disk = left.disk.disk();
-    for choice in 0..4 {
-        assert!(rt; has_numbers(alloc, disk, choice, 1, 1, 6)?);
-        assert!(rt; has_numbers(alloc, disk, choice, 2, 6, 6)?);
-    }
+    assert!(rt; ends_right(&rt, rt.alloc(), Trial::Beside(HeldTrial::Roll))?);
     Ok(())
 }

@@ -1,13 +1,13 @@
 //! A thread waits for the log while another one's commit is held back, and is woken when that ends. Nobody else helps the log.
 
-ghost use Rattle.std.specs.Prelude.{◌≡◌};
-ghost use Rattle.log_service.specs.Places.{IsSeatOf};
+ghost use Rattle.service_trials.specs.Crew.{IsOf};
 
-use crate::held::{HeldDisk, HeldTrial, Trial, run_held};
-use crate::puts::{ask, fill};
+use crate::ends::ends_right;
+use crate::held::{HeldDisk, HeldEnd, HeldTrial, Trial};
+use crate::member::Member;
+use crate::puts::{ask, fill, wait_own};
 use crate::watch::Watch;
-use append_ring::RingKey;
-use log_service::{Item, LogSeat, LogService, ServiceNaming, Waited};
+use log_service::{LogService, ServiceNaming, Waited};
 use std::process::Abort;
 use std::sync::Wait;
 use std::test::*;
@@ -20,14 +20,14 @@ const LOOKS: u64 = 2_000;
 fn push_behind<N: ServiceNaming, R: Wait>(
     rt: &R,
     service: &LogService<HeldDisk, N>,
-    pass: &mut RingKey<Item>,
+    member: &mut Member,
     watch: &Watch,
 )
-    requires ring { pass.old.pass.table_id ≡ service.now.ring }
-    ensures same { (pass.new.pass.table_id ≡ pass.old.pass.table_id) × (pass.new.region ≡ pass.old.region) }
+    requires { IsOf service.now member.old }
+    ensures { IsOf service.now member.new }
 {
     for _ in 0..LOOKS {
-        if ask(rt, service, pass, 1).is_some() {
+        if ask(rt, service, member).is_some() {
             return;
         }
         watch.pause(rt);
@@ -38,14 +38,13 @@ fn push_behind<N: ServiceNaming, R: Wait>(
 fn wait_first<N: ServiceNaming, R: Wait>(
     rt: &R,
     service: &LogService<HeldDisk, N>,
-    seat: &mut LogSeat,
+    member: &mut Member,
     watch: &Watch,
 ) -> Waited
-    requires regions { service.now.regions ≡ 1 }
-    requires seat { IsSeatOf service.now seat.old }
-    ensures seat { IsSeatOf service.now seat.new }
+    requires { IsOf service.now member.old }
+    ensures { IsOf service.now member.new }
 {
-    let waited = service.wait_synced(rt, seat, 1, 1);
+    let waited = wait_own(rt, service, member);
     watch.tell_answer();
     waited
 }
@@ -55,13 +54,13 @@ fn wait_first<N: ServiceNaming, R: Wait>(
 fn let_go<N: ServiceNaming, R: Wait + Abort>(
     rt: &R,
     service: &LogService<HeldDisk, N>,
-    pass: &mut RingKey<Item>,
+    member: &mut Member,
     watch: &Watch,
 )
-    requires ring { pass.old.pass.table_id ≡ service.now.ring }
-    ensures same { (pass.new.pass.table_id ≡ pass.old.pass.table_id) × (pass.new.region ≡ pass.old.region) }
+    requires { IsOf service.now member.old }
+    ensures { IsOf service.now member.new }
 {
-    push_behind(rt, service, pass, watch);
+    push_behind(rt, service, member, watch);
     watch.give_time(rt);
     watch.release();
     assert!(rt; watch.is_answered(rt), "nobody woke it");
@@ -71,29 +70,26 @@ fn let_go<N: ServiceNaming, R: Wait + Abort>(
 pub(crate) fn wait_beside<N: ServiceNaming + Send + Sync, R: Wait + Threads + Sync + Abort>(
     rt: &R,
     service: &LogService<HeldDisk, N>,
-    pass: &mut RingKey<Item>,
-    seat: &mut LogSeat,
+    first: &mut Member,
+    second: &mut Member,
     watch: &Watch,
     before: u64,
 ) -> Option<u64>
-    requires regions { service.now.regions ≡ 1 }
-    requires ring { (pass.old.pass.table_id ≡ service.now.ring) × (pass.old.region ≡ 1) }
-    requires seat { IsSeatOf service.now seat.old }
-    ensures ring { (pass.new.pass.table_id ≡ service.now.ring) × (pass.new.region ≡ 1) }
-    ensures seat { IsSeatOf service.now seat.new }
+    requires { IsOf service.now first.old × IsOf service.now second.old }
+    ensures { IsOf service.now first.new × IsOf service.now second.new }
 {
     watch.wait_begun(before);
-    fill(rt, service, pass);
+    fill(rt, service, first);
     let (waited, _) = join_mut(
         rt,
         &mut || -> Waited
-            requires { (service.now.regions ≡ 1) × IsSeatOf service.now seat.now }
-            ensures { IsSeatOf service.entry.now seat.exit.now }
-        { wait_first(rt, service, seat, watch) },
+            requires { IsOf service.now first.now }
+            ensures { IsOf service.entry.now first.exit.now }
+        { wait_first(rt, service, first, watch) },
         &mut ||
-            requires { (pass.now.pass.table_id ≡ service.now.ring) × (pass.now.region ≡ 1) }
-            ensures { (pass.exit.now.pass.table_id ≡ service.entry.now.ring) × (pass.exit.now.region ≡ 1) }
-        { let_go(rt, service, pass, watch) },
+            requires { IsOf service.now second.now }
+            ensures { IsOf service.entry.now second.exit.now }
+        { let_go(rt, service, second, watch) },
     );
     match waited {
         Waited::Synced => Some(1),
@@ -101,12 +97,13 @@ pub(crate) fn wait_beside<N: ServiceNaming + Send + Sync, R: Wait + Threads + Sy
     }
 }
 
+/// Whether who waited was woken.
+pub(crate) fn was_woken(left: &HeldEnd) -> bool {
+    left.answer == Some(1) && !left.broken && left.synced == 1
+}
+
 #[test]
 fn who_waits_is_woken(rt: HostRuntime) -> Result<(), Fail> {
-    let left = run_held(&rt, rt.alloc(), &[], Trial::Beside(HeldTrial::Wait))?;
-    assert_eq!(rt;
-        (left.answer, left.broken, left.synced),
-        (Some(1), false, 1)
-    );
+    assert!(rt; ends_right(&rt, rt.alloc(), Trial::Beside(HeldTrial::Wait))?);
     Ok(())
 }

@@ -1,9 +1,11 @@
 //! What two threads tell one another, of which one commits and is held back in its sync.
 
-ghost use Rattle.log_service.specs.Places.{IsSeatOf};
+ghost use Rattle.service_trials.specs.Crew.{IsOf};
 
 use crate::held::HeldDisk;
-use log_service::{LogSeat, LogService, ServiceNaming, SyncTurn};
+use crate::member::Member;
+use crate::puts::sync_once;
+use log_service::{LogService, ServiceNaming, SyncTurn};
 use std::sync::atomic::{AtomicU64, Ordering};
 use std::sync::{Arc, Wait};
 use std::thread;
@@ -103,13 +105,13 @@ impl Watch {
 pub(crate) fn commit_watched<N: ServiceNaming, R: Wait>(
     rt: &R,
     service: &LogService<HeldDisk, N>,
-    seat: &mut LogSeat,
+    member: &mut Member,
     watch: &Watch,
 ) -> SyncTurn
-    requires { IsSeatOf service.now seat.old }
-    ensures { IsSeatOf service.now seat.new }
+    requires { IsOf service.now member.old }
+    ensures { IsOf service.now member.new }
 {
-    let turn = service.sync_turn(rt, seat);
+    let turn = sync_once(rt, service, member);
     watch.back.store(1, Ordering::SeqCst);
     turn
 }

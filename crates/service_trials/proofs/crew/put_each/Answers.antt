@@ -4,12 +4,12 @@ use denote.Param.Send.{sendable, shr_sync}
 use Rattle.std.proofs.Crossing.{crosses, sync}
 use Rattle.log_service.proofs.Crossing.{service_sync}
 use Rattle.service_trials.proofs.Captured.{four_sync, u64_sync}
-use Rattle.service_trials.proofs.Sent.{mem_send, member_send}
+use Rattle.service_trials.proofs.Sent.{disk_send, member_send}
 use Rattle.service_trials.proofs.crew.put_each.Goals as goal
 
 pub for_each_mut-requires-sync-F : goal.for_each_mut-requires-sync-F
 for_each_mut-requires-sync-F g c κs within =
-    four_sync 2 _ no _ _ _ _ _ (shr_sync _ _ _ c.type_bounds.sync-R) (shr_sync _ _ _ sync) (shr_sync _ _ _ (service_sync _ (param 0 g.row.N) _ g.N.ServiceNaming mem_send)) (shr_sync _ _ _ u64_sync)
+    four_sync 2 _ no _ _ _ _ _ (shr_sync _ _ _ c.type_bounds.sync-R) (shr_sync _ _ _ sync) (shr_sync _ _ _ (service_sync _ (param 0 g.row.N) _ g.N.ServiceNaming disk_send)) (shr_sync _ _ _ u64_sync)
 
 pub for_each_mut-requires-send-T : goal.for_each_mut-requires-send-T
 for_each_mut-requires-send-T g c κs within = search (member_send, sendable, crosses) fits 5000 depth 30

@@ -1,5 +1,4 @@
-use Rattle.std.proofs.Common.{◌≡◌, ℕ, suc, ◌+◌, ◌<◌, List, [], ◌∷◌, length, replicate, All, sym, ap, ◌∙◌, subst, arith}
-use Rattle.std.specs.Vec.Iter.{into_iter_items}
+use Rattle.std.proofs.Common.{◌≡◌, ℕ, suc, List, length, replicate, All, sym, ap, subst, arith}
 use Rattle.append_ring.proofs.Handing.{none_left}
 use Rattle.service_trials.specs.Crew.{AreIn, IsOf}
 use Rattle.service_trials.specs.declared.member.Member.{Member}

@@ -1,52 +1,24 @@
-use Rattle.std.proofs.Common.{◌≡◌, ◌<◌, ◌-◌, ◌∷◌, [], ℕ, List, length, Some, refl, sym, ap, ◌∙◌, subst, arith, length-set}
-use Rattle.std.proofs.lemmas.Option.{same_Some}
+use Rattle.std.proofs.Common.{◌≡◌, ℕ, List, length, replicate, sym, ap, ◌∙◌, subst}
 use Rattle.atomic_table.specs.Seated.{TableId}
-use Rattle.append_ring.specs.Rules.{base_of, end_of}
-use Rattle.append_ring.specs.Parts.{EachThere, IsNew, AreNewAfter, first_there, without_first}
-use Rattle.log_service.specs.Items.{number_of}
-use Rattle.log_service.proofs.IdlePasses.{first_parted}
-use Rattle.log_service.proofs.Popped.{idle_empty, idle_back}
+use Rattle.append_ring.specs.Parts.{AreNew}
+use Rattle.append_ring.proofs.Handing.{all_back}
+use Rattle.append_ring.specs.declared.pass.RingKey.{RingKey}
+use Rattle.log_service.specs.declared.item.Item.{Item}
+use Rattle.service_trials.proofs.CrewLaws.{seats_new}
 use Rattle.service_trials.proofs.held.over_held.Goals as goal
 
-pub unreachable-requires : goal.unreachable-requires
-unreachable-requires g c =
+pub hand_out-requires-clause-none : goal.hand_out-requires-clause-none
+hand_out-requires-clause-none g c =
     let parts = c.requires.items.1.parts in
-    let some = ap length c.requires.lasts in
-    let first = first_parted g.N.ServiceNaming.ring g.N.ServiceNaming.lasts c.args.rings.items.passes (omega (arith, parts.all, some)) parts.new in
-    cc (sym c.in_default-next.is ∙ (c.next.ensures.given ∙ (ap first_there c.in-Ok.ensures.passes ∙ first.is)))
-
-pub while_held-answer-requires-clause-ring : goal.while_held-answer-requires-clause-ring
-while_held-answer-requires-clause-ring g c κs within =
-    let parts = c.requires.items.1.parts in
-    let some = ap length c.requires.lasts in
-    let first = first_parted g.N.ServiceNaming.ring g.N.ServiceNaming.lasts c.args.rings.items.passes (omega (arith, parts.all, some)) parts.new in
-    let new = subst (IsNew g.N.ServiceNaming.ring g.N.ServiceNaming.lasts 1) (same_Some first.pass c.in-Some.pass (sym first.is ∙ (sym (ap first_there c.in-Ok.ensures.passes) ∙ (sym c.next.ensures.given ∙ c.in-Some.is)))) first.new in
-    (new.0 ∙ sym c.in-Ok.ensures.service.0, new.1)
-
-pub while_held-answer-requires-clause-last : goal.while_held-answer-requires-clause-last
-while_held-answer-requires-clause-last g c κs within =
-    let parts = c.requires.items.1.parts in
-    let some = ap length c.requires.lasts in
-    let first = first_parted g.N.ServiceNaming.ring g.N.ServiceNaming.lasts c.args.rings.items.passes (omega (arith, parts.all, some)) parts.new in
-    let new = subst (IsNew g.N.ServiceNaming.ring g.N.ServiceNaming.lasts 1) (same_Some first.pass c.in-Some.pass (sym first.is ∙ (sym (ap first_there c.in-Ok.ensures.passes) ∙ (sym c.next.ensures.given ∙ c.in-Some.is)))) first.new in
-    (λ i. end_of number_of (base_of (new.2 i).lasts (new.1 i)) (new.2 i).pushed) ∙ ap (λ (l : List ℕ). base_of l 1) c.requires.lasts
-
-pub put_back-requires : goal.put_back-requires
-put_back-requires g c =
-    let parts = c.requires.items.1.parts in
-    let some = ap length c.requires.lasts in
-    let first = first_parted g.N.ServiceNaming.ring g.N.ServiceNaming.lasts c.args.rings.items.passes (omega (arith, parts.all, some)) parts.new in
-    let left = subst (AreNewAfter g.N.ServiceNaming.ring g.N.ServiceNaming.lasts 0 1) (sym (c.next.ensures.left ∙ ap without_first c.in-Ok.ensures.passes)) first.left in
-    idle_empty g.N.ServiceNaming.ring g.N.ServiceNaming.lasts c.next.new.self c.while_held-answer.new.pass ∣ left ∣₁ c.while_held-answer.ensures.ring.1
+    let lasts = c.requires.lasts in
+    let ok = c.in-Ok.ensures in
+    record {
+      passes = subst (λ (id : TableId). AreNew id (replicate 16 0) 0 c.in-Ok.field-0.passes) (sym ok.service.0) (subst (λ (l : List ℕ). AreNew g.N.ServiceNaming.ring l 0 c.in-Ok.field-0.passes) lasts (subst (λ ps. AreNew g.N.ServiceNaming.ring g.N.ServiceNaming.lasts 0 ps) (sym ok.passes) parts.new));
+      all = ap length ok.passes ∙ parts.all ∙ ap length lasts;
+      seats = seats_new c.in-Ok.field-0.service c.in-Ok.field-0.seats.consumers c.in-Ok.field-0.seats.devices _ _ ok.consumers.0 ok.consumers.1 ok.devices.0 ok.devices.1;
+    }
 
 pub close-closed-requires-clause-passes : goal.close-closed-requires-clause-passes
 close-closed-requires-clause-passes g c =
-    let parts = c.requires.items.1.parts in
-    let some = ap length c.requires.lasts in
-    let first = first_parted g.N.ServiceNaming.ring g.N.ServiceNaming.lasts c.args.rings.items.passes (omega (arith, parts.all, some)) parts.new in
-    let left = subst (AreNewAfter g.N.ServiceNaming.ring g.N.ServiceNaming.lasts 0 1) (sym (c.next.ensures.left ∙ ap without_first c.in-Ok.ensures.passes)) first.left in
-    let there = idle_back g.N.ServiceNaming.ring g.N.ServiceNaming.lasts c.next.new.self c.while_held-answer.new.pass ∣ left ∣₁ (c.while_held-answer.ensures.ring.0 ∙ c.in-Ok.ensures.service.0) c.while_held-answer.ensures.ring.1 in
-    let all = ap length (c.next.ensures.left ∙ ap without_first c.in-Ok.ensures.passes) in (
-      subst (λ (id : TableId). EachThere (λ p. p.pass.table_id ≡ id) c.put_back.new.self) (sym c.in-Ok.ensures.service.0) (subst (EachThere (λ p. p.pass.table_id ≡ g.N.ServiceNaming.ring)) (sym c.put_back.ensures) there),
-      ap length c.put_back.ensures ∙ (length-set c.next.new.self (c.while_held-answer.new.pass.region - 1) (Some c.while_held-answer.new.pass) ∙ omega (arith, all, first.all, parts.all, some, c.in-Ok.ensures.service.1)),
-    )
+    let back = c.take_back-told.ensures in
+    (all_back (λ (p : RingKey Item). p.pass.table_id ≡ c.in-Ok.field-0.service.ring) 16 c.take_back-told.new.passes back.passes (sym back.all), back.all ∙ sym c.in-Ok.ensures.service.1)

@@ -1,5 +1,5 @@
-use Rattle.std.proofs.Common.{◌≡◌}
+use Rattle.service_trials.specs.Crew.{IsOf}
 use Rattle.service_trials.proofs.waits.push_behind.Given as goal
 
 abbrev pub invariant-loop : goal.invariant-loop
-invariant-loop g l = (l.pass.pass.table_id ≡ l.fn.pass.pass.table_id) × (l.pass.region ≡ l.fn.pass.region)
+invariant-loop g l = IsOf l.service l.member
