@@ -97,11 +97,11 @@ pub(crate) fn next_number(bench: &Bench<MemDisk>, region: u32) -> Result<u64, Te
     ensures above { IfOk result (λ n. get_or (numbers_of bench.now.device).drawn region 0 < n) }
 {
     if region == 0 || region > 64 || bench.device.ledger().next_store(region) == 0 {
-        Err("no such region")?
+        return Err(TestFail::new("no such region"));
     }
     let number = bench.device.ledger().drawn(region) + 1;
     if number >= 1 << 48 {
-        Err("no number is left")?
+        return Err(TestFail::new("no number is left"));
     }
     Ok(number)
 }

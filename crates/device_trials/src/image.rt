@@ -34,7 +34,7 @@ impl Content {
     /// Takes note of an edit, which has to be one of those that were staged, with one cell.
     fn add(&mut self, region: u32, number: u64, cell: &Cell) -> Result<(), TestFail> {
         if !is_cell_of(region, number, cell) {
-            Err("another cell")?
+            return Err(TestFail::new("another cell"));
         }
         for (i, edit) in EDITS.iter().enumerate() {
             if *edit == (region, number) {
@@ -42,7 +42,7 @@ impl Content {
                 return Ok(());
             }
         }
-        Err("an edit that was not staged")?
+        return Err(TestFail::new("an edit that was not staged"));
     }
 
     /// Takes note of what a store file holds, where it is there.
@@ -67,7 +67,7 @@ impl Content {
     fn add_log(&mut self, alloc: Global, disk: &mut MemDisk, name: Name) -> Result<(), TestFail> {
         let is_empty = disk.size(name)? == Some(0);
         if self.is_open && !is_empty {
-            Err("a log was begun before the last one was ended")?
+            return Err(TestFail::new("a log was begun before the last one was ended"));
         }
         let text = log_text(alloc, disk, name)?;
         self.is_open = text.ended.is_none();
@@ -92,7 +92,7 @@ impl Content {
         for (i, is_there) in self.edits.iter().enumerate() {
             if *is_there {
                 if i != count {
-                    Err("an edit is there without one before it")?
+                    return Err(TestFail::new("an edit is there without one before it"));
                 }
                 count = i + 1;
             }
@@ -105,7 +105,7 @@ impl Content {
 fn log_text(alloc: Global, disk: &mut MemDisk, name: Name) -> Result<LogText, TestFail> {
     match disk.bytes(name) {
         Some(_) => {}
-        None => Err("no such file")?,
+        None => return Err(TestFail::new("no such file")),
     }
     Ok(read_log(alloc, disk, name)?)
 }
@@ -118,7 +118,7 @@ fn store_text(
 ) -> Result<Option<StoreText>, TestFail> {
     match disk.bytes(name) {
         Some(_) => {}
-        None => Err("no such file")?,
+        None => return Err(TestFail::new("no such file")),
     }
     Ok(read_store(alloc, disk, name)?)
 }
@@ -131,7 +131,7 @@ pub(crate) fn crash_at(
     choice: u64,
 ) -> Result<MemDisk, TestFail> {
     if moment > disk.clock() {
-        Err("no such moment")?
+        return Err(TestFail::new("no such moment"));
     }
     Ok(disk.crash(alloc, moment, choice)?)
 }
@@ -142,7 +142,7 @@ fn place_of(region: u32) -> Result<usize, TestFail>
     match region {
         1 => Ok(0),
         2 => Ok(1),
-        _ => Err("another region")?,
+        _ => Err(TestFail::new("another region")),
     }
 }
 

@@ -1,13 +1,13 @@
-//! Disks with files, and what stands on a disk.
+//! Disks with files, and what stands on a disk. What a trial makes is never dropped, so that no exit of it writes out how: no trial
+//! shows that.
 
 ghost use Rattle.std.specs.Prelude.{◌<◌, IsTrue, IfOk, OnOk, length};
 ghost use Rattle.log_model.specs.Files.{IsName};
 ghost use Rattle.disk_fakes.specs.Views.{view_of};
 
-use disk_fakes::{Fail, MemDisk};
+use disk_fakes::{Fail, MemDisk, MemSink};
 use disk_images::{Disk, Name, NameKind};
 use std::alloc::Global;
-use std::process::Abort;
 use std::test::Fail as TestFail;
 
 /// A file that lies on a disk: its name's kind, region and number, and its bytes.
@@ -21,16 +21,29 @@ pub(crate) fn name_of(file: File) -> Name {
     }
 }
 
-/// A disk on which these files are durable, whose calls of these kinds and numbers fail.
-pub(crate) fn disk_of(alloc: Global, files: &[File], fails: &[Fail]) -> Result<MemDisk, TestFail>
-    ensures { IfOk result (λ disk. (m : _) → ¬ (view_of disk).gone m) }
+/// Makes these files, and makes them durable.
+fn add_all(disk: &mut MemDisk, files: &[File]) -> Result<(), TestFail>
+    requires none_gone { (m : _) → ¬ (view_of disk.old).gone m }
+    ensures none_gone { (m : _) → ¬ (view_of disk.new).gone m }
 {
-    let mut disk = MemDisk::new(alloc, fails)?;
     for file in files {
-        add(&mut disk, name_of(*file), file.3)?;
+        add(disk, name_of(*file), file.3)?;
     }
     disk.settle()?;
-    Ok(disk)
+    Ok(())
+}
+
+/// A disk on which these files are durable, whose calls of these kinds and numbers fail.
+pub(crate) fn disk_of(
+    alloc: Global,
+    files: &[File],
+    fails: &[Fail],
+) -> Result<&'static mut MemDisk, TestFail>
+    ensures { IfOk result (λ disk. (m : _) → ¬ (view_of disk.now).gone m) }
+{
+    let mut disk = MemDisk::new(alloc, fails)?;
+    add_all(&mut disk, files)?;
+    Ok(Box::leak(Box::new(alloc, disk)?))
 }
 
 /// Whether a log or an old log has region 0.
@@ -49,7 +62,7 @@ pub(crate) fn add(disk: &mut MemDisk, name: Name, bytes: &[u8]) -> Result<(), Te
     ensures none_gone { (m : _) → ¬ (view_of disk.new).gone m }
 {
     if !is_named(name) {
-        return Err("no such file can be")?;
+        return Err(TestFail::new("no such file can be"));
     }
     create(disk, name)?;
     if bytes.is_empty() {
@@ -64,7 +77,7 @@ fn create(disk: &mut MemDisk, name: Name) -> Result<(), TestFail>
     ensures none_gone { (m : _) → ¬ (view_of disk.new).gone m }
 {
     if disk.bytes(name).is_some() {
-        return Err("it is there")?;
+        return Err(TestFail::new("it is there"));
     }
     disk.create(name)?;
     Ok(())
@@ -76,25 +89,30 @@ fn write(disk: &mut MemDisk, name: Name, bytes: &[u8]) -> Result<(), TestFail>
     ensures none_gone { (m : _) → ¬ (view_of disk.new).gone m }
 {
     if disk.bytes(name).is_none() {
-        return Err("it isn't there")?;
+        return Err(TestFail::new("it isn't there"));
     }
     disk.write_at(name, 0, bytes)?;
     disk.sync(name)?;
     Ok(())
 }
 
-/// Asserts that these files are there, and no other.
-pub(crate) fn assert_files<R: Abort>(
-    rt: &R,
-    alloc: Global,
-    disk: &mut MemDisk,
-    files: &[File],
-) -> Result<(), TestFail> {
-    let count = disk.names(alloc)?.as_slice().len();
-    assert_eq!(rt; count, files.len());
+/// Whether the file is there.
+fn has_file(disk: &MemDisk, file: File) -> bool {
+    disk.bytes(name_of(file)) == Some(file.3)
+}
+
+/// Whether as many files are there as these.
+fn has_so_many(alloc: Global, disk: &mut MemDisk, files: &[File]) -> Result<bool, TestFail> {
+    let names = disk.names(alloc)?;
+    Ok(names.as_slice().len() == files.len())
+}
+
+/// These files are to be there, and no other.
+pub(crate) fn has_files(alloc: Global, disk: &mut MemDisk, files: &[File]) -> Result<(), TestFail> {
+    let so_many = has_so_many(alloc, disk, files)?;
+    hold(so_many, "there are more files, or fewer")?;
     for file in files {
-        let name = name_of(*file);
-        assert_eq!(rt; disk.bytes(name), Some(file.3), "{name:?}");
+        hold(has_file(disk, *file), "a file has other bytes")?;
     }
     Ok(())
 }
@@ -105,9 +123,25 @@ pub(crate) fn crash_at(
     disk: &MemDisk,
     moment: u64,
     choice: u64,
-) -> Result<MemDisk, TestFail> {
+) -> Result<&'static mut MemDisk, TestFail> {
     if moment > disk.clock() {
-        return Err("no such moment")?;
+        return Err(TestFail::new("no such moment"));
     }
-    Ok(disk.crash(alloc, moment, choice)?)
+    let image = disk.crash(alloc, moment, choice)?;
+    Ok(Box::leak(Box::new(alloc, image)?))
+}
+
+/// A sink that takes all.
+pub(crate) fn sink_of(alloc: Global) -> Result<&'static mut MemSink, TestFail> {
+    let sink = MemSink::new(alloc, &[])?;
+    Ok(Box::leak(Box::new(alloc, sink)?))
+}
+
+/// Fails a trial where this doesn't hold.
+pub(crate) fn hold(holds: bool, what: &'static str) -> Result<(), TestFail> {
+    if holds {
+        Ok(())
+    } else {
+        Err(TestFail::new(what))
+    }
 }

@@ -1,11 +1,10 @@
 //! What an opening gives.
 
-use crate::files::File;
+use crate::files::{File, hold};
 use disk_fakes::MemDisk;
 use disk_images::{Disk, Name, NameKind};
-use region_replay::{Replayed, recover_all};
+use region_replay::{Recovered, Replayed, recover_all};
 use std::alloc::Global;
-use std::process::Abort;
 use std::test::Fail as TestFail;
 
 /// What is wanted of a region: so many edits, numbered from 1 on, each of one cell and all of them flushed, and the number of
@@ -41,25 +40,24 @@ pub(crate) fn kept_at(regions: &[Kept], at: usize) -> Kept {
     }
 }
 
-/// Asserts that a region has these edits. A store file that was begun may raise the number of its next store.
-fn assert_edits<R: Abort>(rt: &R, region: &Replayed, edits: u64) {
-    assert_eq!(rt; region.base.cells.len() as u64, edits);
-    assert_eq!(rt; region.base.last, edits);
-    assert_eq!(rt; region.flushed, edits);
+/// Whether a region has these edits. A store file that was begun may raise the number of its next store.
+fn has_edits(region: &Replayed, edits: u64) -> bool {
+    region.base.cells.len() as u64 == edits && region.base.last == edits && region.flushed == edits
 }
 
-/// Asserts that a region has these edits, and that its next store has this number.
-pub(crate) fn assert_kept<R: Abort>(rt: &R, region: &Replayed, kept: Kept) {
-    assert_edits(rt, region, kept.edits);
-    assert_eq!(rt; region.next_store, kept.next_store);
+/// Whether a region has these edits, and its next store has this number.
+pub(crate) fn is_kept(region: &Replayed, kept: Kept) -> bool {
+    has_edits(region, kept.edits) && region.next_store == kept.next_store
 }
 
-/// Asserts of each of the 64 regions that it has the edits that are wanted.
-fn assert_all_edits<R: Abort>(rt: &R, replayed: &[Replayed], regions: &[Kept]) {
-    assert_eq!(rt; replayed.len(), 64);
+/// Whether each of the 64 regions has the edits that are wanted.
+fn have_edits(replayed: &[Replayed], regions: &[Kept]) -> bool {
     for (i, region) in replayed.iter().enumerate() {
-        assert_edits(rt, region, kept_at(regions, i).edits);
+        if !has_edits(region, kept_at(regions, i).edits) {
+            return false;
+        }
     }
+    replayed.len() == 64
 }
 
 /// Whether none of these is a log's or an edits file's name.
@@ -72,27 +70,29 @@ fn are_none_logged(names: &[Name]) -> bool {
     true
 }
 
-/// Asserts that no log and no edits file is there.
-pub(crate) fn assert_none_logged<R: Abort>(
-    rt: &R,
-    alloc: Global,
-    disk: &mut MemDisk,
-) -> Result<(), TestFail> {
+/// Whether no log and no edits file is there.
+fn is_none_logged(alloc: Global, disk: &mut MemDisk) -> Result<bool, TestFail> {
     let names = disk.names(alloc)?;
-    assert!(rt; are_none_logged(names.as_slice()));
-    Ok(())
+    Ok(are_none_logged(names.as_slice()))
 }
 
-/// Opens a store behind a crash or a fault, and asserts that each region has its edits.
-pub(crate) fn assert_opens_again<R: Abort>(
-    rt: &R,
+/// What a store is opened to.
+pub(crate) fn opened(alloc: Global, disk: &mut MemDisk) -> Result<&'static Recovered, TestFail> {
+    let Ok(recovered) = recover_all(alloc, disk) else {
+        return Err(TestFail::new("it is not opened"));
+    };
+    Ok(Box::leak(Box::new(alloc, recovered)?))
+}
+
+/// Opens a store behind a crash or a fault: each region is to have its edits, with no log and no edits file left.
+pub(crate) fn opens_again(
     alloc: Global,
     disk: &mut MemDisk,
     regions: &[Kept],
 ) -> Result<(), TestFail> {
-    match recover_all(alloc, disk) {
-        Ok(recovered) => assert_all_edits(rt, recovered.as_slice(), regions),
-        Err(_) => return Err("it is not opened")?,
-    }
-    assert_none_logged(rt, alloc, disk)
+    let recovered = opened(alloc, disk)?;
+    let have = have_edits(recovered.as_slice(), regions);
+    hold(have, "a region has other edits")?;
+    let none_logged = is_none_logged(alloc, disk)?;
+    hold(none_logged, "a log or an edits file is left")
 }

@@ -4,8 +4,8 @@ ghost use Rattle.std.specs.Prelude.{◌≡◌, ◌≤◌, OnOk};
 ghost use Rattle.log_model.specs.declared.name.NameKind.TheVariants as kinds;
 ghost use Rattle.disk_fakes.specs.Views.{view_of};
 
-use crate::files::{File, assert_files, disk_of, name_of};
-use crate::opened::{Kept, ONE_EDIT, Want, assert_kept, kept_at};
+use crate::files::{File, disk_of, has_files, hold, name_of};
+use crate::opened::{Kept, ONE_EDIT, Want, is_kept, kept_at};
 use crate::texts::{LOG_1, LOG_2, OTHER_LOG_2, STORE_OF_1, STORE_OF_2};
 use crate::versions::OF_BOTH_VERSIONS;
 use crate::worked::WORKED;
@@ -14,7 +14,6 @@ use disk_images::NameKind;
 use found_files::{Damage, SplitRefusal};
 use region_replay::replay;
 use std::alloc::Global;
-use std::process::Abort;
 use std::test::Fail as TestFail;
 use wal_split::split;
 
@@ -51,37 +50,25 @@ const GREAT_NUMBERS: [File; 2] = [
     (NameKind::Store, 65, 1, STORE_OF_2),
 ];
 
-/// Replays a region, and asserts what it gives.
-fn assert_replays<R: Abort>(
-    rt: &R,
-    alloc: Global,
-    disk: &mut MemDisk,
-    region: u32,
-    kept: Kept,
-) -> Result<(), TestFail>
+/// Replays a region, which is to give this.
+fn replays(alloc: Global, disk: &mut MemDisk, region: u32, kept: Kept) -> Result<(), TestFail>
     requires region { (1 ≤ region) × (region ≤ 64) }
     requires stores { (m : _) → m.kind ≡ kinds.Store → ¬ (view_of disk.old).gone m }
     ensures stores { OnOk result ((m : _) → m.kind ≡ kinds.Store → ¬ (view_of disk.new).gone m) }
 {
     match replay(alloc, disk, region) {
-        Ok(replayed) => assert_kept(rt, &replayed, kept),
-        Err(_) => return Err("it is not replayed")?,
+        Ok(replayed) => hold(is_kept(&replayed, kept), "a region has something else"),
+        Err(_) => Err(TestFail::new("it is not replayed")),
     }
-    Ok(())
 }
 
 /// Replays each region of a store that was split.
-fn assert_all_replay<R: Abort>(
-    rt: &R,
-    alloc: Global,
-    disk: &mut MemDisk,
-    regions: &[Kept],
-) -> Result<(), TestFail>
+fn all_replay(alloc: Global, disk: &mut MemDisk, regions: &[Kept]) -> Result<(), TestFail>
     requires { (m : _) → m.kind ≡ kinds.Store → ¬ (view_of disk.old).gone m }
 {
     for before in 0..64 {
         let kept = kept_at(regions, before as usize);
-        assert_replays(rt, alloc, disk, before + 1, kept)?;
+        replays(alloc, disk, before + 1, kept)?;
     }
     Ok(())
 }
@@ -92,39 +79,40 @@ pub(crate) fn split_whole(alloc: Global, disk: &mut MemDisk) -> Result<(), TestF
 {
     match split(alloc, disk) {
         Ok(_) => Ok(()),
-        Err(_) => Err("it is not split")?,
+        Err(_) => Err(TestFail::new("it is not split")),
     }
 }
 
-/// Replays a region, which is refused.
-fn refusal_of(alloc: Global, disk: &mut MemDisk, region: u32) -> Result<SplitRefusal, TestFail>
+/// Replays a region, which is to be refused for this damage.
+fn is_damaged(
+    alloc: Global,
+    disk: &mut MemDisk,
+    region: u32,
+    damage: Damage,
+) -> Result<(), TestFail>
     requires region { (1 ≤ region) × (region ≤ 64) }
     requires stores { (m : _) → m.kind ≡ kinds.Store → ¬ (view_of disk.old).gone m }
 {
-    match replay(alloc, disk, region) {
-        Ok(_) => Err("it is replayed")?,
-        Err(refusal) => Ok(refusal),
-    }
+    let refusal = replay(alloc, disk, region).err();
+    let is_so = refusal == Some(SplitRefusal::Damaged(damage));
+    hold(is_so, "it is not refused for this damage")
 }
 
-/// Splits a store and replays each region, and asserts what there is then.
-fn assert_replayed<R: Abort>(
-    rt: &R,
-    alloc: Global,
-    disk: &mut MemDisk,
-    want: &Want,
-) -> Result<(), TestFail> {
+/// Splits a store and replays each region: this is to be there then.
+fn is_replayed(alloc: Global, files: &[File], want: &Want) -> Result<(), TestFail> {
+    let disk = disk_of(alloc, files, &[])?;
     split_whole(alloc, disk)?;
-    assert_all_replay(rt, alloc, disk, want.regions)?;
-    assert_files(rt, alloc, disk, want.files)
+    all_replay(alloc, disk, want.regions)?;
+    has_files(alloc, disk, want.files)
 }
 
 #[test]
 fn split_and_each_region_replayed(rt: HostRuntime) -> Result<(), TestFail> {
-    let alloc = rt.alloc();
-    for (files, want) in WORKED.iter().chain(&OF_BOTH_VERSIONS) {
-        let mut disk = disk_of(alloc, files, &[])?;
-        assert_replayed(&rt, alloc, &mut disk, want)?;
+    for (files, want) in &WORKED {
+        is_replayed(rt.alloc(), files, want)?;
+    }
+    for (files, want) in &OF_BOTH_VERSIONS {
+        is_replayed(rt.alloc(), files, want)?;
     }
     Ok(())
 }
@@ -132,44 +120,38 @@ fn split_and_each_region_replayed(rt: HostRuntime) -> Result<(), TestFail> {
 #[test]
 fn damage_of_the_region_alone(rt: HostRuntime) -> Result<(), TestFail> {
     let alloc = rt.alloc();
-    let mut disk = disk_of(alloc, &ONE_DAMAGED, &[])?;
-    assert_replays(&rt, alloc, &mut disk, 1, ONE_EDIT)?;
+    let disk = disk_of(alloc, &ONE_DAMAGED, &[])?;
+    replays(alloc, disk, 1, ONE_EDIT)?;
     let damage = Damage::Bytes {
         name: name_of(ONE_DAMAGED[1]),
         at: 16,
     };
-    assert_eq!(rt;
-        refusal_of(alloc, &mut disk, 2)?,
-        SplitRefusal::Damaged(damage)
-    );
-    assert_files(&rt, alloc, &mut disk, &BESIDE_THE_DAMAGED)
+    is_damaged(alloc, disk, 2, damage)?;
+    has_files(alloc, disk, &BESIDE_THE_DAMAGED)
 }
 
 #[test]
 fn two_edits_files_that_differ(rt: HostRuntime) -> Result<(), TestFail> {
     let alloc = rt.alloc();
-    let mut disk = disk_of(alloc, &TWO_THAT_DIFFER, &[])?;
+    let disk = disk_of(alloc, &TWO_THAT_DIFFER, &[])?;
     let damage = Damage::Two {
         first: name_of(TWO_THAT_DIFFER[0]),
         second: name_of(TWO_THAT_DIFFER[1]),
         region: 1,
         number: 1,
     };
-    assert_eq!(rt;
-        refusal_of(alloc, &mut disk, 1)?,
-        SplitRefusal::Damaged(damage)
-    );
-    assert_files(&rt, alloc, &mut disk, &TWO_THAT_DIFFER)
+    is_damaged(alloc, disk, 1, damage)?;
+    has_files(alloc, disk, &TWO_THAT_DIFFER)
 }
 
 #[test]
 fn number_of_a_name_is_no_damage(rt: HostRuntime) -> Result<(), TestFail> {
     let alloc = rt.alloc();
-    let mut disk = disk_of(alloc, &GREAT_NUMBERS, &[])?;
+    let disk = disk_of(alloc, &GREAT_NUMBERS, &[])?;
     let kept = Kept {
         edits: 1,
         next_store: TOO_GREAT + 1,
     };
-    assert_replays(&rt, alloc, &mut disk, 1, kept)?;
-    assert_files(&rt, alloc, &mut disk, &GREAT_NUMBERS)
+    replays(alloc, disk, 1, kept)?;
+    has_files(alloc, disk, &GREAT_NUMBERS)
 }

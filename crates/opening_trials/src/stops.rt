@@ -5,8 +5,8 @@ ghost use Rattle.std.specs.Prelude.{◌≡◌, OnOk, IfOk};
 ghost use Rattle.log_model.specs.declared.name.NameKind.TheVariants as kinds;
 ghost use Rattle.disk_fakes.specs.Views.{view_of};
 
-use crate::files::{File, crash_at, disk_of};
-use crate::opened::{Kept, ONE_EDIT, assert_opens_again};
+use crate::files::{File, crash_at, disk_of, hold};
+use crate::opened::{Kept, ONE_EDIT, opens_again};
 use crate::replays::split_whole;
 use crate::versions::{FORMER, FOUR_EDITS, MIXED, THREE_EDITS};
 use crate::worked::{ALL_FLUSHED, BETWEEN_TWO_EDITS_FILES, STORED_AND_LOGGED, TWO_EDITS};
@@ -14,7 +14,6 @@ use disk_fakes::{CallKind, Fail, MemDisk};
 use found_files::SplitRefusal;
 use region_replay::{recover_all, replay};
 use std::alloc::Global;
-use std::process::Abort;
 use std::test::Fail as TestFail;
 use wal_split::split;
 
@@ -83,7 +82,8 @@ const TRIALS: [Trial; 9] = [
     },
 ];
 
-const KINDS: [CallKind; 9] = [
+/// The kinds of disk calls.
+pub(crate) const KINDS: [CallKind; 9] = [
     CallKind::Names,
     CallKind::Size,
     CallKind::Read,
@@ -96,11 +96,11 @@ const KINDS: [CallKind; 9] = [
 ];
 
 /// The disk before the step, whose calls of these kinds and numbers fail.
-fn begin(alloc: Global, trial: &Trial, fails: &[Fail]) -> Result<MemDisk, TestFail>
-    ensures { IfOk result (λ disk. (m : _) → m.kind ≡ kinds.Store → ¬ (view_of disk).gone m) }
+fn begin(alloc: Global, trial: &Trial, fails: &[Fail]) -> Result<&'static mut MemDisk, TestFail>
+    ensures { IfOk result (λ disk. (m : _) → m.kind ≡ kinds.Store → ¬ (view_of disk.now).gone m) }
 {
-    let mut disk = disk_of(alloc, trial.files, fails)?;
-    prepare(alloc, &mut disk, trial.step)?;
+    let disk = disk_of(alloc, trial.files, fails)?;
+    prepare(alloc, disk, trial.step)?;
     Ok(disk)
 }
 
@@ -115,23 +115,19 @@ fn prepare(alloc: Global, disk: &mut MemDisk, step: Step) -> Result<(), TestFail
     }
 }
 
-/// Does the step, and asserts that it is refused so, or done where there is no refusal.
-fn assert_step<R: Abort>(
-    rt: &R,
+/// Does the step, and gives the refusal.
+fn refusal_of(
     alloc: Global,
     disk: &mut MemDisk,
     step: Step,
-    want: Option<SplitRefusal>,
-) -> Result<(), TestFail>
+) -> Result<Option<SplitRefusal>, TestFail>
     requires { (m : _) → m.kind ≡ kinds.Store → ¬ (view_of disk.old).gone m }
 {
-    let refusal = match step {
-        Step::Open => recover_all(alloc, disk).err(),
-        Step::Split => split(alloc, disk).err(),
-        Step::Replay(region) => replay_of(alloc, disk, region)?,
-    };
-    assert_eq!(rt; refusal, want);
-    Ok(())
+    match step {
+        Step::Open => Ok(recover_all(alloc, disk).err()),
+        Step::Split => Ok(split(alloc, disk).err()),
+        Step::Replay(region) => replay_of(alloc, disk, region),
+    }
 }
 
 /// Replays a region, and gives the refusal.
@@ -143,51 +139,44 @@ fn replay_of(
     requires { (m : _) → m.kind ≡ kinds.Store → ¬ (view_of disk.old).gone m }
 {
     if region == 0 || region > 64 {
-        return Err("no such region")?;
+        return Err(TestFail::new("no such region"));
     }
     Ok(replay(alloc, disk, region).err())
 }
 
-/// Asserts what each image of this moment is opened to.
-fn assert_moment<R: Abort>(
-    rt: &R,
-    alloc: Global,
-    disk: &MemDisk,
-    moment: u64,
-    regions: &[Kept],
-) -> Result<(), TestFail> {
+/// Does the step, which is to be done.
+fn is_done(alloc: Global, disk: &mut MemDisk, step: Step) -> Result<(), TestFail>
+    requires { (m : _) → m.kind ≡ kinds.Store → ¬ (view_of disk.old).gone m }
+{
+    let refusal = refusal_of(alloc, disk, step)?;
+    hold(refusal.is_none(), "a step is refused")
+}
+
+/// Does the step, which is to meet the disk's fault.
+fn is_refused(alloc: Global, disk: &mut MemDisk, step: Step) -> Result<(), TestFail>
+    requires { (m : _) → m.kind ≡ kinds.Store → ¬ (view_of disk.old).gone m }
+{
+    let refusal = refusal_of(alloc, disk, step)?;
+    let is_fault = matches!(refusal, Some(SplitRefusal::DiskFault));
+    hold(is_fault, "a step doesn't meet the disk's fault")
+}
+
+/// Each image of this moment is to be opened to what the regions have.
+fn opens_at(alloc: Global, disk: &MemDisk, moment: u64, regions: &[Kept]) -> Result<(), TestFail> {
     for choice in 0..4 {
-        assert_image(rt, alloc, disk, moment, choice, regions)?;
+        let image = crash_at(alloc, disk, moment, choice)?;
+        opens_again(alloc, image, regions)?;
     }
     Ok(())
 }
 
-/// Asserts what this image of this moment is opened to.
-fn assert_image<R: Abort>(
-    rt: &R,
-    alloc: Global,
-    disk: &MemDisk,
-    moment: u64,
-    choice: u64,
-    regions: &[Kept],
-) -> Result<(), TestFail> {
-    let mut image = crash_at(alloc, disk, moment, choice)?;
-    assert_opens_again(rt, alloc, &mut image, regions)
-}
-
-/// Does the step, and asserts it of each moment of it.
-fn assert_moments<R: Abort>(
-    rt: &R,
-    alloc: Global,
-    disk: &mut MemDisk,
-    trial: &Trial,
-) -> Result<(), TestFail>
-    requires { (m : _) → m.kind ≡ kinds.Store → ¬ (view_of disk.old).gone m }
-{
+/// The same of each moment of the step.
+fn stop_at_each(alloc: Global, trial: &Trial) -> Result<(), TestFail> {
+    let disk = begin(alloc, trial, &[])?;
     let first = disk.clock();
-    assert_step(rt, alloc, disk, trial.step, None)?;
+    is_done(alloc, disk, trial.step)?;
     for moment in first..disk.clock().saturating_add(1) {
-        assert_moment(rt, alloc, disk, moment, trial.regions)?;
+        opens_at(alloc, disk, moment, trial.regions)?;
     }
     Ok(())
 }
@@ -195,41 +184,21 @@ fn assert_moments<R: Abort>(
 #[test]
 fn stopped_at_each_moment(rt: HostRuntime) -> Result<(), TestFail> {
     for trial in &TRIALS {
-        let mut disk = begin(rt.alloc(), trial, &[])?;
-        assert_moments(&rt, rt.alloc(), &mut disk, trial)?;
+        stop_at_each(rt.alloc(), trial)?;
     }
     Ok(())
 }
 
-/// Asserts that the step meets this fault, and what the disk and each image of it are opened to behind it.
-fn assert_fault<R: Abort>(
-    rt: &R,
-    alloc: Global,
-    trial: &Trial,
-    fail: Fail,
-) -> Result<(), TestFail> {
-    let mut disk = begin(alloc, trial, &[fail])?;
-    assert_refused(rt, alloc, &mut disk, trial)
+/// The step meets this fault. The disk and each image of it are to be opened to what the regions have then.
+fn fail_once(alloc: Global, trial: &Trial, fail: Fail) -> Result<(), TestFail> {
+    let disk = begin(alloc, trial, &[fail])?;
+    is_refused(alloc, disk, trial.step)?;
+    opens_at(alloc, disk, disk.clock(), trial.regions)?;
+    opens_again(alloc, disk, trial.regions)
 }
 
-/// Asserts that the step meets the disk's fault, and what the disk and each image of it are opened to behind it.
-fn assert_refused<R: Abort>(
-    rt: &R,
-    alloc: Global,
-    disk: &mut MemDisk,
-    trial: &Trial,
-) -> Result<(), TestFail>
-    requires { (m : _) → m.kind ≡ kinds.Store → ¬ (view_of disk.old).gone m }
-{
-    let want = Some(SplitRefusal::DiskFault);
-    assert_step(rt, alloc, disk, trial.step, want)?;
-    assert_moment(rt, alloc, disk, disk.clock(), trial.regions)?;
-    assert_opens_again(rt, alloc, disk, trial.regions)
-}
-
-/// Asserts it of the calls of this kind from the first of these numbers to before the second.
-fn assert_faults_of<R: Abort>(
-    rt: &R,
+/// The same of the calls of this kind from the first of these numbers to before the second.
+fn fail_from(
     alloc: Global,
     trial: &Trial,
     call: CallKind,
@@ -237,31 +206,20 @@ fn assert_faults_of<R: Abort>(
     end: u64,
 ) -> Result<(), TestFail> {
     for nth in first..end {
-        assert_fault(rt, alloc, trial, Fail { call, nth })?;
+        fail_once(alloc, trial, Fail { call, nth })?;
     }
     Ok(())
 }
 
-/// How many calls of this kind come before the step, and how many up to its end.
-fn calls_of<R: Abort>(
-    rt: &R,
-    alloc: Global,
-    trial: &Trial,
-    call: CallKind,
-) -> Result<(u64, u64), TestFail> {
-    let mut disk = begin(alloc, trial, &[])?;
-    let before = disk.calls(call);
-    assert_step(rt, alloc, &mut disk, trial.step, None)?;
-    Ok((before, disk.calls(call)))
-}
-
-/// Asserts it of each call of the step.
-fn assert_faults<R: Abort>(rt: &R, alloc: Global, trial: &Trial) -> Result<(), TestFail> {
-    for call in KINDS {
-        let (before, behind) = calls_of(rt, alloc, trial, call)?;
-        let first = before.saturating_add(1);
-        let end = behind.saturating_add(1);
-        assert_faults_of(rt, alloc, trial, call, first, end)?;
+/// The same of each call of the step.
+fn fail_each(alloc: Global, trial: &Trial) -> Result<(), TestFail> {
+    let before = begin(alloc, trial, &[])?;
+    let disk = begin(alloc, trial, &[])?;
+    is_done(alloc, disk, trial.step)?;
+    for call in &KINDS {
+        let first = before.calls(*call).saturating_add(1);
+        let end = disk.calls(*call).saturating_add(1);
+        fail_from(alloc, trial, *call, first, end)?;
     }
     Ok(())
 }
@@ -269,7 +227,7 @@ fn assert_faults<R: Abort>(rt: &R, alloc: Global, trial: &Trial) -> Result<(), T
 #[test]
 fn each_disk_call_fails(rt: HostRuntime) -> Result<(), TestFail> {
     for trial in &TRIALS {
-        assert_faults(&rt, rt.alloc(), trial)?;
+        fail_each(rt.alloc(), trial)?;
     }
     Ok(())
 }

@@ -34,6 +34,8 @@ mod prefixes;
 #[cfg(test)]
 mod recover_stops;
 #[cfg(test)]
+mod refused;
+#[cfg(test)]
 mod report;
 #[cfg(test)]
 mod sweeps;

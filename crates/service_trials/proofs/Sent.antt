@@ -13,7 +13,7 @@ use Rattle.disk_fakes.specs.contracts.watch_disk.WatchDisk as watch
 use Rattle.log_berth.proofs.seats.LogSeat.TheSendSync as berth_seat
 use Rattle.log_service.specs.contracts.seats.LogSeat as seats
 use Rattle.log_service.proofs.Crossing.{item_send}
-use Rattle.log_service.specs.contracts.item.Item as items
+use Rattle.log_service.specs.log_halves.contracts.item.Item as items
 use Rattle.append_ring.specs.contracts.pass.RingKey as passes
 use Rattle.atomic_table.proofs.shared.Seat.TheSendSync as table_seat
 use Rattle.service_trials.specs.contracts.member.Member as members

@@ -3,7 +3,7 @@ use Rattle.std.specs.Prelude.{◌≡◌, ℕ, ◌+◌, ◌-◌, ◌≤◌, List,
 use Rattle.append_ring.specs.declared.pass.RingKey.{RingKey}
 use Rattle.append_ring.specs.Parts.{AreNewAfter, ArePlacesBack, last_pushed}
 use Rattle.log_berth.specs.Standing.{Bundle, AreBack}
-use Rattle.log_service.specs.declared.item.Item.{Item}
+use Rattle.log_service.specs.log_halves.declared.item.Item.{Item}
 use Rattle.log_service.specs.Items.{number_of}
 use Rattle.log_service.specs.Places.{ServiceId, IsSeatOf}
 use Rattle.service_trials.specs.declared.member.Member.{Member}

@@ -28,7 +28,7 @@ impl Content {
         let place = number.wrapping_sub(1) as usize;
         match self.edits.get_mut(place) {
             Some(edit) => *edit = true,
-            None => Err("an edit that was not pushed")?,
+            None => return Err(TestFail::new("an edit that was not pushed")),
         }
         Ok(())
     }
@@ -73,7 +73,7 @@ impl Content {
         for is_there in self.edits.iter() {
             if *is_there {
                 if ended {
-                    Err("an edit is there without one before it")?
+                    return Err(TestFail::new("an edit is there without one before it"));
                 }
                 count = count.saturating_add(1);
             } else {
@@ -88,7 +88,7 @@ impl Content {
 pub(crate) fn log_text(alloc: Global, disk: &mut MemDisk, name: Name) -> Result<LogText, TestFail> {
     match disk.bytes(name) {
         Some(_) => {}
-        None => Err("no such file")?,
+        None => return Err(TestFail::new("no such file")),
     }
     Ok(read_log(alloc, disk, name)?)
 }
@@ -101,7 +101,7 @@ fn store_text(
 ) -> Result<Option<StoreText>, TestFail> {
     match disk.bytes(name) {
         Some(_) => {}
-        None => Err("no such file")?,
+        None => return Err(TestFail::new("no such file")),
     }
     Ok(read_store(alloc, disk, name)?)
 }

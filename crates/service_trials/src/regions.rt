@@ -102,6 +102,6 @@ pub(crate) fn sixteen_rings(alloc: Global) -> Result<Rings, TestFail>
 {
     match Rings::new(alloc, &[0; 16]) {
         Ok(rings) => Ok(rings),
-        Err(_) => Err("memory is ample")?,
+        Err(_) => Err(TestFail::new("memory is ample")),
     }
 }

@@ -5,7 +5,7 @@ use Rattle.append_ring.specs.declared.pass.RingKey.{RingKey}
 use Rattle.append_ring.specs.Parts.{IsNew, AreNewAfter}
 use Rattle.append_ring.specs.Rules.{base_of, end_of}
 use Rattle.append_ring.proofs.Handing.{next_new}
-use Rattle.log_service.specs.declared.item.Item.{Item}
+use Rattle.log_service.specs.log_halves.declared.item.Item.{Item}
 use Rattle.log_service.specs.Items.{number_of}
 use Rattle.service_trials.specs.Crew.{IsOf}
 use Rattle.service_trials.specs.declared.member.Member.{Member}

@@ -3,7 +3,7 @@ use Rattle.std.specs.Prelude.{slice_get}
 use Rattle.append_ring.specs.declared.pass.RingKey.{RingKey}
 use Rattle.append_ring.specs.Parts.{ArePlacesBack}
 use Rattle.append_ring.proofs.Handing.{back_next}
-use Rattle.log_service.specs.declared.item.Item.{Item}
+use Rattle.log_service.specs.log_halves.declared.item.Item.{Item}
 use Rattle.service_trials.proofs.CrewLaws.{seat_back}
 use Rattle.service_trials.proofs.crowd.one_back.Goals as goal
 

@@ -3,7 +3,7 @@ use Rattle.atomic_table.specs.Seated.{TableId}
 use Rattle.append_ring.specs.Parts.{AreNew}
 use Rattle.append_ring.proofs.Handing.{all_back}
 use Rattle.append_ring.specs.declared.pass.RingKey.{RingKey}
-use Rattle.log_service.specs.declared.item.Item.{Item}
+use Rattle.log_service.specs.log_halves.declared.item.Item.{Item}
 use Rattle.service_trials.proofs.CrewLaws.{seats_new}
 use Rattle.service_trials.proofs.held.over_held.Goals as goal
 

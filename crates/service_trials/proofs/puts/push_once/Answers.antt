@@ -3,7 +3,7 @@ use Rattle.crossbeam_queue.specs.Passes.{view}
 use Rattle.append_ring.specs.declared.knows.Knows.{Knows}
 use Rattle.append_ring.specs.Rules.{base_of, end_of}
 use Rattle.append_ring.proofs.Lists.{end_of-snoc}
-use Rattle.log_service.specs.declared.item.Item.{Item}
+use Rattle.log_service.specs.log_halves.declared.item.Item.{Item}
 use Rattle.log_service.specs.Items.{number_of}
 use Rattle.service_trials.proofs.puts.push_once.Goals as goal
 
