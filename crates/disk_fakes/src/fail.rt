@@ -22,7 +22,7 @@ pub enum CallKind {
 }
 
 /// The call of this kind with this number is to fail. The calls of a kind are counted from 1.
-#[derive(Clone, Copy, Debug, PartialEq, Eq)]
+#[derive(Clone, Copy)]
 pub struct Fail {
     pub call: CallKind,
     pub nth: u64,

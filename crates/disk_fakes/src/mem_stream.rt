@@ -11,7 +11,7 @@ use std::alloc::Global;
 const PIECE: usize = 64;
 
 // Which of the calls that are counted from 1 fail, and how many have failed.
-#[derive(Debug, Drop)]
+#[derive(Drop)]
 pub struct StreamPlan {
     fails: Vec<u64>,
     calls: u64,
@@ -51,12 +51,21 @@ impl StreamPlan {
 }
 
 /// A source of bytes in memory.
-#[derive(Debug, Drop)]
 pub struct MemSource {
     bytes: Vec<u8>,
     read: usize,
     plan: StreamPlan,
     ghost within: { read ≤ vec_len bytes },
+}
+
+impl Drop for MemSource {
+    fn drop(self) {
+        let MemSource {
+            bytes: _,
+            read: _,
+            plan: _,
+        } = self;
+    }
 }
 
 impl MemSource {
@@ -95,10 +104,15 @@ impl Source for MemSource {
 
 /// A sink in memory. It takes the first 64 bytes of a longer piece, and the whole of another, and keeps what it took.
 /// A growth that is refused inside it is a failure.
-#[derive(Debug, Drop)]
 pub struct MemSink {
     taken: Vec<u8>,
     plan: StreamPlan,
+}
+
+impl Drop for MemSink {
+    fn drop(self) {
+        let MemSink { taken: _, plan: _ } = self;
+    }
 }
 
 impl MemSink {

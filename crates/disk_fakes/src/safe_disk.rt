@@ -15,12 +15,21 @@ use std::cmp::min;
 /// call is durable at once. A create, a write, a rename or a removal for which there is no room is a failure; else no
 /// call fails. Once it is made it takes no memory, but for the list that `names` gives. A read goes back through the
 /// calls, so it takes time in their number: it is for tests that count each byte of memory.
-#[derive(Drop)]
 pub struct SafeDisk {
     calls: Vec<SafeCall>,
     arena: Vec<u8>,
     faults: u64,
     ghost met: { AreMet arena.items no_files calls.items } by { are_met_prop arena.items no_files calls.items },
+}
+
+impl Drop for SafeDisk {
+    fn drop(self) {
+        let SafeDisk {
+            calls: _,
+            arena: _,
+            faults: _,
+        } = self;
+    }
 }
 
 const LIMIT: u64 = 1 << 63;

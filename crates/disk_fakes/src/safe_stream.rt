@@ -11,11 +11,16 @@ use std::alloc::Global;
 const PIECE: usize = 64;
 
 /// A source of bytes in memory that never fails.
-#[derive(Debug, Drop)]
 pub struct SafeSource {
     bytes: Vec<u8>,
     read: usize,
     ghost within: { read ≤ vec_len bytes },
+}
+
+impl Drop for SafeSource {
+    fn drop(self) {
+        let SafeSource { bytes: _, read: _ } = self;
+    }
 }
 
 impl SafeSource {
@@ -50,10 +55,18 @@ impl Source for SafeSource {
 
 /// A sink in memory with room for so many bytes. It takes the first 64 bytes of a longer piece, and the whole of
 /// another, and keeps what it took. It takes no memory once it is made, and fails exactly where there is no room.
-#[derive(Debug, Drop)]
 pub struct SafeSink {
     taken: Vec<u8>,
     faults: u64,
+}
+
+impl Drop for SafeSink {
+    fn drop(self) {
+        let SafeSink {
+            taken: _,
+            faults: _,
+        } = self;
+    }
 }
 
 impl SafeSink {

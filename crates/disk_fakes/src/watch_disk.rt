@@ -12,11 +12,20 @@ const TURNS: u64 = 100_000_000;
 
 /// Another disk, which is told each call. Before each `sync` it adds one to the word `seen`, and then waits until the
 /// word `held` is 0, for at most 100,000,000 turns. It takes no memory.
-#[derive(Drop)]
 pub struct WatchDisk<D> {
     disk: D,
     seen: Arc<AtomicU64>,
     held: Arc<AtomicU64>,
+}
+
+impl<D: Drop> Drop for WatchDisk<D> {
+    fn drop(self) {
+        let WatchDisk {
+            disk: _,
+            seen: _,
+            held: _,
+        } = self;
+    }
 }
 
 impl<D> WatchDisk<D> {

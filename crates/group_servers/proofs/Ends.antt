@@ -1,7 +1,7 @@
 -- A server that isn't there has no end.
 use Rattle.std.proofs.Common.{ℕ, List, Option, Some, None}
 use Rattle.disk_images.specs.declared.disk.Disk.{Ghosts}
-use Rattle.handler_threads.specs.log_service.declared.name.ServiceNaming.{Ghosts as LogGhosts}
+use Rattle.handler_threads.specs.log_service.log_halves.declared.name.ServiceNaming.{Ghosts as LogGhosts}
 use Rattle.handler_threads.specs.log_service.declared.seats.LogSeat.{LogSeat}
 use Rattle.handler_threads.specs.region_calls.declared.naming.ServerNaming.{Ghosts as NameGhosts}
 use Rattle.handler_threads.specs.region_calls.declared.passes.Passes.{Passes}

@@ -4,7 +4,7 @@ use Rattle.std.specs.List.{range_with_len}
 use Rattle.std.specs.Global.{Vec}
 use Rattle.disk_images.specs.declared.disk.Disk.{Ghosts}
 use Rattle.disk_images.specs.Calls.{Rose}
-use Rattle.handler_threads.specs.log_service.declared.name.ServiceNaming.{Ghosts as LogGhosts}
+use Rattle.handler_threads.specs.log_service.log_halves.declared.name.ServiceNaming.{Ghosts as LogGhosts}
 use Rattle.handler_threads.specs.region_calls.declared.closed.ClosedRegion.{ClosedRegion}
 use Rattle.handler_threads.specs.region_calls.declared.naming.ServerNaming.{Ghosts as NameGhosts}
 use Rattle.handler_threads.specs.region_calls.declared.passes.Passes.{Passes}

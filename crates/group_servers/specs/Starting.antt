@@ -1,7 +1,7 @@
 -- A server of an opened store.
 use Rattle.std.specs.Prelude.{◌≡◌, ℕ, ◌≤◌, true, List, [], length, IsTrue, Option, Some, None, Contains}
 use Rattle.disk_images.specs.declared.disk.Disk.{Ghosts}
-use Rattle.handler_threads.specs.log_service.declared.name.ServiceNaming.{Ghosts as LogGhosts}
+use Rattle.handler_threads.specs.log_service.log_halves.declared.name.ServiceNaming.{Ghosts as LogGhosts}
 use Rattle.handler_threads.specs.log_service.declared.seats.LogSeat.{LogSeat}
 use Rattle.handler_threads.specs.log_service.Places.{ServiceId}
 use Rattle.handler_threads.specs.region_calls.declared.naming.ServerNaming.{Ghosts as NameGhosts}

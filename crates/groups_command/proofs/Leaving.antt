@@ -30,7 +30,7 @@ use Rattle.group_stores.proofs.Each.{partner}
 use Rattle.group_stores.specs.Refusals.{AreRefused, GoesOn, HaveNoOthers as NoneHasOthers, IsWrong, Tells}
 use Rattle.groups_run.specs.group_servers.Beginning.{IsOpened}
 use Rattle.groups_run.specs.group_servers.Starting.{IsNamedBy, IsNamedAt}
-use Rattle.groups_run.specs.log_groups.Passes.{named}
+use Rattle.groups_run.specs.log_groups.group_calls.Passes.{named}
 use Rattle.groups_run.specs.log_groups.Starting.{AreAlike, IsAlike}
 use Rattle.groups_run.specs.Found.{AreFound, IsFoundSo, found_views, or_that, value_of, views}
 use Rattle.groups_run.specs.Ends.{HaveClosed}

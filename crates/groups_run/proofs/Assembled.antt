@@ -10,7 +10,7 @@ use Rattle.server_model.specs.Pass.{Pass, Naming}
 use Rattle.server_model.specs.Closing.{passes_of, replies_of}
 use Rattle.run_model.specs.Closed.{ClosedOn, IsNameFor, FitsThroughout}
 use Rattle.run_model.specs.Headline.{KeepsFound, KeepsThroughout}
-use Rattle.log_groups.specs.log_service.declared.name.ServiceNaming.{Ghosts as LogGhosts}
+use Rattle.log_groups.specs.log_service.log_halves.declared.name.ServiceNaming.{Ghosts as LogGhosts}
 use Rattle.log_groups.specs.region_calls.declared.naming.ServerNaming.{Ghosts as NameGhosts}
 use Rattle.log_groups.specs.region_calls.declared.store.OpenedStore.{OpenedStore}
 use Rattle.log_groups.specs.region_calls.declared.closed.ClosedRegion.{ClosedRegion}
@@ -26,8 +26,8 @@ use Rattle.group_stores.specs.Lists.{AtEach, at_group, count_of, counted, mapped
 use Rattle.log_groups.specs.group_servers.declared.shutting.ServerEnd.{ServerEnd}
 use Rattle.log_groups.specs.group_servers.Starting.{HasRegionsOf, IsNamedAt, IsNamedBy}
 use Rattle.log_groups.specs.Closing.{is_broken, regions_in}
-use Rattle.log_groups.specs.Passes.{named}
-use Rattle.log_groups.specs.Servers.{Servers}
+use Rattle.log_groups.specs.group_calls.Passes.{named}
+use Rattle.log_groups.specs.group_calls.Servers.{Servers}
 use Rattle.groups_run.specs.Ran.{AllThere}
 use Rattle.log_groups.specs.Starting.{AreAlike, AreServersOf, HeldOrLetGo, HeldOrLetGoAt, IsAlike}
 use Rattle.groups_run.specs.Ended.{HaveEnded, HasEndedOf, passes_on}

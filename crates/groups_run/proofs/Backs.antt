@@ -2,7 +2,7 @@
 use Rattle.std.proofs.Common.{◌≡◌, ℕ, ◌+◌, ◌<◌, ◌≤◌, List, [], ◌∷◌, ◌++◌, length, map, Option, Some, None, IfSome, refl, sym, ap, subst, ◌∙◌, arith}
 use Rattle.std.proofs.lemmas.List.{map-append, length-map}
 use Rattle.disk_images.specs.declared.disk.Disk.{Ghosts as Disks}
-use Rattle.log_groups.specs.log_service.declared.name.ServiceNaming.{Ghosts as LogGhosts}
+use Rattle.log_groups.specs.log_service.log_halves.declared.name.ServiceNaming.{Ghosts as LogGhosts}
 use Rattle.log_groups.specs.log_service.declared.seats.LogSeat.{LogSeat}
 use Rattle.log_groups.specs.log_service.Places.{ServiceId}
 use Rattle.server_model.specs.Pass.{Pass as ThePass, IsFresh}
@@ -19,13 +19,13 @@ use Rattle.log_groups.specs.group_servers.Closing.{HasEnded, HasEndedAt}
 use Rattle.log_groups.specs.group_servers.Dealing.{ArePassesAt, AreBackAt, IsBackAt, IsEvenAt, IsNextAt, IsRoomAt}
 use Rattle.log_groups.specs.group_servers.Helping.{AreSeatsAt}
 use Rattle.log_groups.specs.group_servers.Passes.{known_by}
-use Rattle.log_groups.specs.declared.groups.GroupPass.{GroupPass}
+use Rattle.log_groups.specs.group_calls.declared.groups.GroupPass.{GroupPass}
 use Rattle.log_groups.specs.declared.helpers.GroupHelpers.{GroupHelpers}
 use Rattle.log_groups.specs.declared.passes.GroupPasses.{GroupPasses}
 use Rattle.log_groups.specs.Dealing.{AreAllBack, AreGroupPassesOf, HasBack, HasNext, HasRoom, NoneIsOut, groups_out}
 use Rattle.log_groups.specs.Helpers.{AreHelpersOf, AreTwoEach}
-use Rattle.log_groups.specs.Passes.{known}
-use Rattle.log_groups.specs.Servers.{Servers}
+use Rattle.log_groups.specs.group_calls.Passes.{known}
+use Rattle.log_groups.specs.group_calls.Servers.{Servers}
 use Rattle.groups_run.specs.Ended.{HasEndedOf}
 use Rattle.groups_run.specs.Handing.{IsFreshAt, AreFresh, NoneIsBack, HaveBack, known_on}
 

@@ -11,7 +11,7 @@ use Rattle.server_model.specs.Closing.{Handled, AllRun, IsClosedRegion, Survives
 use Rattle.run_model.specs.Closed.{ClosedAt, ClosedOn, IsNameFor, FitsThroughout}
 use Rattle.run_model.proofs.Lists.{mapped}
 use Rattle.run_model.proofs.Moments.{fits_throughout}
-use Rattle.log_groups.specs.log_service.declared.name.ServiceNaming.{Ghosts as LogGhosts}
+use Rattle.log_groups.specs.log_service.log_halves.declared.name.ServiceNaming.{Ghosts as LogGhosts}
 use Rattle.log_groups.specs.log_service.Moments.{GoesOnFrom}
 use Rattle.log_groups.specs.region_calls.declared.naming.ServerNaming.{Ghosts as NameGhosts}
 use Rattle.log_groups.specs.region_calls.declared.store.OpenedStore.{OpenedStore}

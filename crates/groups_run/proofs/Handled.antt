@@ -26,10 +26,10 @@ use Rattle.script_run.specs.Ends.{first_of_all}
 use Rattle.groups_model.specs.Groups.{IsGroup, replies_on}
 use Rattle.groups_model.specs.Closed.{GroupHandled, all_replies, handled_on}
 use Rattle.log_groups.specs.group_servers.Passes.{known_by, HasHandlerAt, IsPassAt}
-use Rattle.log_groups.specs.declared.groups.GroupPass.{GroupPass}
-use Rattle.log_groups.specs.Passes.{known, IsGroupPassOf}
-use Rattle.log_groups.specs.Servers.{Servers}
-use Rattle.log_groups.specs.Serving.{MayCallEach, most_calls}
+use Rattle.log_groups.specs.group_calls.declared.groups.GroupPass.{GroupPass}
+use Rattle.log_groups.specs.group_calls.Passes.{known, IsGroupPassOf}
+use Rattle.log_groups.specs.group_calls.Servers.{Servers}
+use Rattle.log_groups.specs.group_calls.Serving.{MayCallEach, most_calls}
 use Rattle.groups_run.specs.Handing.{IsFreshAt, AreFresh, IsTaken, AreTaken, AllOfServers, known_on, lines_in, spent_in}
 use Rattle.groups_run.specs.Ran.{AllThere, AreReady, HasRun, HaveRun, AreHandled}
 use Rattle.groups_run.specs.Ended.{passes_on}

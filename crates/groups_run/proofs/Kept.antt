@@ -13,7 +13,7 @@ use Rattle.run_model.specs.Closed.{IsFound}
 use Rattle.run_model.specs.Headline.{KeepsFound, KeepsThroughout, MayKeep}
 use Rattle.run_model.proofs.Lists.{mapped, range_has}
 use Rattle.run_model.proofs.Moments.{HasStood}
-use Rattle.log_groups.specs.log_service.declared.name.ServiceNaming.{Ghosts as LogGhosts}
+use Rattle.log_groups.specs.log_service.log_halves.declared.name.ServiceNaming.{Ghosts as LogGhosts}
 use Rattle.log_groups.specs.region_calls.declared.naming.ServerNaming.{Ghosts as NameGhosts}
 use Rattle.log_groups.specs.region_calls.declared.store.OpenedStore.{OpenedStore}
 use Rattle.log_groups.specs.region_calls.declared.closed.ClosedRegion.{ClosedRegion}

@@ -6,7 +6,7 @@ use Rattle.server_model.specs.Steps.{Runs}
 use Rattle.groups_model.specs.Groups.{IsGroup, replies_on, GroupRuns}
 use Rattle.groups_model.proofs.Projected.{projected}
 use Rattle.log_groups.specs.script_handlers.Handled.{RunsBy}
-use Rattle.log_groups.specs.Serving.{GroupDoes}
+use Rattle.log_groups.specs.group_calls.Serving.{GroupDoes}
 
 -- the passes of all groups are this handler's
 abbrev pub AreOf : ℕ → ℕ → (ℕ → Pass) → Type 0

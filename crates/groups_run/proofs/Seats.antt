@@ -7,10 +7,11 @@ use Rattle.log_groups.specs.log_service.declared.seats.LogSeat.{LogSeat}
 use Rattle.log_groups.specs.log_service.Places.{ServiceId}
 use Rattle.log_groups.specs.handler_threads.Working.{HaveHelped}
 use Rattle.log_groups.specs.group_servers.Helping.{AreSeatsAt, seats_at}
-use Rattle.log_groups.specs.declared.helpers.GroupHelper.{GroupHelper}
+use Rattle.log_groups.specs.group_calls.declared.groups.GroupHelper.{GroupHelper}
 use Rattle.log_groups.specs.declared.helpers.GroupHelpers.{GroupHelpers}
-use Rattle.log_groups.specs.Helpers.{held, AreHelpersOf, AreTwoEach, IsHelperOf}
-use Rattle.log_groups.specs.Servers.{Servers}
+use Rattle.log_groups.specs.group_calls.Helpers.{IsHelperOf}
+use Rattle.log_groups.specs.Helpers.{held, AreHelpersOf, AreTwoEach}
+use Rattle.log_groups.specs.group_calls.Servers.{Servers}
 use Rattle.groups_run.specs.Seating.{AllHelp, groups_of, seats_of, times}
 
 pub help_each : (s : Servers) (hs : List GroupHelper) → AllHelp s hs → (i : ℕ) (d : GroupHelper) → i < length hs → IsHelperOf s (slice_index_or hs i d)

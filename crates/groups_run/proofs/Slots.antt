@@ -10,7 +10,7 @@ use Rattle.server_model.specs.Pass.{Pass}
 use Rattle.server_model.specs.Closing.{Handled, AllRun, passes_of, replies_of}
 use Rattle.run_model.specs.Closed.{ClosedOn, IsNameFor, FitsThroughout}
 use Rattle.run_model.specs.Headline.{KeepsThroughout}
-use Rattle.log_groups.specs.log_service.declared.name.ServiceNaming.{Ghosts as LogGhosts}
+use Rattle.log_groups.specs.log_service.log_halves.declared.name.ServiceNaming.{Ghosts as LogGhosts}
 use Rattle.log_groups.specs.log_service.Places.{ServiceId}
 use Rattle.log_groups.specs.region_calls.declared.naming.ServerNaming.{Ghosts as NameGhosts}
 use Rattle.log_groups.specs.region_calls.declared.store.OpenedStore.{OpenedStore}

@@ -3,7 +3,7 @@ use Rattle.std.specs.Prelude.{◌≡◌, ℕ, List, map, Option, Some, None}
 use Rattle.disk_images.specs.declared.disk.Disk.{Ghosts}
 use Rattle.script_model.specs.Calls.{Script}
 use Rattle.server_model.specs.Pass.{Pass, Naming}
-use Rattle.log_groups.specs.log_service.declared.name.ServiceNaming.{Ghosts as LogGhosts}
+use Rattle.log_groups.specs.log_service.log_halves.declared.name.ServiceNaming.{Ghosts as LogGhosts}
 use Rattle.log_groups.specs.region_calls.declared.naming.ServerNaming.{Ghosts as NameGhosts}
 use Rattle.log_groups.specs.region_lock.declared.naming.LockNaming.{Ghosts as LockGhosts}
 use Rattle.region_versions.specs.declared.naming.VersionsNaming.{Ghosts as VersionGhosts}
@@ -13,7 +13,7 @@ use Rattle.group_stores.specs.declared.lists.GroupList.{GroupList}
 use Rattle.log_groups.specs.group_servers.declared.shutting.ServerEnd.{ServerEnd}
 use Rattle.log_groups.specs.group_servers.Closing.{HasEnded}
 use Rattle.log_groups.specs.Closing.{IsJoined}
-use Rattle.log_groups.specs.Servers.{Servers}
+use Rattle.log_groups.specs.group_calls.Servers.{Servers}
 use Rattle.groups_run.specs.Ends.{lines_of}
 use Rattle.groups_run.specs.Ran.{AreHandled}
 use Rattle.groups_run.specs.declared.started.RunEnd.{RunEnd}

@@ -9,10 +9,10 @@ use Rattle.log_groups.specs.region_calls.Deals.{passes_back}
 use Rattle.log_groups.specs.region_calls.Passes.{knows}
 use Rattle.log_groups.specs.script_handlers.declared.handler.Handler.{Handler}
 use Rattle.script_run.specs.declared.room.CallRoom.{CallRoom}
-use Rattle.log_groups.specs.declared.groups.GroupPass.{GroupPass}
+use Rattle.log_groups.specs.group_calls.declared.groups.GroupPass.{GroupPass}
 use Rattle.log_groups.specs.declared.passes.GroupPasses.{GroupPasses}
-use Rattle.log_groups.specs.Passes.{known, IsGroupPassOf}
-use Rattle.log_groups.specs.Servers.{Servers}
+use Rattle.log_groups.specs.group_calls.Passes.{known, IsGroupPassOf}
+use Rattle.log_groups.specs.group_calls.Servers.{Servers}
 
 -- where there is such a pass, it is this handler's, and no call was made with it
 abbrev pub IsFreshAt : {N : Type 0} {g : Ghosts N} → ℕ → Option (Pass N g) → Type 0

@@ -9,10 +9,10 @@ use Rattle.log_groups.specs.script_handlers.Handled.{IsReady as IsReadyFor, HasR
 use Rattle.log_groups.specs.script_handlers.declared.handler.Handler.{Handler}
 use Rattle.groups_model.specs.Groups.{IsGroup}
 use Rattle.groups_model.specs.Closed.{GroupHandled, all_replies, handled_on}
-use Rattle.log_groups.specs.declared.groups.GroupPass.{GroupPass}
-use Rattle.log_groups.specs.Passes.{known, IsGroupPassOf}
-use Rattle.log_groups.specs.Servers.{Servers}
-use Rattle.log_groups.specs.Serving.{GroupDoes, MayCallEach, most_calls}
+use Rattle.log_groups.specs.group_calls.declared.groups.GroupPass.{GroupPass}
+use Rattle.log_groups.specs.group_calls.Passes.{known, IsGroupPassOf}
+use Rattle.log_groups.specs.group_calls.Servers.{Servers}
+use Rattle.log_groups.specs.group_calls.Serving.{GroupDoes, MayCallEach, most_calls}
 
 -- each group has a server
 pub record AllThere (s : Servers) : Type 0 where

@@ -3,7 +3,7 @@
 ghost use Rattle.std.specs.Prelude.{◌≡◌, ◌≤◌, [], map, vec_len, vec_capacity};
 ghost use Rattle.script_run.specs.Ends.{first_of_all};
 ghost use Rattle.log_groups.specs.Dealing.{AreGroupPassesOf, NoneIsOut, groups_out};
-ghost use Rattle.log_groups.specs.Servers.{Servers};
+ghost use Rattle.log_groups.specs.group_calls.Servers.{Servers};
 ghost use Rattle.groups_run.specs.Handing.{AreTaken, AllOfServers, NoneIsBack, HaveBack, lines_in, spent_in};
 
 use crate::spending::first_of;

@@ -1,7 +1,7 @@
 //! All handlers of a script on several servers.
 
 ghost use Rattle.std.specs.Prelude.{◌≡◌, ◌<◌, ◌^◌};
-ghost use Rattle.log_groups.specs.Passes.{named};
+ghost use Rattle.log_groups.specs.group_calls.Passes.{named};
 ghost use Rattle.log_groups.specs.handler_threads.Working.{AreReady as AllReady, AreSeats, HaveHelped, HaveWorked};
 ghost use Rattle.log_groups.specs.script_handlers.Handled.{IsReady as IsReadyFor, HasRun as HasRunFor};
 ghost use Rattle.groups_run.specs.Ran.{AreReady, HaveRun};

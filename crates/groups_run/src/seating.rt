@@ -2,7 +2,7 @@
 
 ghost use Rattle.std.specs.Prelude.{◌≡◌, ◌≤◌, ◌+◌, ℕ, [], vec_capacity};
 ghost use Rattle.log_groups.specs.Helpers.{held, AreHelpersOf};
-ghost use Rattle.log_groups.specs.Servers.{Servers};
+ghost use Rattle.log_groups.specs.group_calls.Servers.{Servers};
 ghost use Rattle.groups_run.specs.Seating.{AllHelp, seats_of};
 
 use log_groups::{GroupHelper, GroupHelpers};

@@ -9,7 +9,7 @@ ghost use Rattle.script_run.specs.Rooms.{AreRooms, script_in};
 ghost use Rattle.groups_model.specs.Groups.{IsGroup};
 ghost use Rattle.group_stores.specs.Lists.{count_of, mapped};
 ghost use Rattle.log_groups.specs.group_servers.Starting.{IsNamedBy, IsNamedAt};
-ghost use Rattle.log_groups.specs.Passes.{named};
+ghost use Rattle.log_groups.specs.group_calls.Passes.{named};
 ghost use Rattle.log_groups.specs.Starting.{AreAlike};
 ghost use Rattle.groups_run.specs.Found.{AreFound, views, found_views};
 ghost use Rattle.groups_run.specs.Ends.{AreServed, HaveCounts, disks_left};
@@ -22,7 +22,7 @@ use kv_cell::NoMemory;
 use log_groups::group_servers::disk_at;
 use log_groups::handler_threads::ServerName;
 use log_groups::region_calls::{Gate, OpenedStore};
-use log_groups::{Groups, GroupsClosed};
+use log_groups::{GroupsClosed, start_groups};
 use script_run::CallRoom;
 use std::alloc::Global;
 use std::sync::Wait;
@@ -91,7 +91,7 @@ pub fn serve_groups<
             };
         }
     };
-    let started = match Groups::<D, N1, N2, N3, N4, R>::start(rt, alloc, opened) {
+    let started = match start_groups::<D, N1, N2, N3, N4, R>(rt, alloc, opened) {
         Ok(started) => started,
         Err(
             GroupsRefusal {

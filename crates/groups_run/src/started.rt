@@ -6,7 +6,7 @@ ghost use Rattle.run_model.specs.Closed.{IsNameFor};
 ghost use Rattle.script_run.specs.Rooms.{AreRooms, script_in};
 ghost use Rattle.log_groups.specs.Dealing.{AreGroupPassesOf, NoneIsOut};
 ghost use Rattle.log_groups.specs.Helpers.{AreHelpersOf, AreTwoEach};
-ghost use Rattle.log_groups.specs.Passes.{named};
+ghost use Rattle.log_groups.specs.group_calls.Passes.{named};
 ghost use Rattle.groups_run.specs.Ended.{HaveEnded};
 ghost use Rattle.groups_run.specs.Ran.{AllThere};
 
@@ -18,7 +18,7 @@ use kv_cell::NoMemory;
 use log_groups::handler_threads::ServerName;
 use log_groups::region_calls::Gate;
 use log_groups::script_handlers::Handler;
-use log_groups::{GroupHelper, GroupPass, GroupsClosed, GroupsStarted};
+use log_groups::{GroupHelper, GroupPass, GroupsClosed, GroupsStarted, close_groups};
 use run_model::Spent;
 use script_calls::ReplyLines;
 use script_run::CallRoom;
@@ -110,7 +110,7 @@ pub fn run_started<
     run_on(rt, alloc, &groups, gate, time, &mut seats, &mut handlers);
     give_seats(seats, &mut helpers);
     let spent = give_back(handlers, &mut passes, &mut replies);
-    let closed = groups.close(rt, alloc, passes, helpers);
+    let closed = close_groups(groups, rt, alloc, passes, helpers);
     RunEnd {
         closed,
         replies,

@@ -11,10 +11,10 @@ use Rattle.hand_register.specs.contracts.desk.Desk as desks
 use Rattle.hand_register.specs.contracts.hand.Hand as hands
 use Rattle.log_berth.proofs.seats.LogSeat.TheSendSync as berth_seat
 use Rattle.region_calls.proofs.log_service_laws.Crossing.{item_send, service_sync}
-use Rattle.region_calls.specs.log_service.contracts.item.Item as item
+use Rattle.region_calls.specs.log_service.log_halves.contracts.item.Item as item
 use Rattle.region_calls.specs.log_service.contracts.seats.LogSeat as seats
 use Rattle.region_calls.specs.log_service.contracts.service.LogService as service
-use Rattle.region_calls.specs.log_service.declared.name.ServiceNaming.{Ghosts as LogGhosts}
+use Rattle.region_calls.specs.log_service.log_halves.declared.name.ServiceNaming.{Ghosts as LogGhosts}
 use Rattle.region_calls.specs.contracts.pass.Pass as pass
 use Rattle.region_calls.specs.contracts.server.Server as server
 use Rattle.region_calls.specs.declared.naming.ServerNaming.{Ghosts}

@@ -5,21 +5,21 @@ use Rattle.std.proofs.lemmas.List.FromFn.{length-range_with_len}
 use Rattle.std.specs.List.{range_with_len}
 use Rattle.std.specs.Global.{Vec}
 use Rattle.disk_images.specs.declared.disk.Disk.{Ghosts}
-use Rattle.group_servers.specs.log_service.declared.name.ServiceNaming.{Ghosts as LogGhosts}
-use Rattle.group_servers.specs.log_service.declared.seats.LogSeat.{LogSeat}
-use Rattle.group_servers.specs.log_service.Places.{ServiceId}
-use Rattle.group_servers.specs.region_calls.declared.closed.ClosedRegion.{ClosedRegion}
-use Rattle.group_servers.specs.region_calls.declared.naming.ServerNaming.{Ghosts as NameGhosts}
-use Rattle.group_servers.specs.region_calls.declared.passes.Passes.{Passes}
-use Rattle.group_servers.specs.region_calls.Deals.{passes_back}
-use Rattle.group_servers.specs.region_lock.declared.naming.LockNaming.{Ghosts as LockGhosts}
+use Rattle.group_calls.specs.log_service.log_halves.declared.name.ServiceNaming.{Ghosts as LogGhosts}
+use Rattle.group_calls.specs.log_service.declared.seats.LogSeat.{LogSeat}
+use Rattle.group_calls.specs.log_service.Places.{ServiceId}
+use Rattle.group_calls.specs.region_calls.declared.closed.ClosedRegion.{ClosedRegion}
+use Rattle.group_calls.specs.region_calls.declared.naming.ServerNaming.{Ghosts as NameGhosts}
+use Rattle.group_calls.specs.region_calls.declared.passes.Passes.{Passes}
+use Rattle.group_calls.specs.region_calls.Deals.{passes_back}
+use Rattle.group_calls.specs.region_lock.declared.naming.LockNaming.{Ghosts as LockGhosts}
 use Rattle.region_versions.specs.declared.naming.VersionsNaming.{Ghosts as VersionGhosts}
 use Rattle.server_model.specs.Pass.{Pass as ThePass}
 use Rattle.group_stores.specs.declared.lists.GroupList.{GroupList}
 use Rattle.group_stores.specs.Choosing.{AreAsMany}
-use Rattle.group_servers.specs.declared.shutting.ServerEnd.{ServerEnd}
-use Rattle.group_servers.specs.Closing.{EndsSo, HasEndedAt}
-use Rattle.group_servers.specs.Dealing.{AreBackAt}
+use Rattle.group_calls.specs.group_servers.declared.shutting.ServerEnd.{ServerEnd}
+use Rattle.group_calls.specs.group_servers.Closing.{EndsSo, HasEndedAt}
+use Rattle.group_calls.specs.group_servers.Dealing.{AreBackAt}
 use Rattle.log_groups.specs.Closing.{regions_in}
 
 numbered : (n : ℕ) (cs : List ClosedRegion) → map (λ (x : ClosedRegion). x.region) cs ≡ range_with_len 1 n → length cs ≡ n

@@ -1,9 +1,10 @@
 -- The passes of all servers are handed out evenly.
-use Rattle.std.proofs.Common.{◌≡◌, ℕ, ◌+◌, ◌<◌, Option, Some, None, sym, arith, ◌∙◌}
-use Rattle.group_servers.specs.region_calls.declared.pass.Pass.{Pass}
-use Rattle.group_servers.specs.region_calls.declared.passes.Passes.{Passes}
-use Rattle.group_servers.specs.region_lock.declared.naming.LockNaming.{Ghosts}
-use Rattle.group_servers.specs.Dealing.{IsLeftAt, IsNextAt, IsBackAt, IsEvenAt}
+use Rattle.std.proofs.Common.{◌≡◌, ℕ, ◌+◌, ◌<◌, Option, Some, None, sym, ap, arith, ◌∙◌}
+use Rattle.group_calls.specs.region_calls.declared.pass.Pass.{Pass}
+use Rattle.group_calls.specs.region_calls.declared.passes.Passes.{Passes}
+use Rattle.group_calls.specs.region_lock.declared.naming.LockNaming.{Ghosts}
+use Rattle.group_calls.specs.group_servers.Dealing.{IsLeftAt, IsNextAt, IsBackAt, IsEvenAt}
+use Rattle.group_calls.specs.group_servers.Passes.{HasHandlerAt}
 
 module _ {N : Type 0} {g : Ghosts N} where
   -- evenly handed out: one is left where the first server has one
@@ -32,3 +33,11 @@ module _ {N : Type 0} {g : Ghosts N} where
   pub even_same : (h these out next : ℕ) (p : Option (Passes N g)) → IsEvenAt h out these p → next ≡ out → IsEvenAt h next these p
   even_same h these out next None even is = tt
   even_same h these out next (Some p) even is = (even.0, even.1 ∙ sym is)
+
+  -- the next handler's is handed out
+  pub handed_out : (h these out handler : ℕ) (p : Option (Passes N g)) (r : Option (Pass N g)) (q : Option (Passes N g)) → IsEvenAt h out these p → IsNextAt p r q
+      → handler ≡ out + 1 → HasHandlerAt handler r
+  handed_out h these out handler p None q even step is = tt
+  handed_out h these out handler None (Some x) q even step is = absurd step
+  handed_out h these out handler (Some p) (Some x) None even step is = absurd step
+  handed_out h these out handler (Some p) (Some x) (Some q) even step is = step.fresh.handler ∙ ap (λ (n : ℕ). n + 1) even.1 ∙ sym is

@@ -1,9 +1,9 @@
 -- How many seats of each group are not handed out.
 use Rattle.std.proofs.Common.{◌≡◌, ◌≢◌, ℕ, zero, suc, List, length, Option, Some, None, refl}
-use Rattle.group_servers.specs.log_service.declared.seats.LogSeat.{LogSeat}
-use Rattle.group_servers.specs.log_service.Places.{ServiceId}
+use Rattle.group_calls.specs.log_service.declared.seats.LogSeat.{LogSeat}
+use Rattle.group_calls.specs.log_service.Places.{ServiceId}
 use Rattle.log_groups.specs.declared.helpers.GroupHelpers.{GroupHelpers}
-use Rattle.group_servers.specs.Helping.{seats_at, AreSeatsAt, IsSeatAt}
+use Rattle.group_calls.specs.group_servers.Helping.{seats_at, AreSeatsAt, IsSeatAt}
 use Rattle.log_groups.specs.Helpers.{held}
 
 -- those of the other groups stay

@@ -1,11 +1,11 @@
 -- The regions of several ends, put together.
 use Rattle.std.proofs.Common.{◌≡◌, ℕ, Option, Some, None, IfSome, IfNone, length, option_map, refl, sym, subst}
 use Rattle.std.specs.Global.{Vec}
-use Rattle.group_servers.specs.region_calls.declared.closed.ClosedRegion.{ClosedRegion}
+use Rattle.group_calls.specs.region_calls.declared.closed.ClosedRegion.{ClosedRegion}
 use Rattle.group_stores.specs.declared.lists.GroupList.{GroupList}
 use Rattle.group_stores.specs.Choosing.{AreAsMany, AreChosen}
 use Rattle.group_stores.specs.Lists.{at_group}
-use Rattle.group_servers.specs.declared.shutting.ServerEnd.{ServerEnd}
+use Rattle.group_calls.specs.group_servers.declared.shutting.ServerEnd.{ServerEnd}
 use Rattle.log_groups.specs.Closing.{regions_in}
 
 module _ {D : Type 0} (ends : GroupList (ServerEnd D)) (second third fourth : Option (Option (Vec ClosedRegion)))

@@ -1,22 +1,20 @@
 -- Servers of opened stores.
 use Rattle.std.proofs.Common.{◌≡◌, ◌≢◌, ℕ, ◌<◌, ◌≤◌, List, [], length, Option, Some, None, IfSome, sym, subst, ◌∙◌, arith, option_map}
-use Rattle.group_servers.specs.log_service.declared.seats.LogSeat.{LogSeat}
-use Rattle.group_servers.specs.log_service.Places.{ServiceId}
-use Rattle.group_servers.specs.region_calls.declared.passes.Passes.{Passes}
-use Rattle.group_servers.specs.region_calls.Deals.{passes_out, passes_back}
+use Rattle.group_calls.specs.log_service.declared.seats.LogSeat.{LogSeat}
+use Rattle.group_calls.specs.log_service.Places.{ServiceId}
+use Rattle.group_calls.specs.region_calls.declared.passes.Passes.{Passes}
+use Rattle.group_calls.specs.region_calls.Deals.{passes_out, passes_back}
 use Rattle.disk_images.specs.declared.disk.Disk.{Ghosts}
-use Rattle.group_servers.specs.log_service.declared.name.ServiceNaming.{Ghosts as LogGhosts}
-use Rattle.group_servers.specs.region_calls.declared.naming.ServerNaming.{Ghosts as NameGhosts}
-use Rattle.group_servers.specs.region_calls.declared.store.OpenedStore.{OpenedStore}
-use Rattle.group_servers.specs.region_calls.Store.{disk_now, handlers_of}
-use Rattle.group_servers.specs.region_lock.declared.naming.LockNaming.{Ghosts as LockGhosts}
+use Rattle.group_calls.specs.log_service.log_halves.declared.name.ServiceNaming.{Ghosts as LogGhosts}
+use Rattle.group_calls.specs.region_calls.declared.naming.ServerNaming.{Ghosts as NameGhosts}
+use Rattle.group_calls.specs.region_calls.declared.store.OpenedStore.{OpenedStore}
+use Rattle.group_calls.specs.region_calls.Store.{disk_now, handlers_of}
+use Rattle.group_calls.specs.region_lock.declared.naming.LockNaming.{Ghosts as LockGhosts}
 use Rattle.region_versions.specs.declared.naming.VersionsNaming.{Ghosts as VersionGhosts}
-use Rattle.group_stores.specs.Lists.{AtBoth, counted}
-use Rattle.group_stores.proofs.Each.{some_count, count_second, count_third, count_fourth}
-use Rattle.group_servers.specs.Dealing.{ArePassesAt, IsEvenAt}
-use Rattle.group_servers.specs.Helping.{AreSeatsAt}
-use Rattle.group_servers.specs.Starting.{IsNamedAt, IsNewAt, HasLetGo, HasLetGoAt}
-use Rattle.log_groups.specs.Servers.{AreServers}
+use Rattle.group_stores.specs.Lists.{AtBoth}
+use Rattle.group_calls.specs.group_servers.Dealing.{ArePassesAt, IsEvenAt}
+use Rattle.group_calls.specs.group_servers.Helping.{AreSeatsAt}
+use Rattle.group_calls.specs.group_servers.Starting.{IsNamedAt, IsNewAt, HasLetGo, HasLetGoAt}
 use Rattle.log_groups.specs.Starting.{IsAlike, HeldOrLetGo, HeldOrLetGoAt}
 
 pub map_some_there : {A B : Type 0} (f : A → B) (o : Option A) (d : B) → option_map f o ≡ Some d → o ≢ None
@@ -29,18 +27,6 @@ both_mapped P Q f then None None both = tt
 both_mapped P Q f then None (Some y) both = absurd both
 both_mapped P Q f then (Some x) None both = absurd both
 both_mapped P Q f then (Some x) (Some y) both = then x y both
-
--- as many servers as are counted
-pub servers_there : (count : ℕ) (second third fourth : Option ServiceId) → count ≡ counted second third fourth → AreServers count second third fourth
-servers_there count second third fourth is =
-    let some = some_count second third fourth in
-    record {
-      some = (omega (arith, some.0, is), omega (arith, some.1, is));
-      second_there = λ low. count_second second third fourth (omega (arith, low, is));
-      third_there = λ low. count_third second third fourth (omega (arith, low, is));
-      fourth_there = λ low. count_fourth second third fourth (omega (arith, low, is));
-      counted_are = is;
-    }
 
 module _ {D N : Type 0} (f : Ghosts D) (s : NameGhosts N) (g : LockGhosts N) (l : LogGhosts N) (v : VersionGhosts N) where
   -- each server that is there has the first one's handlers

@@ -1,14 +1,14 @@
 -- What the closes of several servers leave.
 use Rattle.std.specs.Prelude.{◌≡◌, ℕ, Bool, false, ◌||◌, Option, Some, None, IfSome, IfNone}
 use Rattle.std.specs.Global.{Vec}
-use Rattle.group_servers.specs.region_calls.declared.closed.ClosedRegion.{ClosedRegion}
+use Rattle.group_calls.specs.region_calls.declared.closed.ClosedRegion.{ClosedRegion}
 use Rattle.server_model.specs.Pass.{Naming}
 use Rattle.group_stores.specs.declared.lists.GroupList.{GroupList}
 use Rattle.group_stores.specs.Choosing.{AreChosen}
 use Rattle.group_stores.specs.Lists.{at_group, mapped}
-use Rattle.group_servers.specs.declared.shutting.ServerEnd.{ServerEnd}
+use Rattle.group_calls.specs.group_servers.declared.shutting.ServerEnd.{ServerEnd}
 use Rattle.log_groups.specs.declared.closing.GroupsClosed.{GroupsClosed}
-use Rattle.log_groups.specs.Servers.{Servers}
+use Rattle.group_calls.specs.Servers.{Servers}
 
 module _ {D : Type 0} where
   abbrev pub is_broken : Option (ServerEnd D) → Bool

@@ -1,13 +1,13 @@
 -- The passes of several servers that no handler has.
 use Rattle.std.specs.Prelude.{◌≡◌, ℕ, ◌<◌, [], length, IfSome}
-use Rattle.group_servers.specs.region_lock.declared.naming.LockNaming.{Ghosts}
-use Rattle.group_servers.specs.region_calls.Backs.{AllBack}
-use Rattle.group_servers.specs.region_calls.Deals.{passes_out, passes_back, ArePassesOf}
-use Rattle.group_servers.specs.Dealing.{ArePassesAt, AreBackAt, IsBack, IsBackAt, IsEvenAt, IsNext, IsNextAt, IsRoomAt}
-use Rattle.log_groups.specs.declared.groups.GroupPass.{GroupPass}
+use Rattle.group_calls.specs.region_lock.declared.naming.LockNaming.{Ghosts}
+use Rattle.group_calls.specs.region_calls.Backs.{AllBack}
+use Rattle.group_calls.specs.region_calls.Deals.{passes_out, passes_back, ArePassesOf}
+use Rattle.group_calls.specs.group_servers.Dealing.{ArePassesAt, AreBackAt, IsBack, IsBackAt, IsEvenAt, IsNext, IsNextAt, IsRoomAt}
+use Rattle.group_calls.specs.declared.groups.GroupPass.{GroupPass}
 use Rattle.log_groups.specs.declared.helpers.GroupHelpers.{GroupHelpers}
 use Rattle.log_groups.specs.declared.passes.GroupPasses.{GroupPasses}
-use Rattle.log_groups.specs.Servers.{Servers}
+use Rattle.group_calls.specs.Servers.{Servers}
 
 module _ {N1 N2 N3 N4 : Type 0} {g1 : Ghosts N1} {g2 : Ghosts N2} {g3 : Ghosts N3} {g4 : Ghosts N4} where
   -- for how many handlers passes were handed out

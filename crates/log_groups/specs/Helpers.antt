@@ -1,14 +1,9 @@
 -- The seats of the threads that help groups' logs.
 use Rattle.std.specs.Prelude.{◌≡◌, ℕ, zero, suc, length, IfSome}
-use Rattle.group_servers.specs.region_calls.Deals.{AreSeatsOf}
-use Rattle.group_servers.specs.Helping.{seats_at, AreSeatsAt, IsSeatAt}
-use Rattle.log_groups.specs.declared.helpers.GroupHelper.{GroupHelper}
+use Rattle.group_calls.specs.region_calls.Deals.{AreSeatsOf}
+use Rattle.group_calls.specs.group_servers.Helping.{seats_at, AreSeatsAt}
 use Rattle.log_groups.specs.declared.helpers.GroupHelpers.{GroupHelpers}
-use Rattle.log_groups.specs.Servers.{Servers, server_at}
-
--- the helper's seat is of its group's server
-abbrev pub IsHelperOf : Servers → GroupHelper → Type 0
-IsHelperOf s helper = IsSeatAt (server_at s helper.group) helper.seat
+use Rattle.group_calls.specs.Servers.{Servers}
 
 -- how many seats of a group are not handed out
 abbrev pub held : GroupHelpers → ℕ → ℕ

@@ -2,16 +2,16 @@
 use Rattle.std.specs.Prelude.{◌≡◌, ℕ, ◌<◌, ◌≤◌, Option, IfSome}
 use Rattle.std.specs.Option.{option_map}
 use Rattle.disk_images.specs.declared.disk.Disk.{Ghosts}
-use Rattle.group_servers.specs.log_service.declared.name.ServiceNaming.{Ghosts as LogGhosts}
-use Rattle.group_servers.specs.region_calls.declared.naming.ServerNaming.{Ghosts as NameGhosts}
-use Rattle.group_servers.specs.region_calls.declared.store.OpenedStore.{OpenedStore}
-use Rattle.group_servers.specs.region_calls.Store.{disk_now, regions_of, handlers_of}
-use Rattle.group_servers.specs.region_lock.declared.naming.LockNaming.{Ghosts as LockGhosts}
+use Rattle.group_calls.specs.log_service.log_halves.declared.name.ServiceNaming.{Ghosts as LogGhosts}
+use Rattle.group_calls.specs.region_calls.declared.naming.ServerNaming.{Ghosts as NameGhosts}
+use Rattle.group_calls.specs.region_calls.declared.store.OpenedStore.{OpenedStore}
+use Rattle.group_calls.specs.region_calls.Store.{disk_now, regions_of, handlers_of}
+use Rattle.group_calls.specs.region_lock.declared.naming.LockNaming.{Ghosts as LockGhosts}
 use Rattle.region_versions.specs.declared.naming.VersionsNaming.{Ghosts as VersionGhosts}
 use Rattle.group_stores.specs.declared.lists.GroupList.{GroupList}
 use Rattle.group_stores.specs.Lists.{AtBoth, count_of}
-use Rattle.group_servers.specs.Starting.{HasRegionsOf, HasLetGo, HasLetGoAt}
-use Rattle.log_groups.specs.Servers.{Servers}
+use Rattle.group_calls.specs.group_servers.Starting.{HasRegionsOf, HasLetGo, HasLetGoAt}
+use Rattle.group_calls.specs.Servers.{Servers}
 
 module _ {D N : Type 0} (f : Ghosts D) (s : NameGhosts N) (g : LockGhosts N) (l : LogGhosts N) (v : VersionGhosts N) where
   -- The store of number k, where the one of number n was refused: it is as it was opened, or its server was let go before anybody called it.

@@ -2,21 +2,21 @@
 
 ghost use Rattle.std.specs.Prelude.{◌≡◌, ◌≤◌, ◌||◌, IfSome, length};
 ghost use Rattle.std.specs.Option.{option_map};
-ghost use Rattle.group_servers.specs.region_calls.Deals.{passes_back};
+ghost use Rattle.group_calls.specs.region_calls.Deals.{passes_back};
 ghost use Rattle.group_stores.specs.Choosing.{AreAsMany};
 ghost use Rattle.group_stores.specs.declared.lists.GroupList.{GroupList as TheList};
-ghost use Rattle.group_servers.specs.Closing.{HasEnded, HasEndedAt};
-ghost use Rattle.group_servers.specs.declared.shutting.ServerEnd.{ServerEnd as TheEnd};
+ghost use Rattle.group_calls.specs.group_servers.Closing.{HasEnded, HasEndedAt};
+ghost use Rattle.group_calls.specs.group_servers.declared.shutting.ServerEnd.{ServerEnd as TheEnd};
 ghost use Rattle.log_groups.specs.Closing.{HaveSameRegions, IsJoined, is_broken, regions_in};
 ghost use Rattle.log_groups.specs.Dealing.{AreAllBack};
 
-use crate::groups::Groups;
 use crate::helpers::GroupHelpers;
 use crate::passes::GroupPasses;
 use disk_images::Disk;
-use group_servers::handler_threads::ServerName;
-use group_servers::region_calls::ClosedRegion;
-use group_servers::{ServerEnd, close_at, close_one};
+use group_calls::Groups;
+use group_calls::group_servers::{ServerEnd, close_at, close_one};
+use group_calls::handler_threads::ServerName;
+use group_calls::region_calls::ClosedRegion;
 use group_stores::{GroupList, choose};
 use std::alloc::Global;
 use std::sync::Wait;
@@ -88,65 +88,57 @@ fn join<D>(count: u32, ends: GroupList<ServerEnd<D>>) -> GroupsClosed<D>
     }
 }
 
-impl<'a, D: Disk, N1: ServerName, N2: ServerName, N3: ServerName, N4: ServerName, R: Wait> Groups<
+/// Closes the servers, once all passes and seats are back: each commits what is left, unless its log is broken. It gives the disks, and each
+/// region's journal as its own group's server has it, with the words of its log. A server that finds no memory gives its disk alone. Where what a
+/// pass knows doesn't meet in a region, which no run shows, it does not return.
+pub fn close_groups<
     'a,
-    D,
-    N1,
-    N2,
-    N3,
-    N4,
-    R,
-> {
-    /// Closes the servers, once all passes and seats are back: each commits what is left, unless its log is broken. It gives the disks, and each
-    /// region's journal as its own group's server has it, with the words of its log. A server that finds no memory gives its disk alone. Where what a
-    /// pass knows doesn't meet in a region, which no run shows, it does not return.
-    pub fn close<S: Wait>(
-        self,
-        rt: &S,
-        alloc: Global,
-        passes: GroupPasses<N1, N2, N3, N4>,
-        helpers: GroupHelpers,
-    ) -> GroupsClosed<D>
-        requires back { AreAllBack self N1.handlers N2.handlers N3.handlers N4.handlers passes helpers }
-        requires regions { HaveSameRegions N1.name N2.name N3.name N4.name self }
+    D: Disk,
+    N1: ServerName,
+    N2: ServerName,
+    N3: ServerName,
+    N4: ServerName,
+    R: Wait,
+    S: Wait,
+>(
+    groups: Groups<'a, D, N1, N2, N3, N4, R>,
+    rt: &S,
+    alloc: Global,
+    passes: GroupPasses<N1, N2, N3, N4>,
+    helpers: GroupHelpers,
+) -> GroupsClosed<D>
+    requires back { AreAllBack groups N1.handlers N2.handlers N3.handlers N4.handlers passes helpers }
+    requires regions { HaveSameRegions N1.name N2.name N3.name N4.name groups }
 
-        // Each server was closed, or gave its disk; and of what they left this is made.
-        ensures { (ends : TheList (TheEnd D)) × IsJoined self.entry.count ends result
-            × HasEnded D.Disk N1.ServerNaming N1.LockNaming N1.ServiceNaming N1.VersionsNaming (passes_back passes.first) ends.first
-            × HasEndedAt D.Disk N2.ServerNaming N2.LockNaming N2.ServiceNaming N2.VersionsNaming passes.second ends.second
-            × HasEndedAt D.Disk N3.ServerNaming N3.LockNaming N3.ServiceNaming N3.VersionsNaming passes.third ends.third
-            × HasEndedAt D.Disk N4.ServerNaming N4.LockNaming N4.ServiceNaming N4.VersionsNaming passes.fourth ends.fourth }
-    {
-        let Groups {
-            first,
-            second,
-            third,
-            fourth,
-            count,
-            rt: _,
-        } = self;
-        let GroupPasses {
-            first: passes,
-            second: passes_2,
-            third: passes_3,
-            fourth: passes_4,
-        } = passes;
-        let GroupHelpers {
-            first: helpers,
-            second: helpers_2,
-            third: helpers_3,
-            fourth: helpers_4,
-        } = helpers;
-        let first = close_one(first, rt, alloc, passes, helpers);
-        let second = close_at(second, rt, alloc, passes_2, helpers_2);
-        let third = close_at(third, rt, alloc, passes_3, helpers_3);
-        let fourth = close_at(fourth, rt, alloc, passes_4, helpers_4);
-        let ends = GroupList {
-            first,
-            second,
-            third,
-            fourth,
-        };
-        join(count, ends)
-    }
+    // Each server was closed, or gave its disk; and of what they left this is made.
+    ensures { (ends : TheList (TheEnd D)) × IsJoined groups.entry.count ends result
+        × HasEnded D.Disk N1.ServerNaming N1.LockNaming N1.ServiceNaming N1.VersionsNaming (passes_back passes.first) ends.first
+        × HasEndedAt D.Disk N2.ServerNaming N2.LockNaming N2.ServiceNaming N2.VersionsNaming passes.second ends.second
+        × HasEndedAt D.Disk N3.ServerNaming N3.LockNaming N3.ServiceNaming N3.VersionsNaming passes.third ends.third
+        × HasEndedAt D.Disk N4.ServerNaming N4.LockNaming N4.ServiceNaming N4.VersionsNaming passes.fourth ends.fourth }
+{
+    let (count, first, second, third, fourth) = groups.into_parts();
+    let GroupPasses {
+        first: passes,
+        second: passes_2,
+        third: passes_3,
+        fourth: passes_4,
+    } = passes;
+    let GroupHelpers {
+        first: helpers,
+        second: helpers_2,
+        third: helpers_3,
+        fourth: helpers_4,
+    } = helpers;
+    let first = close_one(first, rt, alloc, passes, helpers);
+    let second = close_at(second, rt, alloc, passes_2, helpers_2);
+    let third = close_at(third, rt, alloc, passes_3, helpers_3);
+    let fourth = close_at(fourth, rt, alloc, passes_4, helpers_4);
+    let ends = GroupList {
+        first,
+        second,
+        third,
+        fourth,
+    };
+    join(count, ends)
 }

@@ -1,18 +1,13 @@
 //! The seats of the threads that help the groups' logs.
 
 ghost use Rattle.std.specs.Prelude.{◌≡◌, ◌≢◌, ◌<◌, ◌+◌, ℕ, IfSome, IfNone};
-ghost use Rattle.log_groups.specs.Helpers.{held, AreHelpersOf, IsHelperOf};
-ghost use Rattle.log_groups.specs.Servers.{Servers};
+ghost use Rattle.group_calls.specs.Helpers.{IsHelperOf};
+ghost use Rattle.group_calls.specs.Servers.{Servers};
+ghost use Rattle.log_groups.specs.Helpers.{held, AreHelpersOf};
 
-use group_servers::region_calls::{Helpers, LogSeat};
-use group_servers::{next_seat_at, put_seat_back_at};
-
-/// A seat for a thread that helps a group's log.
-#[derive(Drop)]
-pub struct GroupHelper {
-    pub(crate) group: u32,
-    pub(crate) seat: LogSeat,
-}
+use group_calls::GroupHelper;
+use group_calls::group_servers::{next_seat_at, put_seat_back_at};
+use group_calls::region_calls::Helpers;
 
 /// The seats that are not handed out: at first two of each group.
 #[derive(Drop)]

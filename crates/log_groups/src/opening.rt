@@ -1,13 +1,13 @@
 //! Several stores are opened as groups.
 
 ghost use Rattle.std.specs.Prelude.{◌≡◌, ◌≤◌, IsTrue, IfOk, IfErr, OnOk};
-ghost use Rattle.group_servers.specs.Beginning.{IsOpened, disks_left};
+ghost use Rattle.group_calls.specs.group_servers.Beginning.{IsOpened, disks_left};
 ghost use Rattle.group_stores.specs.Lists.{AtEach, count_of};
 ghost use Rattle.group_stores.specs.Refusals.{GoesOn, HaveNoOthers, AreRefused};
 
 use disk_images::Disk;
-use group_servers::begin_each;
-use group_servers::region_calls::OpenedStore;
+use group_calls::group_servers::begin_each;
+use group_calls::region_calls::OpenedStore;
 use group_stores::{GroupList, GroupsRefusal, recover_groups};
 use std::alloc::Global;
 

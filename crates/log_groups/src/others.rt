@@ -2,14 +2,14 @@
 
 ghost use Rattle.std.specs.Prelude.{◌≡◌, ◌≢◌, ◌<◌, None, IfOk, IfErr, IfSome};
 ghost use Rattle.group_stores.specs.Lists.{AtBoth, at_group};
-ghost use Rattle.group_servers.specs.Starting.{HasRegionsOf, IsNamedAt, IsNew};
+ghost use Rattle.group_calls.specs.group_servers.Starting.{HasRegionsOf, IsNamedAt, IsNew};
 ghost use Rattle.log_groups.specs.Starting.{HeldOrLetGoAt};
-ghost use Rattle.group_servers.specs.region_calls.declared.store.OpenedStore.{OpenedStore as TheStore};
+ghost use Rattle.group_calls.specs.region_calls.declared.store.OpenedStore.{OpenedStore as TheStore};
 
 use disk_images::Disk;
-use group_servers::handler_threads::ServerName;
-use group_servers::region_calls::{OpenedStore, Started};
-use group_servers::{disk_at, let_go_at, start_at};
+use group_calls::group_servers::{disk_at, let_go_at, start_at};
+use group_calls::handler_threads::ServerName;
+use group_calls::region_calls::{OpenedStore, Started};
 use std::alloc::Global;
 use std::sync::Wait;
 

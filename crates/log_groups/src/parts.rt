@@ -2,11 +2,11 @@
 
 ghost use Rattle.std.specs.Prelude.{◌≡◌, IfSome};
 ghost use Rattle.std.specs.Option.{option_map};
-ghost use Rattle.group_servers.specs.Starting.{IsNew, IsNewAt};
+ghost use Rattle.group_calls.specs.group_servers.Starting.{IsNew, IsNewAt};
 
 use disk_images::Disk;
-use group_servers::handler_threads::ServerName;
-use group_servers::region_calls::{Helpers, Passes, Server, Started};
+use group_calls::handler_threads::ServerName;
+use group_calls::region_calls::{Helpers, Passes, Server, Started};
 use std::sync::Wait;
 
 /// The server, its passes and its seats, of a group that is there.

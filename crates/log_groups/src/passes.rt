@@ -2,13 +2,13 @@
 
 ghost use Rattle.std.specs.Prelude.{◌≡◌, ◌<◌, IfSome, IfNone};
 ghost use Rattle.log_groups.specs.Dealing.{AreGroupPassesOf, HasRoom, HasNext, HasBack, groups_out};
-ghost use Rattle.log_groups.specs.Passes.{IsGroupPassOf};
-ghost use Rattle.log_groups.specs.Servers.{Servers};
+ghost use Rattle.group_calls.specs.Passes.{IsGroupPassOf};
+ghost use Rattle.group_calls.specs.Servers.{Servers};
 
-use crate::groups::GroupPass;
-use group_servers::handler_threads::ServerName;
-use group_servers::region_calls::Passes;
-use group_servers::{next_at, put_back_at};
+use group_calls::GroupPass;
+use group_calls::group_servers::{next_at, put_back_at};
+use group_calls::handler_threads::ServerName;
+use group_calls::region_calls::Passes;
 
 /// The passes that no handler has: those that are not handed out yet, in parts, and those that are back.
 #[derive(Drop)]

@@ -23,9 +23,9 @@ use Rattle.append_ring.specs.Rules.{base_of, of}
 use Rattle.append_ring.specs.Parts.{EachThere, IsEqual}
 use Rattle.append_ring.proofs.Places.{each_at}
 use Rattle.log_berth.specs.Words.{NoMore}
-use Rattle.log_service.specs.declared.item.Item.{Item}
-use Rattle.log_service.specs.Items.{region_of, appended}
-use Rattle.log_service.specs.Numbers.{told_numbers, AreStoredSynced}
+use Rattle.log_halves.specs.declared.item.Item.{Item}
+use Rattle.log_halves.specs.Items.{region_of, appended}
+use Rattle.log_halves.specs.Numbers.{told_numbers, AreStoredSynced}
 use Rattle.log_service.proofs.Numbers.{synced_low, stored_low, closed_low}
 use Rattle.log_trucks.specs.Held.{Held, AreHeld}
 use Rattle.log_ledger.specs.History.{History}
@@ -34,9 +34,9 @@ use Rattle.log_device.specs.declared.device.Device.{Device}
 use Rattle.log_device.specs.Leaves.{Leaves}
 use Rattle.log_device.specs.Whole.{numbers_of, IsBroken}
 use Rattle.log_device.proofs.Leaving.{leaves}
-use Rattle.log_service.specs.Trucks.{FollowFrom, of_held}
-use Rattle.log_service.specs.Order.{follow_front}
-use Rattle.log_service.specs.Halves.{BeganWith, Stands, Fell, RecoversHeld}
+use Rattle.log_halves.specs.Trucks.{FollowFrom, of_held}
+use Rattle.log_halves.specs.Order.{follow_front}
+use Rattle.log_halves.specs.Halves.{BeganWith, Stands, Fell, RecoversHeld}
 use Rattle.log_service.specs.Closed.{Image, Commits, CommitsRegion, CommitsSince, Pushed, synced_in, stored_in, closed_in}
 use Rattle.log_service.proofs.PushedLaws.{appended_of, held_region, of_held-append, count_last, image_of}
 

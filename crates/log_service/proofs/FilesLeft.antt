@@ -30,13 +30,13 @@ use Rattle.log_device.specs.declared.device.Device.{Device}
 use Rattle.log_device.specs.Keeps.{log_name}
 use Rattle.log_device.specs.Whole.{IsBroken}
 use Rattle.log_device.proofs.Bearing.{sound_by}
-use Rattle.log_service.specs.Trucks.{FollowFrom}
-use Rattle.log_service.specs.Order.{follow_front}
-use Rattle.log_service.specs.Halves.{BeganWith, AreNumbersUpTo, BearsFew, Stands, Fell, RecoversHeld}
+use Rattle.log_halves.specs.Trucks.{FollowFrom}
+use Rattle.log_halves.specs.Order.{follow_front}
+use Rattle.log_halves.specs.Halves.{BeganWith, AreNumbersUpTo, BearsFew, Stands, Fell, RecoversHeld}
 use Rattle.log_service.specs.Closed.{LeavesFiles}
-use Rattle.log_service.specs.Moments.{OthersSince}
-use Rattle.log_service.proofs.Bounds.{last_low, held_entry, held_few, left_most}
-use Rattle.log_service.proofs.Tied.{bears_now}
+use Rattle.log_halves.specs.Moments.{OthersSince}
+use Rattle.log_halves.proofs.Bounds.{last_low, held_entry, held_few, left_most}
+use Rattle.log_halves.proofs.Tied.{bears_now}
 
 -- files that recover with entries of other regions recover alike
 alike_with : (found J : Files) (more : List Entry) (r last : ℕ) → IsFit J → RecoversWith found more J → LastsWith found more J → IsLast found r last → ((e : Entry) → Contains more e → e.region ≡ r → ⊥) → RecoversAlike found J r

@@ -1,19 +1,10 @@
+pub use Rattle.log_halves.proofs.Committed as Committed
 pub mod Numbers
 pub mod Sees
-pub mod Chains
-pub mod ItemLaws
-pub mod Raised
-pub mod Staged
-pub mod Committed
 pub mod SeatLaws
-pub mod Beginning
 pub mod PushedLaws
 pub mod CloseLaws
-pub mod Tied
-pub mod Elapsed
 pub mod IdlePasses
 pub mod Popped
-pub mod Bounds
 pub mod FilesLeft
 pub mod Crossing
-pub mod Stored

@@ -1,38 +1,19 @@
--- What is popped from the ring of chains, and from both rings at the close.
+-- What is popped from both rings at the close.
 use Rattle.std.proofs.Common.{◌≡◌, ◌-◌, ℕ, suc, List, [], ◌∷◌, ◌++◌, refl, sym, ap, ◌∙◌, subst, arith}
-use Rattle.std.specs.Prelude.{Option, Some, None, MatchOption, slice_get, slice_set}
+use Rattle.std.specs.Prelude.{Option, Some, None, slice_get, slice_set}
 use Rattle.std.proofs.Props.{props}
 use Rattle.std.proofs.Math.Logic.{∥∥₁_map, ∥∥₁_elim}
 use Rattle.std.proofs.lemmas.List.{append-nil}
 use Rattle.atomic_table.specs.Seated.{TableId}
-use Rattle.append_ring.specs.declared.knows.Knows.{Knows}
 use Rattle.append_ring.specs.declared.pass.RingKey.{RingKey}
 use Rattle.crossbeam_queue.specs.Passes.{view}
-use Rattle.append_ring.specs.Rules.{HasPopped, of}
+use Rattle.append_ring.specs.Rules.{of}
 use Rattle.append_ring.specs.Parts.{EachThere, AreNew, AreNewAfter}
 use Rattle.log_trucks.specs.Held.{Held}
-use Rattle.log_service.specs.declared.item.Item.{Item}
-use Rattle.log_service.specs.Items.{appended, held_in}
-use Rattle.log_service.specs.Trucks.{AreSpelled}
-use Rattle.log_service.specs.Chains.{all_trucks, IsWholeChain, AreInOrder}
-use Rattle.log_service.proofs.ItemLaws.{all_with}
-use Rattle.log_service.proofs.Committed.{of_all}
-
--- at most one chain more was popped
-pub record PoppedMore (v w : Knows (List Held)) : Type 0 where
-  pub more : List Held
-  pub spelled : AreSpelled more
-  pub all : all_trucks w.popped ≡ all_trucks v.popped ++ more
-  pub lasts : w.lasts ≡ v.lasts
-
-pub popped_more : (X : Type 0) (v w : Knows (List Held)) (o : Option (List Held)) → MatchOption o ((w ≡ v) × X) (λ chain. HasPopped (λ _. 1) (λ _. None) IsWholeChain AreInOrder v chain w) → PoppedMore v w
-popped_more X v w None p = record { more = []; spelled = tt; all = ap (λ (k : Knows (List Held)). all_trucks k.popped) p.0 ∙ sym (append-nil (all_trucks v.popped)); lasts = ap (λ (k : Knows (List Held)). k.lasts) p.0 }
-popped_more X v w (Some chain) p = record {
-  more = chain;
-  spelled = p.good.0.2;
-  all = ap (λ (k : Knows (List Held)). all_trucks k.popped) p.now ∙ all_with v.popped chain;
-  lasts = ap (λ (k : Knows (List Held)). k.lasts) p.now;
-}
+use Rattle.log_halves.specs.declared.item.Item.{Item}
+use Rattle.log_halves.specs.Items.{appended, held_in}
+use Rattle.log_halves.specs.Chains.{all_trucks}
+use Rattle.log_halves.proofs.Committed.{of_all}
 
 -- all that was pushed into the ring of chains was popped from it
 pub chains_pushed : (pass first : RingKey (List Held)) (chains popped : List (List Held)) → pass ≡ first → pass.region ≡ 1 → popped ≡ chains → of (λ (_ : List Held). 1) pass.region popped ≡ (view pass.pass).pushed → chains ≡ (view first.pass).pushed

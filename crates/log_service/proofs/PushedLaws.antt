@@ -15,11 +15,11 @@ use Rattle.recovery_laws.proofs.Numbers.{recovered_low}
 use Rattle.std.specs.Global.{Box}
 use Rattle.append_ring.specs.Rules.{base_of, of}
 use Rattle.log_trucks.specs.Held.{Held, Haul, IsHeld, AreHeld, held_of}
-use Rattle.log_service.specs.declared.item.Item.{Item}
-use Rattle.log_service.specs.declared.item.Item.TheVariants as items
-use Rattle.log_service.specs.Items.{region_of, appended}
-use Rattle.log_service.specs.Trucks.{FollowOn, FollowFrom, onward, of_held}
-use Rattle.log_service.specs.Order.{follow_front}
+use Rattle.log_halves.specs.declared.item.Item.{Item}
+use Rattle.log_halves.specs.declared.item.Item.TheVariants as items
+use Rattle.log_halves.specs.Items.{region_of, appended}
+use Rattle.log_halves.specs.Trucks.{FollowOn, FollowFrom, onward, of_held}
+use Rattle.log_halves.specs.Order.{follow_front}
 use Rattle.log_service.specs.Closed.{Image}
 
 -- a truck spells one entry

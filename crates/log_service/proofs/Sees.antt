@@ -1,51 +1,16 @@
 -- What a seat has seen of the words, and the chains that were committed.
-use Rattle.std.proofs.Common.{◌≡◌, ◌≤◌, ◌<◌, ◌+◌, ◌-◌, ◌*◌, ℕ, List, false, true, length, get_or, refl, ap, ◌∙◌, arith}
-use Rattle.std.specs.Prelude.{Option, Some, None, is_none, Result, Ok, Err, IfOk}
+use Rattle.std.proofs.Common.{◌≡◌, ◌≤◌, ◌<◌, ◌+◌, ◌-◌, ◌*◌, ℕ, List, length, get_or, ap, ◌∙◌, arith}
 use Rattle.append_ring.specs.Rules.{base_of}
 use Rattle.log_berth.specs.declared.known.Known.{Known}
 use Rattle.log_berth.specs.Words.{NoMore}
 use Rattle.log_trucks.specs.Held.{Held}
 use Rattle.log_ledger.specs.Numbers.{Numbers}
-use Rattle.log_device.specs.declared.error.DeviceFlush.{DeviceFlush}
-use Rattle.log_device.specs.declared.error.DeviceFlush.TheVariants as flushes
-use Rattle.log_device.specs.declared.error.Rolled.{Rolled}
-use Rattle.log_device.specs.declared.error.RollRefusal.{RollRefusal}
-use Rattle.log_device.specs.declared.error.RollRefusal.TheVariants as rolls
-use Rattle.log_service.specs.Trucks.{come_to}
-use Rattle.log_service.specs.Chains.{all_trucks}
-use Rattle.log_service.specs.Numbers.{told_numbers, seen_closed, HasSeen}
+use Rattle.log_halves.specs.Trucks.{come_to}
+use Rattle.log_halves.specs.Chains.{all_trucks}
+use Rattle.log_halves.specs.Numbers.{told_numbers, seen_closed, HasSeen}
 use Rattle.log_service.specs.Turns.{SawAtMost, SawCommitted}
-use Rattle.log_service.proofs.Numbers.{told_synced, told_stored, told_closed, synced_low}
-
--- a device has its log file where it isn't broken
-pub has_file : {A : Type 0} (o : Option A) → is_none o ≡ false → o ≡ None → ⊥
-has_file None whole = absurd (cc whole)
-has_file (Some a) whole = λ none. cc none
-
--- what follows from the one that is there
-pub from_some : {A B : Type 0} (o : Option A) → (o ≡ None → ⊥) → ((a : A) → o ≡ Some a → B) → B
-from_some None some f = absurd (some refl)
-from_some (Some a) some f = f a refl
-
-pub not_broken : {A : Type 0} (o : Option A) → (o ≡ None → ⊥) → is_none o ≡ false
-not_broken None some = absurd (some refl)
-not_broken (Some a) some = refl
-
-pub is_broken : {A : Type 0} (o : Option A) → is_none o ≡ true → o ≡ None
-is_broken None is = refl
-is_broken (Some a) is = absurd (cc is)
-
--- where there was nothing to flush, or to roll, the device didn't break
-pub no_flush_fault : {r : Result ℕ DeviceFlush} (n : ℕ) → r ≡ Err (flushes.Nothing n) → r ≡ Err flushes.WriteFault → ⊥
-no_flush_fault n is why = absurd (cc (is, why))
-
-pub no_roll_fault : {r : Result Rolled RollRefusal} (n : ℕ) → r ≡ Err (rolls.NothingToRoll n) → r ≡ Err rolls.WriteFault → ⊥
-no_roll_fault n is why = absurd (cc (is, why))
-
--- after Ok a device isn't broken, where it is broken only after one refusal
-pub then_whole : {T E Broken : Type 0} {P Q : T → Type 0} (result : Result T E) (why : E) → (Broken → result ≡ Err why) → ((t : T) → (Broken → ⊥) → P t → Q t) → IfOk result P → IfOk result Q
-then_whole (Ok t) why only step p = step t (λ broken. cc (only broken)) p
-then_whole (Err e) why only step p = tt
+use Rattle.log_halves.proofs.Numbers.{told_synced, told_stored, told_closed}
+use Rattle.log_service.proofs.Numbers.{synced_low}
 
 -- where all words were raised to what is told, each is at its number
 pub has_seen : (n : ℕ) (k : Known) (b : Numbers) → ((i : ℕ) → i < 3 * n → get_or k.seen i 0 ≡ get_or (told_numbers n b) i 0) → HasSeen n k b

@@ -11,8 +11,8 @@ use Rattle.append_ring.specs.Rules.{base_of}
 use Rattle.append_ring.specs.declared.pass.RingKey.{RingKey}
 use Rattle.crossbeam_queue.specs.Passes.{view}
 use Rattle.log_trucks.specs.Held.{AreHeld}
-use Rattle.log_service.specs.declared.item.Item.{Item}
-use Rattle.log_service.specs.Items.{appended}
+use Rattle.log_halves.specs.declared.item.Item.{Item}
+use Rattle.log_halves.specs.Items.{appended}
 
 -- an image has the content with the first k of these entries, up to that number
 pub record Image (r last : ℕ) (c : Content) (pushed : List Entry) (J : Files) (k : ℕ) : Type 0 where

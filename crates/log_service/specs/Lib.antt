@@ -1,19 +1,15 @@
 pub use Rattle.log_device.specs as log_device
-pub mod Names
-pub mod Trucks
-pub mod Items
-pub mod Chains
-pub mod Order
-pub mod Props
-pub mod Numbers
-pub mod Moments
-pub mod Halves
-pub mod Moves
+pub use Rattle.log_halves.specs as log_halves
+pub use Rattle.log_halves.specs.Names as Names
+pub use Rattle.log_halves.specs.Trucks as Trucks
+pub use Rattle.log_halves.specs.Items as Items
+pub use Rattle.log_halves.specs.Numbers as Numbers
+pub use Rattle.log_halves.specs.Moments as Moments
+pub use Rattle.log_halves.specs.Halves as Halves
+pub use Rattle.log_halves.specs.Moves as Moves
+pub use Rattle.log_halves.specs.Ends as Ends
+pub use Rattle.log_halves.specs.Begun as Begun
 pub mod Places
 pub mod Turns
-pub mod Ends
 pub mod Bundles
-pub mod Commits
-pub mod Ties
 pub mod Closed
-pub mod Begun

@@ -4,12 +4,12 @@ use Rattle.append_ring.specs.declared.knows.Knows.{Knows}
 use Rattle.append_ring.specs.Rules.{base_of}
 use Rattle.log_berth.specs.declared.known.Known.{Known}
 use Rattle.log_trucks.specs.Held.{Held}
-use Rattle.log_service.specs.declared.item.Item.{Item}
-use Rattle.log_service.specs.Items.{appended, held_in}
-use Rattle.log_service.specs.Trucks.{FollowFrom, come_to}
-use Rattle.log_service.specs.Chains.{all_trucks, AreInOrder}
-use Rattle.log_service.specs.Moves.{Bench, HasMoved, IsTooLong, WasEmpty, WasFull}
-use Rattle.log_service.specs.Numbers.{seen_synced}
+use Rattle.log_halves.specs.declared.item.Item.{Item}
+use Rattle.log_halves.specs.Items.{appended, held_in}
+use Rattle.log_halves.specs.Trucks.{FollowFrom, come_to}
+use Rattle.log_halves.specs.Chains.{all_trucks, AreInOrder}
+use Rattle.log_halves.specs.Moves.{Bench, HasMoved, IsTooLong, WasEmpty, WasFull}
+use Rattle.log_halves.specs.Numbers.{seen_synced}
 
 -- ---- turns of the consumer
 

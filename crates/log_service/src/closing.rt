@@ -7,16 +7,14 @@ ghost use Rattle.append_ring.specs.Rules.{base_of};
 ghost use Rattle.append_ring.specs.Parts.{EachThere};
 ghost use Rattle.log_berth.specs.Standing.{AreBack, AllSaw};
 ghost use Rattle.log_service.specs.Closed.{CommitsRegion, CommitsSince, LeavesFiles, Pushed};
-ghost use Rattle.log_service.specs.Moments.{GoesOnFrom, OthersSince};
+ghost use Rattle.log_halves.specs.Moments.{GoesOnFrom, OthersSince};
 
-use crate::item::Item;
-use crate::name::ServiceNaming;
 use crate::seats::LogSeats;
 use crate::service::LogService;
-use crate::settling::{settle_chains, settle_items};
 use append_ring::RingKeys;
 use disk_images::Disk;
 use log_berth::{Berthed, SyncedList};
+use log_halves::{Item, ServiceNaming, settle_chains, settle_items};
 use std::sync::Wait;
 
 /// What a service leaves: the disk, the synced word of each region, then the stored and the closed ones, and whether the log is broken.

@@ -2,11 +2,11 @@
 ghost use Rattle.std.specs.Prelude.{◌≡◌, ◌⊎◌, true};
 ghost use Rattle.log_service.specs.Places.{IsSeatOf, IsLaterSeat, FoundTaken, HadTurn, LastFoundTaken, LastHadTurn};
 
-use crate::name::ServiceNaming;
 use crate::seats::LogSeat;
 use crate::service::LogService;
 use crate::turning::{ConsumerTurn, SyncTurn};
 use disk_images::Disk;
+use log_halves::ServiceNaming;
 use std::sync::Wait;
 
 /// What a helping thread found.

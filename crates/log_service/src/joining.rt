@@ -1,25 +1,20 @@
 //! What a start makes: the consumer's berth, and the service of its rings and berths.
 ghost use Rattle.std.specs.Prelude.{◌≡◌, ◌<◌, ◌≤◌, ◌*◌, [], length, replicate, IfOk};
 ghost use Rattle.crossbeam_queue.specs.Passes.{view};
-ghost use Rattle.append_ring.specs.Parts.{IsNew, AreNew, AreNewAfter};
+ghost use Rattle.append_ring.specs.Parts.{AreNew};
 ghost use Rattle.log_berth.specs.Words.{starts};
 ghost use Rattle.log_berth.specs.Standing.{fresh};
 
-use crate::chain::FrameChain;
-use crate::committer::DeviceHalf;
 use crate::company::{Commits, Company};
-use crate::consumer::ConsumerHalf;
 use crate::counting::{EventCount, Shows};
-use crate::item::Item;
-use crate::name::ServiceNaming;
 use crate::seats::LogSeats;
 use crate::service::LogService;
 use crate::starting::{ServiceParts, ServiceRefusal};
-use append_ring::{ConsumerPass, NoMemory, Ring, RingKey, RingKeys};
+use append_ring::{ConsumerPass, NoMemory, Ring, RingKeys};
 use disk_images::Disk;
 use log_berth::{Berth, BerthParts, BerthRefusal};
+use log_halves::{ConsumerHalf, DeviceHalf, FrameChain, Item, ServiceNaming, first_half};
 use std::alloc::Global;
-use std::marker::PhantomData;
 
 /// What stays as it is while the berths are made.
 pub(crate) struct Left {
@@ -36,29 +31,6 @@ impl Drop for Left {
             chain_ring: _,
             passes: _,
         } = self;
-    }
-}
-
-/// The consumer's half at the start.
-fn first_half<N: ServiceNaming>(
-    consumer: ConsumerPass<Item>,
-    chain_key: RingKey<FrameChain>,
-    idle: RingKeys<FrameChain>,
-) -> ConsumerHalf<N>
-    requires ring { consumer.pass.table_id ≡ N.ring }
-    requires consumer { ((view consumer.pass).lasts ≡ N.lasts) × ((view consumer.pass).popped ≡ []) }
-    requires chain_key { IsNew N.chain_ring N.lasts 1 chain_key }
-    requires idle { AreNewAfter N.chain_ring N.lasts 0 1 idle × (length idle ≡ length N.lasts) }
-{
-    ConsumerHalf {
-        consumer,
-        chain: FrameChain::new(),
-        held: None,
-        chain_key,
-        idle,
-        asked: false,
-        requests: 0,
-        of: PhantomData,
     }
 }
 

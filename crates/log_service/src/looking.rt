@@ -3,10 +3,10 @@ ghost use Rattle.std.specs.Prelude.{◌≡◌};
 ghost use Rattle.log_berth.specs.Words.{looked};
 ghost use Rattle.log_service.specs.Places.{IsSeatOf, IsLaterSeat};
 
-use crate::name::ServiceNaming;
 use crate::seats::LogSeat;
 use crate::service::LogService;
 use disk_images::Disk;
+use log_halves::ServiceNaming;
 
 impl<D: Disk, N: ServiceNaming> LogService<D, N> {
     /// Loads the fault word, and says whether the log is broken. Once a seat saw it set, it stays set. It takes no turn.

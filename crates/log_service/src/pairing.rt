@@ -3,18 +3,15 @@ ghost use Rattle.std.specs.Prelude.{◌≡◌, true, false, []};
 ghost use Rattle.log_berth.specs.Words.{NoMore};
 ghost use Rattle.log_berth.specs.Turns.{turn_id};
 ghost use Rattle.log_device.specs.Whole.{numbers_of};
-ghost use Rattle.log_service.specs.Halves.{broken_of};
-ghost use Rattle.log_service.specs.Numbers.{told_numbers, HasSeen};
+ghost use Rattle.log_halves.specs.Halves.{broken_of};
+ghost use Rattle.log_halves.specs.Numbers.{told_numbers, HasSeen};
 ghost use Rattle.log_service.specs.Places.{IsSeatOf, IsLaterSeat};
 
-use crate::committer::DeviceHalf;
-use crate::consumer::ConsumerHalf;
-use crate::name::ServiceNaming;
-use crate::raising::tell_all;
 use crate::seats::LogSeat;
 use crate::service::LogService;
 use disk_images::Disk;
 use log_berth::Turn;
+use log_halves::{ConsumerHalf, DeviceHalf, ServiceNaming, tell_all};
 use std::sync::Wait;
 use std::thread;
 

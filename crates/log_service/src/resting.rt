@@ -3,14 +3,13 @@ ghost use Rattle.std.specs.Prelude.{◌≡◌, true};
 ghost use Rattle.log_berth.specs.Words.{NoMore, without_turn};
 ghost use Rattle.log_berth.specs.Turns.{turn_id};
 ghost use Rattle.log_device.specs.Whole.{numbers_of};
-ghost use Rattle.log_service.specs.Halves.{broken_of};
-ghost use Rattle.log_service.specs.Numbers.{told_numbers};
+ghost use Rattle.log_halves.specs.Halves.{broken_of};
+ghost use Rattle.log_halves.specs.Numbers.{told_numbers};
 
-use crate::committer::DeviceHalf;
-use crate::name::ServiceNaming;
 use crate::service::LogService;
 use disk_images::Disk;
 use log_berth::{LogSeat as BerthSeat, Turn, Ware};
+use log_halves::{DeviceHalf, ServiceNaming};
 use std::sync::Wait;
 
 impl<D: Disk, N: ServiceNaming> LogService<D, N> {

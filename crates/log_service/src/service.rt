@@ -3,19 +3,15 @@ ghost use Rattle.std.specs.Prelude.{◌≡◌, MatchResult};
 ghost use Rattle.crossbeam_queue.specs.Passes.{view};
 ghost use Rattle.append_ring.specs.Rules.{Follows, HasPushed};
 ghost use Rattle.append_ring.specs.Parts.{last_pushed};
-ghost use Rattle.log_service.specs.Items.{region_of, number_of, IsWholeItem};
-ghost use Rattle.log_service.specs.Moves.{IsGivenBack};
+ghost use Rattle.log_halves.specs.Items.{region_of, number_of, IsWholeItem};
+ghost use Rattle.log_halves.specs.Moves.{IsGivenBack};
 
-use crate::chain::FrameChain;
-use crate::committer::DeviceHalf;
 use crate::company::{Commits, Company};
-use crate::consumer::ConsumerHalf;
 use crate::counting::{EventCount, Shows};
-use crate::item::Item;
-use crate::name::ServiceNaming;
 use append_ring::{Full, Ring, RingKey};
 use disk_images::Disk;
 use log_berth::Berth;
+use log_halves::{ConsumerHalf, DeviceHalf, FrameChain, Item, ServiceNaming};
 use std::marker::Model;
 use std::sync::Wait;
 

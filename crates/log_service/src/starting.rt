@@ -6,22 +6,18 @@ ghost use Rattle.log_berth.specs.Standing.{fresh};
 ghost use Rattle.log_model.specs.Files.{Files};
 ghost use Rattle.log_ledger.specs.History.{History};
 ghost use Rattle.log_device.specs.Whole.{disk_of, numbers_of};
-ghost use Rattle.log_service.specs.Begun.{IsFresh, BeginsAs, AreNewParts, AreParts};
-ghost use Rattle.log_service.specs.Numbers.{told_numbers};
+ghost use Rattle.log_halves.specs.Begun.{IsFresh, BeginsAs, AreNewParts, AreParts};
+ghost use Rattle.log_halves.specs.Numbers.{told_numbers};
 
-use crate::chain::FrameChain;
-use crate::committer::DeviceHalf;
-use crate::item::Item;
 use crate::joining::{Left, first_berth, given_back};
-use crate::name::ServiceNaming;
 use crate::seats::LogSeats;
 use crate::service::LogService;
-use append_ring::{ConsumerPass, NoMemory, Ring, RingKeys, RingParts};
+use append_ring::{NoMemory, Ring, RingKeys, RingParts};
 use disk_images::Disk;
 use log_berth::Berth;
 use log_device::Device;
+use log_halves::{FrameChain, Item, ServiceNaming, second_half};
 use std::alloc::Global;
-use std::marker::PhantomData;
 
 /// How many chains the ring of chains holds.
 const CHAINS: u32 = 2;
@@ -59,31 +55,6 @@ impl Rings {
         let items = Ring::new(alloc, lasts)?;
         let chains = Ring::of_capacity(alloc, lasts, CHAINS)?;
         Ok(Rings { items, chains })
-    }
-}
-
-/// The device's half at the start.
-fn second_half<D: Disk, N: ServiceNaming>(
-    device: Device<D>,
-    consumer: ConsumerPass<FrameChain>,
-    regions: u32,
-) -> DeviceHalf<D, N>
-    requires regions { (regions ≡ length N.lasts) × (regions ≤ 64) }
-    requires chain_ring { consumer.pass.table_id ≡ N.chain_ring }
-    requires consumer { ((view consumer.pass).lasts ≡ N.lasts) × ((view consumer.pass).popped ≡ []) }
-    requires device { IsFresh N.lasts device }
-    requires whole { IsTrue D.told → ∥ ((h : History) × BeginsAs N.begun N.lasts device (D.view (disk_of device)) h) ∥₁ }
-    requires start { IsTrue D.told → N.start ≡ (D.view (disk_of device)).clock }
-    requires past { IsTrue D.told → (t : ℕ) (J : Files) → t ≤ N.start
-        → ((D.view (disk_of device)).image t J → N.past t J) × (N.past t J → (D.view (disk_of device)).image t J) }
-    requires faults { N.faults ≡ D.faults (disk_of device) }
-    ensures { (result.device ≡ device) × (result.regions ≡ regions) }
-{
-    DeviceHalf {
-        device,
-        consumer,
-        regions,
-        of: PhantomData,
     }
 }
 

@@ -5,22 +5,18 @@ ghost use Rattle.log_trucks.specs.Held.{Held};
 ghost use Rattle.log_berth.specs.Words.{NoMore, looked};
 ghost use Rattle.log_berth.specs.Turns.{turn_id};
 ghost use Rattle.log_device.specs.Whole.{IsBroken, disk_of, numbers_of};
-ghost use Rattle.log_service.specs.Chains.{AreInOrder};
-ghost use Rattle.log_service.specs.Halves.{broken_of};
-ghost use Rattle.log_service.specs.Moves.{WasFull};
-ghost use Rattle.log_service.specs.Numbers.{told_numbers};
+ghost use Rattle.log_halves.specs.Chains.{AreInOrder};
+ghost use Rattle.log_halves.specs.Halves.{broken_of};
+ghost use Rattle.log_halves.specs.Moves.{WasFull};
+ghost use Rattle.log_halves.specs.Numbers.{told_numbers};
 ghost use Rattle.log_service.specs.Places.{IsSeatOf, IsLaterSeat, FoundTaken, HadTurn, HadBothTurns, FoundOneTaken};
 ghost use Rattle.log_service.specs.Turns.{HasMovedItems, FoundEmpty, FoundTooLong, HasSynced, FoundNoLoad, SawCommitted};
 
-use crate::committer::DeviceHalf;
-use crate::committing::Commit;
-use crate::moving::Moves;
-use crate::name::ServiceNaming;
-use crate::raising::raise_all;
 use crate::seats::LogSeat;
 use crate::service::LogService;
 use disk_images::Disk;
 use log_berth::Turn;
+use log_halves::{Commit, DeviceHalf, Moves, ServiceNaming, raise_all};
 use std::sync::Wait;
 
 /// What a consumer's turn did.

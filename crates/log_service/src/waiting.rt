@@ -1,13 +1,13 @@
 //! Waiting for what was pushed to be durable.
 ghost use Rattle.std.specs.Prelude.{◌≡◌, ◌≤◌, ◌<◌, ◌-◌, true, slice_index};
-ghost use Rattle.log_service.specs.Numbers.{seen_synced};
+ghost use Rattle.log_halves.specs.Numbers.{seen_synced};
 ghost use Rattle.log_service.specs.Places.{IsSeatOf, IsLaterSeat};
 
-use crate::name::ServiceNaming;
 use crate::seats::LogSeat;
 use crate::service::LogService;
 use crate::turning::SyncTurn;
 use disk_images::Disk;
+use log_halves::ServiceNaming;
 use std::sync::Wait;
 use std::thread;
 

@@ -1,5 +1,4 @@
 pub use Rattle.log_service.proofs as log_service_laws
-pub mod Regions
 pub mod Sown
 pub mod Marks
 pub mod Begun

@@ -1,7 +1,7 @@
 -- A name that an opened store has of itself: what a caller picks for `named`.
 use Rattle.std.proofs.Common.{ℕ, List, length, refl}
 use Rattle.disk_images.specs.declared.disk.Disk.{Ghosts as Disks}
-use Rattle.log_service.specs.declared.name.ServiceNaming.{Ghosts as ServiceNames}
+use Rattle.log_service.specs.log_halves.declared.name.ServiceNaming.{Ghosts as ServiceNames}
 use Rattle.region_model.specs.Journal.{Caller}
 use Rattle.region_lock.specs.declared.naming.LockNaming.{Ghosts as LockNames}
 use Rattle.region_versions.specs.declared.naming.VersionsNaming.{Ghosts as VersionsNames}

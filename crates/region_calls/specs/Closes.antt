@@ -8,7 +8,7 @@ use Rattle.disk_images.specs.Crash.{DiskView, Since}
 use Rattle.region_model.specs.Journal.{Base, IsJournal}
 use Rattle.region_model.specs.Lines.{Line, edits_in, last_in}
 use Rattle.region_model.specs.Crash.{Fits}
-use Rattle.log_service.specs.declared.item.Item.{Item}
+use Rattle.log_service.specs.log_halves.declared.item.Item.{Item}
 use Rattle.log_service.specs.Closed.{HasPushedEntries, synced_in, stored_in, closed_in}
 use Rattle.log_service.specs.Moments.{GoesOnFrom}
 use Rattle.server_model.specs.Pass.{Pass, Naming}

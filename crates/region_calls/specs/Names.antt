@@ -7,7 +7,7 @@ use Rattle.region_model.specs.Journal.{Base, Caller}
 use Rattle.disk_images.specs.declared.disk.Disk.{Ghosts as Disks}
 use Rattle.region_versions.specs.Histories.{no_base}
 use Rattle.region_versions.specs.declared.naming.VersionsNaming.{Ghosts as VersionsNames}
-use Rattle.log_service.specs.declared.name.ServiceNaming.{Ghosts as ServiceNames}
+use Rattle.log_service.specs.log_halves.declared.name.ServiceNaming.{Ghosts as ServiceNames}
 use Rattle.region_lock.specs.declared.naming.LockNaming.{Ghosts as LockNames}
 use Rattle.server_model.specs.Pass.{Naming}
 use Rattle.region_calls.specs.Seeds.{base_at, table_at, book_at, lasts_of}

@@ -7,7 +7,7 @@ use Rattle.append_ring.specs.Rules.{base_of as last_before}
 use Rattle.log_model.specs.Files.{Files}
 use Rattle.recovery_laws.specs.Alike.{AllAlike}
 use Rattle.region_model.specs.Journal.{Base, Caller}
-use Rattle.log_service.specs.declared.item.Item.{Item}
+use Rattle.log_service.specs.log_halves.declared.item.Item.{Item}
 use Rattle.log_berth.specs.Words.{starts}
 use Rattle.log_berth.specs.Standing.{fresh}
 use Rattle.log_service.specs.declared.seats.LogSeats.{LogSeats}

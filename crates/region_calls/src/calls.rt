@@ -14,7 +14,6 @@ use crate::naming::ServerNaming;
 use crate::pass::Pass;
 use crate::putting::put_at;
 use crate::reading::scanner_in;
-use crate::scanner::Scanner;
 use crate::server::Server;
 use disk_images::Disk;
 use kv_cell::{Batch, Durability, NoMemory};
@@ -23,7 +22,7 @@ use log_service::{Helped, LogSeat};
 use region_lock::{
     FlushRefusal, Gate, PutRefusal, ScanReply, flush_in, point_in, roll_in, scan_in,
 };
-use region_state::Caller;
+use region_state::{Caller, Scanner};
 use std::alloc::Global;
 use std::sync::Wait;
 

@@ -7,9 +7,9 @@ ghost use Rattle.region_lock.specs.Calls.{ScansAt};
 ghost use Rattle.region_lock.specs.Passes.{known_of};
 ghost use Rattle.region_calls.specs.Answers.{begun_answer};
 
-use crate::scanner::Scanner;
 use kv_cell::NoMemory;
 use region_lock::{RegionPass, view_in};
+use region_state::Scanner;
 use std::alloc::Global;
 
 /// The scan of the last version shown of the region, which is not before one that the pass has seen. The pass has then seen it.

@@ -11,7 +11,7 @@ use Rattle.append_ring.specs.Parts.{IsNew}
 use Rattle.log_trucks.specs.Held.{AreHeld}
 use Rattle.region_model.specs.Journal.{Base, Caller}
 use Rattle.region_model.specs.Lines.{Line}
-use Rattle.log_service.specs.declared.item.Item.{Item}
+use Rattle.log_service.specs.log_halves.declared.item.Item.{Item}
 use Rattle.log_service.specs.Items.{appended, number_of}
 use Rattle.region_lock.specs.Parts.{IsPart}
 

@@ -17,8 +17,8 @@ use Rattle.region_model.specs.Journal.{Base, Caller, Outcome, Follows}
 use Rattle.region_model.specs.Lines.{Line, edit_in, edits_in, last_in, handled_lines, with_outcome}
 use Rattle.region_model.proofs.LineLaws.{length-with_outcome}
 use Rattle.append_ring.specs.declared.ring.Full.{Full}
-use Rattle.log_service.specs.declared.item.Item.{Item}
-use Rattle.log_service.specs.declared.item.Item.TheVariants as items
+use Rattle.log_service.specs.log_halves.declared.item.Item.{Item}
+use Rattle.log_service.specs.log_halves.declared.item.Item.TheVariants as items
 use Rattle.log_service.specs.Items.{appended, number_of}
 use Rattle.log_service.specs.Trucks.{IsSpelled, alone}
 use Rattle.log_service.specs.Moves.{HadItems}

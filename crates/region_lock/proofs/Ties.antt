@@ -10,8 +10,8 @@ use Rattle.log_trucks.specs.Held.{Held, held_of}
 use Rattle.region_model.specs.Journal.{Caller, Outcome, Follows}
 use Rattle.region_model.specs.Lines.{Line, edit_in, edits_in, ended, with_outcome, handled_lines, IsNextCall, IsPending}
 use Rattle.region_model.proofs.LineLaws.{others_stay}
-use Rattle.log_service.specs.declared.item.Item.{Item}
-use Rattle.log_service.specs.declared.item.Item.TheVariants as items
+use Rattle.log_service.specs.log_halves.declared.item.Item.{Item}
+use Rattle.log_service.specs.log_halves.declared.item.Item.TheVariants as items
 use Rattle.log_service.specs.Items.{appended, number_of}
 use Rattle.server_model.proofs.JournalLaws.{filter_kept, filter_has}
 use Rattle.region_lock.specs.Parts.{entries_in, AreOwn, AreOwned, AreTold, AreCalledBelow, EndsPending, mark_of, AreMarked, AreBelow}

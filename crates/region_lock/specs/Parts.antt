@@ -9,7 +9,7 @@ use Rattle.log_model.specs.Entry.{Entry}
 use Rattle.region_model.specs.Journal.{Base, Caller, Outcome, Pending}
 use Rattle.region_model.specs.Lines.{Line, edit_in, last_in, handled_lines}
 use Rattle.region_state.specs.States.{State, coded_state}
-use Rattle.log_service.specs.declared.item.Item.{Item}
+use Rattle.log_service.specs.log_halves.declared.item.Item.{Item}
 use Rattle.log_service.specs.Items.{number_of}
 use Rattle.log_service.specs.Closed.{HasPushedEntries}
 

@@ -1,4 +1,5 @@
 pub mod BaseLaws
+pub mod Gathered
 pub mod Cutting
 pub mod Sorting
 pub mod Cleaning

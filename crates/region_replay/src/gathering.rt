@@ -92,12 +92,18 @@ pub(crate) fn base_with(
 ) -> Result<Base, NoMemory>
     ensures { IfOk result (λ base. (base.content ≡ joined (stored ∷ unflushed ∷ [])) × (base.last ≡ last)) }
 {
-    if stored.is_empty() {
-        let cells = Arc::new(alloc, unflushed)?;
-        return Ok(Base { cells, last });
-    }
-    let cells = Arc::new(alloc, merge(alloc, &stored, &unflushed)?)?;
+    let cells = Arc::new(alloc, join(alloc, stored, unflushed)?)?;
     Ok(Base { cells, last })
+}
+
+/// The cells of both, the later of two equal ones kept. Where the first has none, the second is handed on.
+fn join(alloc: Global, stored: Segment, unflushed: Segment) -> Result<Segment, NoMemory>
+    ensures { IfOk result (λ segment. segment ≡ joined (stored ∷ unflushed ∷ [])) }
+{
+    if stored.is_empty() {
+        return Ok(unflushed);
+    }
+    merge(alloc, &stored, &unflushed)
 }
 
 /// The greatest of this number and the sequence ids of these entries.

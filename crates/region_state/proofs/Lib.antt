@@ -1,4 +1,5 @@
 pub mod MarkTies
 pub mod LayerLaws
 pub mod StateLaws
+pub mod Regions
 pub mod CallLaws

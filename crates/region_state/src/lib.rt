@@ -5,10 +5,12 @@
 mod caller;
 mod layers;
 mod line;
+mod scanner;
 mod state;
 mod version;
 
 pub use caller::Caller;
 pub use line::{Ended, Line, LineOutcome};
+pub use scanner::Scanner;
 pub use state::RegionState;
 pub use version::Version;

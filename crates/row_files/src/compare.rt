@@ -2,7 +2,7 @@
 
 use crate::output::{Difference, output_difference};
 use crate::row::{ExpectedFile, ExpectedNames, Step, StoredFile};
-use crate::showing::shown_names;
+use crate::showing::{ShownByte, add_names};
 use disk_folder::Spelled;
 use disk_images::Name;
 use std::alloc::{AllocError, Global};
@@ -22,47 +22,94 @@ pub fn differences(
     found: &Found,
 ) -> Result<Vec<Difference>, AllocError> {
     let mut told = Vec::new(alloc);
-    if let Some(it) = output_difference(alloc, &step.output, step.status_line, &found.output)? {
-        told.push(it)?;
-    }
-    if step.status != found.status {
-        let (wanted, status) = (step.status, found.status);
-        let what = format!(in alloc; "status: expected {wanted}, found {status}")?;
-        told.push(Difference {
-            line: step.status_line,
-            what,
-        })?;
-    }
-    if let Some(left) = &step.left {
-        if let Some(it) = names_difference(alloc, left, &found.files)? {
-            told.push(it)?;
-        }
-    }
-    if let Some(it) = bytes_difference(alloc, &step.files, &found.files)? {
-        told.push(it)?;
-    }
+    add_differences(alloc, &mut told, step, found)?;
     Ok(told)
+}
+
+fn add_differences(
+    alloc: Global,
+    told: &mut Vec<Difference>,
+    step: &Step,
+    found: &Found,
+) -> Result<(), AllocError> {
+    let line = step.status_line;
+    add(
+        told,
+        output_difference(alloc, &step.output, line, &found.output)?,
+    )?;
+    add(told, status_difference(alloc, step, found.status)?)?;
+    add(told, names_difference(alloc, &step.left, &found.files)?)?;
+    add(told, bytes_difference(alloc, &step.files, &found.files)?)
+}
+
+fn add(told: &mut Vec<Difference>, difference: Option<Difference>) -> Result<(), AllocError> {
+    if let Some(difference) = difference {
+        told.push(difference)?;
+    }
+    Ok(())
+}
+
+fn status_difference(
+    alloc: Global,
+    step: &Step,
+    status: u8,
+) -> Result<Option<Difference>, AllocError> {
+    let wanted = step.status;
+    if wanted == status {
+        return Ok(None);
+    }
+    let what = format!(in alloc; "status: expected {wanted}, found {status}")?;
+    Ok(Some(Difference {
+        line: step.status_line,
+        what,
+    }))
 }
 
 fn names_difference(
     alloc: Global,
-    left: &ExpectedNames,
+    left: &Option<ExpectedNames>,
     files: &[StoredFile],
 ) -> Result<Option<Difference>, AllocError> {
-    let names = files
-        .iter()
-        .map(|file| file.name)
-        .collect::<Vec<Name>>(alloc)?;
-    if names.as_slice() == left.names.as_slice() {
-        return Ok(None);
+    match left {
+        Some(left) if !are_named(files, &left.names) => {
+            let mut what = String::new(alloc);
+            tell_names(alloc, &mut what, &left.names, files)?;
+            Ok(Some(Difference {
+                line: left.line,
+                what,
+            }))
+        }
+        _ => Ok(None),
     }
-    let wanted = shown_names(alloc, &left.names)?;
-    let there = shown_names(alloc, &names)?;
-    let what = format!(in alloc; "left: expected {wanted}, found {there}")?;
-    Ok(Some(Difference {
-        line: left.line,
-        what,
-    }))
+}
+
+fn are_named(files: &[StoredFile], names: &[Name]) -> bool {
+    files.len() == names.len()
+        && files
+            .iter()
+            .zip(names)
+            .all(|(file, name)| file.name == *name)
+}
+
+fn tell_names(
+    alloc: Global,
+    what: &mut String,
+    wanted: &[Name],
+    files: &[StoredFile],
+) -> Result<(), AllocError> {
+    what.push_str("left: expected ")?;
+    add_names(alloc, what, wanted)?;
+    what.push_str(", found ")?;
+    let names = names_of(alloc, files)?;
+    add_names(alloc, what, &names)
+}
+
+fn names_of(alloc: Global, files: &[StoredFile]) -> Result<Vec<Name>, AllocError> {
+    let mut names = Vec::new(alloc);
+    for file in files {
+        names.push(file.name)?;
+    }
+    Ok(names)
 }
 
 /// The first file that isn't there or holds other bytes.
@@ -74,40 +121,49 @@ fn bytes_difference(
     for it in expected {
         let name = it.file.name;
         let found = files.iter().find(|file| file.name == name);
-        if let Some(difference) = file_difference(alloc, it, found)? {
-            return Ok(Some(difference));
+        if let Some(what) = told_of_file(alloc, &it.file, found)? {
+            return Ok(Some(Difference {
+                line: it.line,
+                what,
+            }));
         }
     }
     Ok(None)
 }
 
-fn file_difference(
+fn told_of_file(
     alloc: Global,
-    expected: &ExpectedFile,
+    expected: &StoredFile,
     found: Option<&StoredFile>,
-) -> Result<Option<Difference>, AllocError> {
-    let name = Spelled(expected.file.name);
-    let wanted = expected.file.bytes.as_slice();
-    let what = match found {
-        None => format!(in alloc; "bytes: {name} is not there")?,
-        Some(file) if file.bytes.as_slice() == wanted => return Ok(None),
-        Some(file) => {
-            let bytes = file.bytes.as_slice();
-            let (length, count) = (wanted.len(), bytes.len());
-            let place = first_difference(wanted, bytes);
-            let (byte, other) = (
-                byte_at(alloc, wanted, place)?,
-                byte_at(alloc, bytes, place)?,
-            );
-            format!(in alloc;
-                "bytes: {name} differs at {place}: expected {byte} of {length} bytes, found {other} of {count}"
-            )?
-        }
-    };
-    Ok(Some(Difference {
-        line: expected.line,
-        what,
-    }))
+) -> Result<Option<String>, AllocError> {
+    let wanted = expected.bytes.as_slice();
+    match found {
+        None => Ok(Some(told_of_none(alloc, expected.name)?)),
+        Some(file) if file.bytes.as_slice() == wanted => Ok(None),
+        Some(file) => Ok(Some(told_of_bytes(alloc, expected.name, wanted, &file.bytes)?)),
+    }
+}
+
+fn told_of_none(alloc: Global, name: Name) -> Result<String, AllocError> {
+    let name = Spelled(name);
+    format!(in alloc; "bytes: {name} is not there")
+}
+
+/// At the first byte that differs.
+fn told_of_bytes(
+    alloc: Global,
+    name: Name,
+    wanted: &[u8],
+    found: &[u8],
+) -> Result<String, AllocError> {
+    let name = Spelled(name);
+    let (length, count) = (wanted.len(), found.len());
+    let place = first_difference(wanted, found);
+    let byte = ShownByte(wanted.get(place).copied());
+    let other = ShownByte(found.get(place).copied());
+    format!(in alloc;
+        "bytes: {name} differs at {place}: expected {byte} of {length} bytes, found {other} of {count}"
+    )
 }
 
 /// How many bytes stand before the first that differs.
@@ -116,12 +172,4 @@ fn first_difference(one: &[u8], other: &[u8]) -> usize {
         .zip(other.iter())
         .take_while(|pair| pair.0 == pair.1)
         .count()
-}
-
-/// The byte at a place in hexadecimal, or `--` behind the last one.
-fn byte_at(alloc: Global, bytes: &[u8], place: usize) -> Result<String, AllocError> {
-    match bytes.get(place) {
-        Some(byte) => format!(in alloc; "{byte:02X}"),
-        None => String::from_str(alloc, "--"),
-    }
 }

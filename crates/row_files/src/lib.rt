@@ -14,6 +14,7 @@ mod piece;
 mod reader;
 mod repeated;
 mod row;
+mod row_lines;
 mod showing;
 mod words;
 

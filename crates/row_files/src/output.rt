@@ -3,11 +3,11 @@
 use crate::fault::LineFault;
 use crate::matching::fits;
 use crate::piece::{Piece, read_pieces};
-use crate::showing::{shown, shown_pieces};
+use crate::showing::{add_bytes, add_pieces};
 use std::alloc::{AllocError, Global};
 
 /// A line of the expected output.
-#[derive(Debug, Drop)]
+#[derive(Drop)]
 pub struct ExpectedLine {
     /// Where it stands in the row's file.
     pub line: u64,
@@ -52,21 +52,21 @@ impl ExpectedLine {
         }
     }
 
-    /// The line as it is told to a reader.
-    fn shown(&self, alloc: Global) -> Result<String, AllocError> {
-        let mut text = match &self.pieces {
-            None => String::from_str(alloc, "{any}")?,
-            Some(pieces) => shown_pieces(alloc, pieces)?,
-        };
+    /// Adds the line as it is told to a reader.
+    fn add_to(&self, alloc: Global, text: &mut String) -> Result<(), AllocError> {
+        match &self.pieces {
+            None => text.push_str("{any}")?,
+            Some(pieces) => add_pieces(alloc, text, pieces)?,
+        }
         if self.is_ended {
             text.push_str("\\n")?;
         }
-        Ok(text)
+        Ok(())
     }
 }
 
 /// In what a run differs from its row, and the line of the row's file that says otherwise.
-#[derive(Debug, Drop)]
+#[derive(Drop)]
 pub struct Difference {
     pub line: u64,
     pub what: String,
@@ -89,15 +89,20 @@ pub fn output_difference(
     }
     match printed.next() {
         None => Ok(None),
-        Some(more) => {
-            let more = shown(alloc, more)?;
-            let what = format!(in alloc; "output: expected no more, found `{more}`")?;
-            Ok(Some(Difference {
-                line: status_line,
-                what,
-            }))
-        }
+        Some(more) => Ok(Some(more_difference(alloc, status_line, more)?)),
     }
+}
+
+fn more_difference(alloc: Global, line: u64, more: &[u8]) -> Result<Difference, AllocError> {
+    let mut what = String::new(alloc);
+    tell_more(alloc, &mut what, more)?;
+    Ok(Difference { line, what })
+}
+
+fn tell_more(alloc: Global, what: &mut String, more: &[u8]) -> Result<(), AllocError> {
+    what.push_str("output: expected no more, found `")?;
+    add_bytes(alloc, what, more)?;
+    what.push_str("`")
 }
 
 fn line_difference(
@@ -105,19 +110,33 @@ fn line_difference(
     expected: &ExpectedLine,
     found: Option<&[u8]>,
 ) -> Result<Option<Difference>, AllocError> {
-    let wanted = match found {
-        Some(printed) if expected.is_met(alloc, printed)? => return Ok(None),
-        _ => expected.shown(alloc)?,
-    };
-    let what = match found {
-        None => format!(in alloc; "output: expected `{wanted}`, found no more")?,
-        Some(printed) => {
-            let printed = shown(alloc, printed)?;
-            format!(in alloc; "output: expected `{wanted}`, found `{printed}`")?
+    if let Some(printed) = found {
+        if expected.is_met(alloc, printed)? {
+            return Ok(None);
         }
-    };
+    }
+    let mut what = String::new(alloc);
+    tell_line(alloc, &mut what, expected, found)?;
     Ok(Some(Difference {
         line: expected.line,
         what,
     }))
+}
+
+fn tell_line(
+    alloc: Global,
+    what: &mut String,
+    expected: &ExpectedLine,
+    found: Option<&[u8]>,
+) -> Result<(), AllocError> {
+    what.push_str("output: expected `")?;
+    expected.add_to(alloc, what)?;
+    match found {
+        None => what.push_str("`, found no more"),
+        Some(printed) => {
+            what.push_str("`, found `")?;
+            add_bytes(alloc, what, printed)?;
+            what.push_str("`")
+        }
+    }
 }

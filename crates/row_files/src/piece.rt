@@ -8,7 +8,7 @@ use std::alloc::{AllocError, Global};
 const MOST_LETTERS: usize = 0x400_0000;
 
 /// A part of a line: one of these texts.
-#[derive(Debug, Drop)]
+#[derive(Drop)]
 pub struct Piece {
     pub options: Vec<Vec<u8>>,
 }
@@ -18,6 +18,11 @@ impl Piece {
         let mut options = Vec::new(alloc);
         options.push(bytes)?;
         Ok(Piece { options })
+    }
+
+    fn plain(alloc: Global, text: &str) -> Result<Piece, AllocError> {
+        let bytes = text.as_bytes().to_vec(alloc)?;
+        Piece::one(alloc, bytes)
     }
 }
 
@@ -38,6 +43,16 @@ struct PieceReader {
 }
 
 impl PieceReader {
+    fn take_all(&mut self, text: &str) -> Result<(), LineFault> {
+        for part in text.split('{') {
+            self.take(part)?;
+        }
+        match self.before {
+            Before::TwoBraces => Err(LineFault::OpenBrace),
+            Before::Nothing | Before::Brace => Ok(()),
+        }
+    }
+
     fn take(&mut self, part: &str) -> Result<(), LineFault> {
         match self.before {
             Before::Nothing => {
@@ -61,8 +76,8 @@ impl PieceReader {
         if text.is_empty() {
             return Ok(());
         }
-        let bytes = text.as_bytes().to_vec(self.alloc)?;
-        self.pieces.push(Piece::one(self.alloc, bytes)?)?;
+        let piece = Piece::plain(self.alloc, text)?;
+        self.pieces.push(piece)?;
         Ok(())
     }
 
@@ -125,14 +140,9 @@ pub fn read_pieces(alloc: Global, text: &str, turn: Option<u64>) -> Result<Vec<P
         before: Before::Nothing,
         pieces: Vec::new(alloc),
     };
-    for part in text.split('{') {
-        reader.take(part)?;
-    }
-    let PieceReader { before, pieces, .. } = reader;
-    match before {
-        Before::TwoBraces => Err(LineFault::OpenBrace),
-        Before::Nothing | Before::Brace => Ok(pieces),
-    }
+    reader.take_all(text)?;
+    let PieceReader { pieces, .. } = reader;
+    Ok(pieces)
 }
 
 /// Adds the text of these pieces to a script, which has one text for each.

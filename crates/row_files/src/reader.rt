@@ -6,7 +6,7 @@ mod streams;
 use crate::fault::{LineFault, RowFault};
 use crate::repeated::Block;
 use crate::row::{Row, Step};
-use crate::words::{LineKind, kind_of, parted, words_of};
+use crate::words::{LineKind, kind_of, parted};
 use std::alloc::Global;
 
 /// Where in a row the next line stands.
@@ -48,6 +48,18 @@ impl RowReader {
         }
     }
 
+    /// Takes all lines of a text, and tells how many there are.
+    fn take_all(&mut self, text: &str) -> Result<u64, RowFault> {
+        let mut line = 0u64;
+        for item in text.split('\n') {
+            line = line.saturating_add(1);
+            if let Err(fault) = self.take(line, item) {
+                return Err(RowFault { line, fault });
+            }
+        }
+        Ok(line)
+    }
+
     fn take(&mut self, line: u64, text: &str) -> Result<(), LineFault> {
         if text.starts_with('#') {
             return Ok(());
@@ -71,7 +83,7 @@ impl RowReader {
 
     fn take_item(&mut self, line: u64, kind: LineKind, rest: &str) -> Result<(), LineFault> {
         let extends = self.extends;
-        self.extends = false;
+        self.extends = matches!(kind, LineKind::File | LineKind::Bytes | LineKind::More);
         match kind {
             LineKind::Call => self.begin_step(rest),
             LineKind::From | LineKind::File => self.take_head(line, kind, rest),
@@ -86,8 +98,7 @@ impl RowReader {
         if self.place == Place::Inside {
             return Err(LineFault::NoStatus);
         }
-        let words = words_of(self.alloc, words)?;
-        self.row.steps.push(Step::new(self.alloc, words))?;
+        self.row.begin_step(self.alloc, words)?;
         self.place = Place::Inside;
         self.is_script_over = false;
         self.is_output_over = false;
@@ -104,19 +115,20 @@ impl RowReader {
 
     /// The whole row.
     fn end(self) -> Result<Row, LineFault> {
-        let RowReader {
-            row,
-            place,
-            block,
-            ..
-        } = self;
-        if block.is_some() {
+        self.see_whole()?;
+        let RowReader { row, .. } = self;
+        Ok(row)
+    }
+
+    /// Refuses a row that goes on.
+    fn see_whole(&self) -> Result<(), LineFault> {
+        if self.block.is_some() {
             return Err(LineFault::NoDone);
         }
-        match place {
+        match self.place {
             Place::Head => Err(LineFault::NoStep),
             Place::Inside => Err(LineFault::NoStatus),
-            Place::Behind => Ok(row),
+            Place::Behind => Ok(()),
         }
     }
 }
@@ -124,13 +136,7 @@ impl RowReader {
 /// The row that a file's text says.
 pub fn read_row(alloc: Global, text: &str) -> Result<Row, RowFault> {
     let mut reader = RowReader::new(alloc);
-    let mut line = 0u64;
-    for item in text.split('\n') {
-        line = line.saturating_add(1);
-        if let Err(fault) = reader.take(line, item) {
-            return Err(RowFault { line, fault });
-        }
-    }
+    let line = reader.take_all(text)?;
     match reader.end() {
         Ok(row) => Ok(row),
         Err(fault) => Err(RowFault { line, fault }),

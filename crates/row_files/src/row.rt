@@ -6,7 +6,7 @@ use disk_images::Name;
 use std::alloc::{AllocError, Global};
 
 /// A file of a store.
-#[derive(Debug, Drop)]
+#[derive(Drop)]
 pub struct StoredFile {
     pub name: Name,
     pub bytes: Vec<u8>,
@@ -23,14 +23,14 @@ impl StoredFile {
 }
 
 /// The row on whose disk another one begins.
-#[derive(Debug, Drop)]
+#[derive(Drop)]
 pub struct Base {
     pub line: u64,
     pub name: String,
 }
 
 /// A call of the outside that can be made to fail.
-#[derive(Clone, Copy, Debug, PartialEq, Eq)]
+#[derive(Clone, Copy, PartialEq, Eq)]
 pub enum FallibleCall {
     Disk(CallKind),
     /// A read of the script.
@@ -40,7 +40,7 @@ pub enum FallibleCall {
 }
 
 /// The call of this kind with this number, counted from 1 in its step, fails.
-#[derive(Clone, Copy, Debug, PartialEq, Eq)]
+#[derive(Clone, Copy)]
 pub struct PlannedFail {
     pub line: u64,
     pub call: FallibleCall,
@@ -48,14 +48,14 @@ pub struct PlannedFail {
 }
 
 /// All names that a step leaves.
-#[derive(Debug, Drop)]
+#[derive(Drop)]
 pub struct ExpectedNames {
     pub line: u64,
     pub names: Vec<Name>,
 }
 
 /// What one file holds behind a step.
-#[derive(Debug, Drop)]
+#[derive(Drop)]
 pub struct ExpectedFile {
     pub line: u64,
     pub file: StoredFile,

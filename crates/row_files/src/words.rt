@@ -99,22 +99,33 @@ pub fn words_of(alloc: Global, text: &str) -> Result<Vec<String>, LineFault> {
     let mut words = Vec::new(alloc);
     for word in text.split(' ') {
         if !word.is_empty() {
-            words.push(String::from_str(alloc, word)?)?;
+            add_word(alloc, &mut words, word)?;
         }
     }
     Ok(words)
 }
 
+fn add_word(alloc: Global, words: &mut Vec<String>, word: &str) -> Result<(), LineFault> {
+    let word = String::from_str(alloc, word)?;
+    words.push(word)?;
+    Ok(())
+}
+
 /// Names with spaces between them, in order.
 pub fn names_of(alloc: Global, text: &str) -> Result<Vec<Name>, LineFault> {
     let mut names = Vec::new(alloc);
+    add_names(&mut names, text)?;
+    names.sort()?;
+    Ok(names)
+}
+
+fn add_names(names: &mut Vec<Name>, text: &str) -> Result<(), LineFault> {
     for word in text.split(' ') {
         if !word.is_empty() {
             names.push(one_name(word)?)?;
         }
     }
-    names.sort()?;
-    Ok(names)
+    Ok(())
 }
 
 /// The name of a store's file.

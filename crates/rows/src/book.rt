@@ -19,7 +19,7 @@ pub struct Book {
 }
 
 /// Why the disk on which a row begins cannot be had.
-#[derive(Clone, Copy, Debug, PartialEq, Eq)]
+#[derive(Clone, Copy)]
 pub enum BaseFault {
     Missing,
     Wrong,
@@ -31,8 +31,7 @@ impl Book {
     pub fn read<R: Files + AllocGlobal + Clone + Drop>(rt: &R) -> Result<Book, RowsError> {
         let mut entries = Vec::new(rt.alloc());
         for title in titles(rt)? {
-            let row = read_entry(rt, title.name.as_str())?;
-            entries.push(Entry { title, row })?;
+            entries.push(entry_of(rt, title)?)?;
         }
         if entries.is_empty() {
             return Err(RowsError::NoRows);
@@ -80,6 +79,11 @@ impl Book {
         }
         Ok(Err(BaseFault::Circle))
     }
+}
+
+fn entry_of<R: Files + AllocGlobal>(rt: &R, title: Title) -> Result<Entry, AllocError> {
+    let row = read_entry(rt, title.name.as_str())?;
+    Ok(Entry { title, row })
 }
 
 fn read_entry<R: Files + AllocGlobal>(

@@ -6,7 +6,7 @@ use crate::error::RowsError;
 use disk_fakes::{Fail, MemDisk};
 use disk_images::{Disk, Failed, Name, NameKind};
 use row_files::StoredFile;
-use std::alloc::Global;
+use std::alloc::{AllocError, Global};
 
 /// A disk with these files, whose calls of these kinds and numbers fail. The calls that place the files are counted.
 pub fn disk_with(
@@ -56,14 +56,27 @@ pub fn files_of(alloc: Global, disk: &MemDisk) -> Result<Vec<StoredFile>, RowsEr
     let moment = disk.clock();
     let mut image = disk.crash(alloc, moment, 0)?;
     let names = image.names(alloc)?;
+    Ok(copied(alloc, &image, names.as_slice())?)
+}
+
+/// The files of these names.
+fn copied(alloc: Global, disk: &MemDisk, names: &[Name]) -> Result<Vec<StoredFile>, AllocError> {
     let mut files = Vec::new(alloc);
-    for name in names.as_slice() {
-        if let Some(bytes) = image.bytes(*name) {
-            files.push(StoredFile {
-                name: *name,
-                bytes: bytes.to_vec(alloc)?,
-            })?;
+    for name in names {
+        if let Some(bytes) = disk.bytes(*name) {
+            add_file(alloc, &mut files, *name, bytes)?;
         }
     }
     Ok(files)
+}
+
+fn add_file(
+    alloc: Global,
+    files: &mut Vec<StoredFile>,
+    name: Name,
+    bytes: &[u8],
+) -> Result<(), AllocError> {
+    let bytes = bytes.to_vec(alloc)?;
+    files.push(StoredFile { name, bytes })?;
+    Ok(())
 }

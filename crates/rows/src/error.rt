@@ -6,7 +6,7 @@ use std::alloc::{AllocError, AllocFailed};
 use std::io;
 use thiserror::Error;
 
-#[derive(Debug, Drop, Error)]
+#[derive(Clone, Copy, Debug, Error)]
 pub enum RowsError {
     #[error("out of memory")]
     Memory,
@@ -14,8 +14,8 @@ pub enum RowsError {
     Disk,
     #[error("no file here is a row")]
     NoRows,
-    #[error("{0}")]
-    Folder(io::Error),
+    #[error("the folder cannot be read, or the output cannot be written")]
+    Outside,
 }
 
 impl From<AllocError> for RowsError {
@@ -52,7 +52,7 @@ impl From<NamesError> for RowsError {
 }
 
 impl From<io::Error> for RowsError {
-    fn from(e: io::Error) -> RowsError {
-        RowsError::Folder(e)
+    fn from(_e: io::Error) -> RowsError {
+        RowsError::Outside
     }
 }

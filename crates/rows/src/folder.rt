@@ -6,7 +6,7 @@ use std::io;
 use std::rt::Files;
 
 /// A row's name, which is its file's without `.row`. Rows that must not hold come behind the others.
-#[derive(PartialEq, Eq, PartialOrd, Ord, Debug, Drop)]
+#[derive(PartialEq, Eq, PartialOrd, Ord, Drop)]
 pub struct Title {
     pub is_bad: bool,
     pub name: String,

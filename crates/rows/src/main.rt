@@ -15,6 +15,7 @@ mod step_run;
 
 use book::{Book, Entry};
 use error::RowsError;
+use row_files::Difference;
 use row_run::told_of;
 use std::process::ExitCode;
 use std::sync::Wait;
@@ -38,17 +39,21 @@ fn run_row<R: Print + Threads + Wait + Sync + AllocGlobal>(
     book: &Book,
     entry: &Entry,
 ) -> Result<bool, RowsError> {
-    let name = entry.title.name.as_str();
     let told = told_of(rt, book, entry)?;
+    print_told(rt, entry.title.name.as_str(), &told)?;
+    Ok(told.is_empty() || entry.title.is_bad)
+}
+
+fn print_told<R: Print>(rt: &R, name: &str, told: &[Difference]) -> Result<(), RowsError> {
     if told.is_empty() {
         println!(rt; "{name} ok")?;
     }
-    for it in &told {
+    for it in told {
         let line = it.line;
         let what = it.what.as_str();
         println!(rt; "{name}:{line}: {what}")?;
     }
-    Ok(told.is_empty() || entry.title.is_bad)
+    Ok(())
 }
 
 fn main(rt: HostRuntime) -> ExitCode {

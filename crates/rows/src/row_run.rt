@@ -3,7 +3,7 @@
 use crate::book::{BaseFault, Book, Entry};
 use crate::error::RowsError;
 use crate::step_run::{StepEnd, run_step};
-use row_files::{Difference, Row, RowFault, StoredFile};
+use row_files::{Difference, Row, RowFault, Step, StoredFile};
 use std::alloc::{AllocError, Global};
 use std::sync::Wait;
 use std::thread::Threads;
@@ -43,14 +43,24 @@ fn run_steps<R: Threads + Wait + Sync + AllocGlobal>(
     row: &Row,
     below: Vec<StoredFile>,
 ) -> Result<StepEnd, RowsError> {
-    let mut told = Vec::new(rt.alloc());
-    let mut files = with_files(below, &row.files)?;
+    let files = with_files(below, &row.files)?;
+    let mut end = StepEnd::before(rt.alloc(), files);
     for step in &row.steps {
-        let mut end = run_step(rt, step, &files)?;
-        told.append(&mut end.told)?;
-        files = end.files;
+        add_step(rt, step, &mut end)?;
     }
-    Ok(StepEnd { told, files })
+    Ok(end)
+}
+
+/// Runs a step on the disk that those before it left.
+fn add_step<R: Threads + Wait + Sync + AllocGlobal>(
+    rt: &R,
+    step: &Step,
+    end: &mut StepEnd,
+) -> Result<(), RowsError> {
+    let mut next = run_step(rt, step, &end.files)?;
+    end.told.append(&mut next.told)?;
+    end.files = next.files;
+    Ok(())
 }
 
 /// These files, with others in the place of those with the same names.

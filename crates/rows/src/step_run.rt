@@ -16,6 +16,16 @@ pub struct StepEnd {
     pub files: Vec<StoredFile>,
 }
 
+impl StepEnd {
+    /// Before the first step there is nothing to tell.
+    pub fn before(alloc: Global, files: Vec<StoredFile>) -> StepEnd {
+        StepEnd {
+            told: Vec::new(alloc),
+            files,
+        }
+    }
+}
+
 /// Runs a step on a disk with these files.
 pub fn run_step<R: Threads + Wait + Sync + AllocGlobal>(
     rt: &R,
@@ -23,24 +33,17 @@ pub fn run_step<R: Threads + Wait + Sync + AllocGlobal>(
     files: &[StoredFile],
 ) -> Result<StepEnd, RowsError> {
     let alloc = rt.alloc();
+    let fails = fails_behind(alloc, step, files)?;
+    let mut out = sink_of(alloc, step)?;
+    let outcome = call(rt, step, disk_with(alloc, files, &fails)?, &mut out)?;
+    let found = found_in(alloc, &outcome, out.as_slice())?;
+    judged(alloc, step, &fails, &outcome.disk, found)
+}
+
+/// The calls of the disk that are to fail, behind those that place these files.
+fn fails_behind(alloc: Global, step: &Step, files: &[StoredFile]) -> Result<Vec<Fail>, RowsError> {
     let plain = disk_with(alloc, files, &[])?;
-    let fails = disk_fails(alloc, &step.fails, &plain)?;
-    let disk = if fails.is_empty() {
-        plain
-    } else {
-        disk_with(alloc, files, &fails)?
-    };
-    let mut out = MemSink::new(alloc, &numbers_of(alloc, step, FallibleCall::Sink)?)?;
-    let outcome = call(rt, step, disk, &mut out)?;
-    let found = Found {
-        status: outcome.status.number(),
-        output: out.as_slice().to_vec(alloc)?,
-        files: files_of(alloc, &outcome.disk)?,
-    };
-    let mut told = differences(alloc, step, &found)?;
-    add_unreached(alloc, &mut told, step, &fails, &outcome.disk)?;
-    let Found { files, .. } = found;
-    Ok(StepEnd { told, files })
+    Ok(disk_fails(alloc, &step.fails, &plain)?)
 }
 
 fn call<R: Threads + Wait + Sync + AllocGlobal>(
@@ -50,14 +53,47 @@ fn call<R: Threads + Wait + Sync + AllocGlobal>(
     out: &mut MemSink,
 ) -> Result<Outcome<MemDisk>, RowsError> {
     let alloc = rt.alloc();
-    let words = step
-        .words
-        .iter()
-        .map(|word| word.as_str())
-        .collect::<Vec<&str>>(alloc)?;
-    let fails = numbers_of(alloc, step, FallibleCall::Source)?;
-    let mut source = MemSource::new(alloc, &step.script, &fails)?;
+    let words = words_of(alloc, step)?;
+    let mut source = source_of(alloc, step)?;
     Ok(run(rt, alloc, &words, &mut source, disk, out, &FreeGate))
+}
+
+fn words_of(alloc: Global, step: &Step) -> Result<Vec<&str>, AllocError> {
+    step.words.iter().map(|word| word.as_str()).collect(alloc)
+}
+
+fn source_of(alloc: Global, step: &Step) -> Result<MemSource, RowsError> {
+    let fails = numbers_of(alloc, step, FallibleCall::Source)?;
+    Ok(MemSource::new(alloc, &step.script, &fails)?)
+}
+
+fn sink_of(alloc: Global, step: &Step) -> Result<MemSink, RowsError> {
+    let fails = numbers_of(alloc, step, FallibleCall::Sink)?;
+    Ok(MemSink::new(alloc, &fails)?)
+}
+
+fn found_in(alloc: Global, outcome: &Outcome<MemDisk>, printed: &[u8]) -> Result<Found, RowsError> {
+    let files = files_of(alloc, &outcome.disk)?;
+    let output = printed.to_vec(alloc)?;
+    Ok(Found {
+        status: outcome.status.number(),
+        output,
+        files,
+    })
+}
+
+/// What is told of a step that left this, and its files.
+fn judged(
+    alloc: Global,
+    step: &Step,
+    fails: &[Fail],
+    disk: &MemDisk,
+    found: Found,
+) -> Result<StepEnd, RowsError> {
+    let mut told = differences(alloc, step, &found)?;
+    add_unreached(alloc, &mut told, step, fails, disk)?;
+    let Found { files, .. } = found;
+    Ok(StepEnd { told, files })
 }
 
 /// The calls of the disk that are to fail, numbered behind those that placed the files.

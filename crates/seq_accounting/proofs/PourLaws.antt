@@ -1,8 +1,9 @@
 -- Marks noted, or poured, one after the other.
-use Rattle.std.proofs.Common.{◌≡◌, ◌≢◌, inl, inr, ℕ, Bool, true, false, cond, ◌&&◌, ◌||◌, eqb, List, [], ◌∷◌, ◌++◌, refl, sym, ap, subst, ◌∙◌}
+use Rattle.std.proofs.Common.{◌≡◌, ◌≢◌, ◌<◌, inl, inr, ℕ, Bool, true, false, cond, ◌&&◌, ◌||◌, eqb, List, [], ◌∷◌, ◌++◌, length, Option, Some, refl, sym, ap, subst, ◌∙◌, arith, length-append}
 use Rattle.std.proofs.lemmas.Bool.{cases_Bool}
 use Rattle.seq_accounting.specs.Marks.{FamilyMark, IsPut, AreGiven, ArePoured, is_same, is_of, first_given, number_of, has_family, families_in}
-use Rattle.seq_accounting.specs.Branch.{Branch, marks_of}
+use Rattle.std.specs.Global.{Box}
+use Rattle.seq_accounting.specs.Branch.{Branch, marks_of, linked}
 use Rattle.seq_accounting.proofs.KeyLaws.{of_alike, of_decides, first_zero, first_none, first_some, first_assoc, number_append, has_append}
 use Rattle.seq_accounting.proofs.TreeLaws.{mark}
 
@@ -71,6 +72,17 @@ poured_parts a b c d r f m left right top one two q g =
     ∙ ap (first_given (number_of a q g)) (first_assoc own (number_of left q g) (number_of right q g) ∙ ap (first_given own) (sym (number_append left right q g)))
 
 -- ---- the same of what stands at a link
+
+-- the recursion goes left and right, to fewer
+pub falls_left : (link : Option (Box Branch)) (top : Box Branch) (left right : List FamilyMark) → link ≡ Some top → left ++ right ≡ top.value.below → length left < length (linked link)
+falls_left link top left right is below =
+    let few : length left < length (linked (Some top)) = omega (arith, ap length below, length-append left right) in
+    subst (λ (l : Option (Box Branch)). length left < length (linked l)) (sym is) few
+
+pub falls_right : (link : Option (Box Branch)) (top : Box Branch) (left right : List FamilyMark) → link ≡ Some top → left ++ right ≡ top.value.below → length right < length (linked link)
+falls_right link top left right is below =
+    let few : length right < length (linked (Some top)) = omega (arith, ap length below, length-append left right) in
+    subst (λ (l : Option (Box Branch)). length right < length (linked l)) (sym is) few
 
 pub given_link : (a b c d : List FamilyMark) (region n : ℕ) (old m : Branch) (left right : List FamilyMark) → m ≡ record { region = region; family = old.family; number = n; below = [] } → left ++ right ≡ old.below
     → IsPut a b m.region m.family m.number → AreGiven b c region n left → AreGiven c d region n right → AreGiven a d region n (marks_of old)

@@ -62,13 +62,8 @@ impl Flushing {
         requires number { 1 ≤ number }
         ensures { IfOk result (λ flushing. flushing ≡ record { region = region; family = family.now; number = number }) }
     {
-        let flushed = Mark::new(alloc, region, family, number)?;
-        let oldest = Mark::new(alloc, region, family, 0)?;
-        Ok(Flushing {
-            region,
-            number,
-            room: Some(MarkRoom { flushed, oldest }),
-        })
+        let room = FlushRoom::new(alloc, family)?;
+        Ok(room.begin(region, number))
     }
 
     pub(crate) fn spend(self) -> Spent

@@ -4,7 +4,7 @@
 pub const PLACES: usize = 65;
 
 /// What is flushed of a region: each number of it up to `flushed`.
-#[derive(Clone, Copy, Debug, PartialEq, Eq)]
+#[derive(Clone, Copy)]
 pub struct RegionMark {
     pub region: u32,
     pub flushed: u64,

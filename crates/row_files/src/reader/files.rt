@@ -2,9 +2,7 @@
 
 use super::{Place, RowReader};
 use crate::fault::LineFault;
-use crate::hexadecimal::add_bytes;
-use crate::row::{Base, ExpectedFile, ExpectedNames, StoredFile};
-use crate::words::{LineKind, names_of, one_name, parted};
+use crate::words::LineKind;
 
 impl RowReader {
     pub(super) fn take_head(
@@ -16,50 +14,18 @@ impl RowReader {
         if self.place != Place::Head {
             return Err(LineFault::BehindHead);
         }
-        if kind == LineKind::File {
-            let file = self.file_of(rest)?;
-            if self.row.files.iter().any(|other| other.name == file.name) {
-                return Err(LineFault::Twice);
-            }
-            self.row.files.push(file)?;
-            return Ok(());
+        let alloc = self.alloc;
+        match kind {
+            LineKind::File => self.row.add_file(alloc, rest),
+            _ => self.row.set_base(alloc, line, rest),
         }
-        if self.row.base.is_some() {
-            return Err(LineFault::Twice);
-        }
-        if rest.is_empty() {
-            return Err(LineFault::NoRow);
-        }
-        let name = String::from_str(self.alloc, rest)?;
-        self.row.base = Some(Base { line, name });
-        Ok(())
-    }
-
-    /// `NAME HEX`, which the next line may go on with.
-    fn file_of(&mut self, text: &str) -> Result<StoredFile, LineFault> {
-        let (name, spelled) = parted(text);
-        let name = one_name(name)?;
-        let mut bytes = Vec::new(self.alloc);
-        add_bytes(&mut bytes, spelled)?;
-        self.extends = true;
-        Ok(StoredFile { name, bytes })
     }
 
     /// More hexadecimal of the file above.
     pub(super) fn extend(&mut self, text: &str) -> Result<(), LineFault> {
-        self.extends = true;
-        if self.place == Place::Head {
-            return match self.row.files.last_mut() {
-                Some(file) => add_bytes(&mut file.bytes, text),
-                None => Err(LineFault::NothingToExtend),
-            };
-        }
-        let Some(step) = self.row.steps.last_mut() else {
-            return Err(LineFault::NothingToExtend);
-        };
-        match step.files.last_mut() {
-            Some(expected) => add_bytes(&mut expected.file.bytes, text),
-            None => Err(LineFault::NothingToExtend),
+        match self.place {
+            Place::Head => self.row.extend_file(text),
+            Place::Inside | Place::Behind => self.step()?.extend_file(text),
         }
     }
 
@@ -72,18 +38,11 @@ impl RowReader {
         if self.place != Place::Behind {
             return Err(LineFault::BeforeStatus);
         }
-        if kind == LineKind::Bytes {
-            let file = self.file_of(rest)?;
-            let step = self.step()?;
-            step.files.push(ExpectedFile { line, file })?;
-            return Ok(());
-        }
-        let names = names_of(self.alloc, rest)?;
+        let alloc = self.alloc;
         let step = self.step()?;
-        if step.left.is_some() {
-            return Err(LineFault::Twice);
+        match kind {
+            LineKind::Bytes => step.expect_file(alloc, line, rest),
+            _ => step.expect_names(alloc, line, rest),
         }
-        step.left = Some(ExpectedNames { line, names });
-        Ok(())
     }
 }

@@ -2,8 +2,6 @@
 
 use super::{Place, RowReader};
 use crate::fault::LineFault;
-use crate::output::ExpectedLine;
-use crate::piece::{add_script, read_pieces};
 use crate::repeated::{Block, StreamLine};
 use crate::words::{LineKind, fail_of};
 
@@ -68,13 +66,8 @@ impl RowReader {
             return Err(LineFault::BehindLast);
         }
         self.is_script_over = !is_ended;
-        let pieces = read_pieces(self.alloc, text, turn)?;
-        let step = self.step()?;
-        add_script(&mut step.script, &pieces)?;
-        if is_ended {
-            step.script.push(b'\n')?;
-        }
-        Ok(())
+        let alloc = self.alloc;
+        self.step()?.add_script_line(alloc, text, is_ended, turn)
     }
 
     fn add_output_line(
@@ -88,9 +81,9 @@ impl RowReader {
             return Err(LineFault::BehindLast);
         }
         self.is_output_over = !is_ended;
-        let expected = ExpectedLine::read(self.alloc, line, text, is_ended, turn)?;
-        self.step()?.output.push(expected)?;
-        Ok(())
+        let alloc = self.alloc;
+        self.step()?
+            .add_output_line(alloc, line, text, is_ended, turn)
     }
 
     /// Takes the lines of a block, turn by turn.

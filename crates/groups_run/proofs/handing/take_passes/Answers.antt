@@ -1,6 +1,6 @@
 use Rattle.std.proofs.Common.{◌≡◌, ◌+◌, ◌++◌, [], ◌∷◌, List, length, None, sym, ap, ◌∙◌, subst, refl, arith, length-append}
 use Rattle.log_groups.specs.Dealing.{groups_out}
-use Rattle.log_groups.specs.declared.groups.GroupPass.{GroupPass}
+use Rattle.log_groups.specs.group_calls.declared.groups.GroupPass.{GroupPass}
 use Rattle.log_groups.specs.script_handlers.declared.handler.Handler.{Handler}
 use Rattle.groups_run.specs.Handing.{AllOfServers, AreTaken}
 use Rattle.groups_run.proofs.Backs.{next_fresh, none_next, none_out}

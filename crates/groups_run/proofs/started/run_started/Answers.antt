@@ -1,7 +1,7 @@
 use Rattle.std.proofs.Common.{◌≡◌, ℕ, ◌+◌, ◌≤◌, Option, Some, None, IfSome, length, sym, subst, ap, ◌∙◌, arith}
 use Rattle.log_groups.specs.Helpers.{held}
-use Rattle.log_groups.specs.Passes.{named}
-use Rattle.log_groups.specs.Servers.{Servers}
+use Rattle.log_groups.specs.group_calls.Passes.{named}
+use Rattle.log_groups.specs.group_calls.Servers.{Servers}
 use Rattle.server_model.specs.Pass.{Naming}
 use Rattle.log_groups.specs.group_servers.Closing.{HasEnded}
 use Rattle.groups_run.specs.Ended.{passes_on}
@@ -53,8 +53,8 @@ give_back-spent-requires-clause-passes g c =
     let taken = taken_length 1 c.args.rooms.items c.take_passes.new.handlers.items c.take_passes.ensures.taken in
     (c.take_passes.ensures.out, c.take_passes.ensures.back, omega (arith, c.run_on.ensures.run.len, taken, c.requires.few, c.run_on.new.handlers.ok, c.args.rooms.ok))
 
-pub close-closed-requires-clause-back : goal.close-closed-requires-clause-back
-close-closed-requires-clause-back g c =
+pub close_groups-closed-requires-clause-back : goal.close_groups-closed-requires-clause-back
+close_groups-closed-requires-clause-back g c =
     let s : Servers = c.args.started.groups in
     let names : ℕ → Naming = named g.N1.ServerNaming.name g.N2.ServerNaming.name g.N3.ServerNaming.name g.N4.ServerNaming.name in
     let all = all_of names c.args.time s c.take_passes.new.handlers.items c.run_on.new.handlers.items c.run_on.ensures.run in
@@ -75,8 +75,8 @@ always : {A : Type 0} (P : Type 0) (o : Option A) → P → IfSome o (λ _. P)
 always P None is = tt
 always P (Some x) is = is
 
-pub close-closed-requires-clause-regions : goal.close-closed-requires-clause-regions
-close-closed-requires-clause-regions g c =
+pub close_groups-closed-requires-clause-regions : goal.close_groups-closed-requires-clause-regions
+close_groups-closed-requires-clause-regions g c =
     let s : Servers = c.args.started.groups in
     record {
       second_same = always _ s.second (c.requires.fits 2).regions;
@@ -88,12 +88,12 @@ pub returns : goal.returns
 returns g c =
     let s : Servers = c.args.started.groups in
     let names : ℕ → Naming = named g.N1.ServerNaming.name g.N2.ServerNaming.name g.N3.ServerNaming.name g.N4.ServerNaming.name in
-    let back = close-closed-requires-clause-back g c.before in
+    let back = close_groups-closed-requires-clause-back g c.before in
     let olds = c.take_passes.new.handlers.items in
     let news = c.run_on.new.handlers.items in
     let all = (c.take_passes.ensures.of s c.requires.passes.0).1 in
     let h = handled names s c.args.time g.N1.ServerNaming.name.regions c.args.rooms.items olds news c.requires.servers c.take_passes.ensures.taken all c.run_on.ensures.run in
-    let e = c.close-closed.ensures in
+    let e = c.close_groups-closed.ensures in
     let passes = c.give_back-spent.new.passes in
     let have = c.give_back-spent.ensures.back in
     record {

@@ -1,4 +1,4 @@
-use Rattle.std.proofs.Common.{[], sym, ap, ◌∙◌, ◌++◌, ◌∷◌, take, arith}
+use Rattle.std.proofs.Common.{true≢false, [], sym, ap, ◌∙◌, ◌++◌, ◌∷◌, take, arith}
 use Rattle.std.proofs.lemmas.List.{take_more}
 use Rattle.cell_model.specs.Cell.{Cell}
 use Rattle.cell_model.specs.Batch.{are_untagged}
@@ -8,7 +8,7 @@ use Rattle.kv_cell.proofs.batch.none_tagged.Goals as goal
 pub returns-then-not-is_empty : goal.returns-then-not-is_empty
 returns-then-not-is_empty c =
     sym (not_untagged c.args.cells.now c.loop-cell.cell-index c.cell-item.result (omega (arith, c.loop-cell-test.true))
-    (λ none. cc (c.if-not-is_empty.true, c.is_empty.ensures.1 (ap (λ (x : Cell). x.tags) (c.cell.view_is ∙ c.cell-item.is) ∙ none))))
+    (λ none. true≢false (sym (c.is_empty.ensures.1 (ap (λ (x : Cell). x.tags) (c.cell.view_is ∙ c.cell-item.is) ∙ none)) ∙ c.if-not-is_empty.true)))
 
 pub loop-cell-preserved : goal.loop-cell-preserved
 loop-cell-preserved c =

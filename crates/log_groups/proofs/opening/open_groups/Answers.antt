@@ -1,5 +1,5 @@
 use Rattle.std.proofs.Common.{◌≡◌, sym, subst, ◌∙◌}
-use Rattle.group_servers.specs.region_calls.declared.store.OpenedStore.{OpenedStore}
+use Rattle.group_calls.specs.region_calls.declared.store.OpenedStore.{OpenedStore}
 use Rattle.group_stores.specs.declared.lists.GroupList.{GroupList}
 use Rattle.group_stores.specs.declared.refusal.GroupsRefusal.{GroupsRefusal}
 use Rattle.group_stores.specs.Lists.{AtEach, OfBoth, at_group, count_of}
@@ -7,7 +7,7 @@ use Rattle.group_stores.specs.Recovering.{IsFoundAs}
 use Rattle.group_stores.specs.Refusals.{AreRefused, GoesOn, HaveNoOthers, IsNotWrong, Tells}
 use Rattle.group_stores.proofs.Each.{each_joined, of_both_at, same_count}
 use Rattle.group_stores.proofs.Sound.{all_sound}
-use Rattle.group_servers.specs.Beginning.{HasGoneOn, IsOpened, IsOpenedFrom, TellsFrom, disks_left}
+use Rattle.group_calls.specs.group_servers.Beginning.{HasGoneOn, IsOpened, IsOpenedFrom, TellsFrom, disks_left}
 use Rattle.log_groups.proofs.Answered.{if_err_both, if_ok_weaker, on_ok_always}
 use Rattle.log_groups.proofs.opening.open_groups.Goals as goal
 

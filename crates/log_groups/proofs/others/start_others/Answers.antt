@@ -1,5 +1,5 @@
 use Rattle.std.proofs.Common.{Some, sym, arith}
-use Rattle.group_servers.specs.region_calls.Store.{disk_now}
+use Rattle.group_calls.specs.region_calls.Store.{disk_now}
 use Rattle.log_groups.proofs.Starts.{gone_at, held_at, let_go_from, map_some_there}
 use Rattle.log_groups.proofs.others.start_others.Goals as goal
 

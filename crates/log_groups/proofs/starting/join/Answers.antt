@@ -1,5 +1,7 @@
-use Rattle.group_servers.specs.region_calls.Deals.{passes_out}
-use Rattle.log_groups.proofs.Starts.{even_new, none_new, passes_new, seats_new, servers_there, two_new}
+use Rattle.std.proofs.Common.{ap, ◌∙◌}
+use Rattle.group_calls.specs.region_calls.Deals.{passes_out}
+use Rattle.group_calls.specs.Servers.{Servers}
+use Rattle.log_groups.proofs.Starts.{even_new, none_new, passes_new, seats_new, two_new}
 use Rattle.log_groups.proofs.starting.join.Goals as goal
 
 pub parts_of-server_2-requires : goal.parts_of-server_2-requires
@@ -11,17 +13,26 @@ parts_of-server_3-requires g c = c.requires.new_3
 pub parts_of-server_4-requires : goal.parts_of-server_4-requires
 parts_of-server_4-requires g c = c.requires.new_4
 
+pub of-groups-requires : goal.of-groups-requires
+of-groups-requires g c = record { count = rw (c.parts_of-server_2.ensures.server, c.parts_of-server_3.ensures.server, c.parts_of-server_4.ensures.server) c.requires.count }
+
+pub returns-clause-count : goal.returns-clause-count
+returns-clause-count g c = ap (λ (s : Servers). s.count) c.of-groups.ensures
+
+pub returns-clause-first : goal.returns-clause-first
+returns-clause-first g c = ap (λ (s : Servers). s.first) c.of-groups.ensures
+
 pub returns-clause-second : goal.returns-clause-second
-returns-clause-second g c = c.parts_of-server_2.ensures.server
+returns-clause-second g c = ap (λ (s : Servers). s.second) c.of-groups.ensures ∙ c.parts_of-server_2.ensures.server
 
 pub returns-clause-third : goal.returns-clause-third
-returns-clause-third g c = c.parts_of-server_3.ensures.server
+returns-clause-third g c = ap (λ (s : Servers). s.third) c.of-groups.ensures ∙ c.parts_of-server_3.ensures.server
 
 pub returns-clause-fourth : goal.returns-clause-fourth
-returns-clause-fourth g c = c.parts_of-server_4.ensures.server
+returns-clause-fourth g c = ap (λ (s : Servers). s.fourth) c.of-groups.ensures ∙ c.parts_of-server_4.ensures.server
 
 pub returns-clause-passes : goal.returns-clause-passes
-returns-clause-passes g c = (
+returns-clause-passes g c = rw c.of-groups.ensures (
   record {
     first = c.requires.new_1.passes;
     second = passes_new g.N2.LockNaming.handlers c.parts_of-server_2.result.0 c.parts_of-server_2.result.1 c.parts_of-server_2.result.2 c.parts_of-server_2.ensures.new;
@@ -40,7 +51,7 @@ returns-clause-passes g c = (
 )
 
 pub returns-clause-helpers : goal.returns-clause-helpers
-returns-clause-helpers g c = (
+returns-clause-helpers g c = rw c.of-groups.ensures (
   record {
     first = c.requires.new_1.seats_are.1;
     second = seats_new g.N2.LockNaming.handlers c.parts_of-server_2.result.0 c.parts_of-server_2.result.1 c.parts_of-server_2.result.2 c.parts_of-server_2.ensures.new;
@@ -54,7 +65,3 @@ returns-clause-helpers g c = (
     fourth = two_new g.N4.LockNaming.handlers c.parts_of-server_4.result.0 c.parts_of-server_4.result.1 c.parts_of-server_4.result.2 c.parts_of-server_4.ensures.new;
   },
 )
-
-pub invariant_of-result : goal.invariant_of-result
-invariant_of-result g c =
-    rw (c.parts_of-server_2.ensures.server, c.parts_of-server_3.ensures.server, c.parts_of-server_4.ensures.server) (servers_there _ _ _ _ c.requires.count)

@@ -2,7 +2,7 @@ use Rattle.std.proofs.Common.{◌≡◌, ℕ, ◌+◌, ◌-◌, ◌<◌, ◌^◌
 use Rattle.append_ring.specs.declared.pass.RingKey.{RingKey}
 use Rattle.region_model.specs.Journal.{Base, IsJournal}
 use Rattle.region_model.specs.Lines.{Line, edits_in, last_in}
-use Rattle.log_service.specs.declared.item.Item.{Item}
+use Rattle.log_service.specs.log_halves.declared.item.Item.{Item}
 use Rattle.log_service.specs.Closed.{HasPushedEntries}
 use Rattle.region_lock.specs.Met.{IsMet}
 use Rattle.region_lock.specs.Parts.{Part, AreOwned, entries_in}

@@ -1,7 +1,7 @@
 use Rattle.std.proofs.Common.{refl, arith}
 use Rattle.log_groups.specs.declared.helpers.GroupHelpers.{GroupHelpers}
 use Rattle.log_groups.proofs.Held.{held_same, seats_there}
-use Rattle.log_groups.proofs.Seats.{seat_within}
+use Rattle.group_calls.proofs.Seats.{seat_within}
 use Rattle.log_groups.proofs.helpers.GroupHelpers.put_back.Goals as goal
 
 pub put_back-requires : goal.put_back-requires

@@ -1,8 +1,8 @@
 use Rattle.std.proofs.Common.{◌≡◌, sym, ◌∙◌}
-use Rattle.group_servers.specs.region_calls.Deals.{passes_out}
-use Rattle.group_servers.specs.region_calls.Passes.{knows}
+use Rattle.group_calls.specs.region_calls.Deals.{passes_out}
+use Rattle.group_calls.specs.region_calls.Passes.{knows}
 use Rattle.log_groups.proofs.Evens.{even_left, even_next, even_same}
-use Rattle.log_groups.proofs.Handlers.{handed_out}
+use Rattle.log_groups.proofs.Evens.{handed_out}
 use Rattle.log_groups.proofs.passes.GroupPasses.next.Goals as goal
 
 pub next-requires : goal.next-requires

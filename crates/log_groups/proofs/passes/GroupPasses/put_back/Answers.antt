@@ -1,4 +1,4 @@
-use Rattle.group_servers.specs.region_calls.Deals.{passes_out}
+use Rattle.group_calls.specs.region_calls.Deals.{passes_out}
 use Rattle.log_groups.proofs.Evens.{even_back}
 use Rattle.log_groups.proofs.passes.GroupPasses.put_back.Goals as goal
 

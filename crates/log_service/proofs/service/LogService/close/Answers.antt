@@ -13,19 +13,19 @@ use Rattle.disk_images.specs.Calls.{Rose}
 use Rattle.log_berth.specs.Standing.{Standing, AllSaw, AreBack}
 use Rattle.log_trucks.specs.Held.{Held}
 use Rattle.log_device.specs.Whole.{IsBroken, disk_of, numbers_of}
-use Rattle.log_service.specs.declared.item.Item.{Item}
-use Rattle.log_service.specs.Items.{region_of, appended}
-use Rattle.log_service.specs.Trucks.{FollowFrom}
-use Rattle.log_service.specs.Chains.{all_trucks}
-use Rattle.log_service.specs.Numbers.{told_numbers}
+use Rattle.log_halves.specs.declared.item.Item.{Item}
+use Rattle.log_halves.specs.Items.{region_of, appended}
+use Rattle.log_halves.specs.Trucks.{FollowFrom}
+use Rattle.log_halves.specs.Chains.{all_trucks}
+use Rattle.log_halves.specs.Numbers.{told_numbers}
 use Rattle.log_service.specs.Places.{ServiceId}
 use Rattle.log_service.specs.Closed.{CommitsRegion, CommitsSince, LeavesFiles}
-use Rattle.log_service.specs.Moments.{GoesOnFrom, OthersSince}
+use Rattle.log_halves.specs.Moments.{GoesOnFrom, OthersSince}
 use Rattle.log_berth.proofs.Joined.{no_more-trans}
 use Rattle.log_service.proofs.CloseLaws.{region_commits, region_since}
 use Rattle.log_service.proofs.FilesLeft.{either_leaves, either_others}
 use Rattle.log_service.proofs.Popped.{all_popped, chains_pushed, idle_empty, idle_back, idle_first}
-use Rattle.log_service.proofs.Sees.{is_broken}
+use Rattle.log_halves.proofs.Faults.{is_broken}
 use Rattle.log_service.proofs.service.LogService.close.Goals as goal
 
 pub close-mover-requires-clause-back : goal.close-mover-requires-clause-back

@@ -1,6 +1,6 @@
 use Rattle.std.proofs.Common.{◌≡◌, ℕ, refl, sym}
 use Rattle.crossbeam_queue.specs.Passes.{view}
-use Rattle.log_service.specs.Moves.{bench_of}
+use Rattle.log_halves.specs.Moves.{bench_of}
 use Rattle.log_service.specs.declared.turning.ConsumerTurn.TheVariants as turns
 use Rattle.log_service.proofs.service.LogService.consumer_turn.Goals as goal
 

@@ -3,7 +3,7 @@ use Rattle.log_berth.specs.declared.known.Known.{Known}
 use Rattle.log_berth.specs.declared.known.Tally.{Tally}
 use Rattle.log_berth.specs.Words.{NoMore}
 use Rattle.log_device.specs.Whole.{numbers_of}
-use Rattle.log_service.specs.Numbers.{told_numbers, HasSeen}
+use Rattle.log_halves.specs.Numbers.{told_numbers, HasSeen}
 use Rattle.log_service.specs.Places.{ServiceId}
 use Rattle.log_service.proofs.Sees.{has_seen}
 use Rattle.log_service.proofs.service.LogService.give_both.Goals as goal

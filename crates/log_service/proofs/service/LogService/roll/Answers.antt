@@ -4,10 +4,11 @@ use Rattle.crossbeam_queue.specs.Passes.{view}
 use Rattle.log_berth.proofs.Joined.{no_more-trans}
 use Rattle.log_device.specs.declared.error.RollRefusal.TheVariants as refusals
 use Rattle.log_device.specs.Whole.{log_of, numbers_of}
-use Rattle.log_service.specs.Numbers.{told_numbers}
+use Rattle.log_halves.specs.Numbers.{told_numbers}
 use Rattle.log_service.specs.Places.{ServiceId}
 use Rattle.log_service.proofs.SeatLaws.{later_trans, given_later}
-use Rattle.log_service.proofs.Sees.{has_file, is_broken, not_broken, no_roll_fault, then_whole, sees_all, closed_over}
+use Rattle.log_halves.proofs.Faults.{has_file, is_broken, not_broken, no_roll_fault, then_whole}
+use Rattle.log_service.proofs.Sees.{sees_all, closed_over}
 use Rattle.log_service.proofs.service.LogService.roll.Goals as goal
 
 pub give_both-requires-clause-device : goal.give_both-requires-clause-device

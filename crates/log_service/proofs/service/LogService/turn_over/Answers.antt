@@ -4,15 +4,16 @@ use Rattle.log_berth.specs.declared.known.Known.{Known}
 use Rattle.log_berth.specs.Words.{NoMore, looked}
 use Rattle.log_berth.proofs.Joined.{no_more-trans}
 use Rattle.log_device.specs.Whole.{log_of, numbers_of}
-use Rattle.log_service.specs.declared.committing.Commit.TheVariants as commits
+use Rattle.log_halves.specs.declared.committing.Commit.TheVariants as commits
 use Rattle.log_service.specs.declared.seats.LogSeat.{LogSeat}
 use Rattle.log_service.specs.declared.turning.SyncTurn.TheVariants as turns
-use Rattle.log_service.specs.Chains.{AreInOrder}
-use Rattle.log_service.specs.Moves.{WasFull}
-use Rattle.log_service.specs.Numbers.{told_numbers}
+use Rattle.log_halves.specs.Chains.{AreInOrder}
+use Rattle.log_halves.specs.Moves.{WasFull}
+use Rattle.log_halves.specs.Numbers.{told_numbers}
 use Rattle.log_service.specs.Turns.{SawCommitted}
 use Rattle.log_service.proofs.SeatLaws.{turn_later, had_both, not_set}
-use Rattle.log_service.proofs.Sees.{has_file, saw_at_most}
+use Rattle.log_halves.proofs.Faults.{has_file}
+use Rattle.log_service.proofs.Sees.{saw_at_most}
 use Rattle.log_service.proofs.service.LogService.turn_over.Goals as goal
 
 -- each answer is no other
@@ -148,3 +149,34 @@ returns-in-WriteFault-clause-clean g c is = absurd (fault_clean is)
 
 pub returns-in-Committed-clause-clean : goal.returns-in-Committed-clause-clean
 returns-in-Committed-clause-clean g c is = absurd (clean_synced _ (sym is))
+
+-- what the device's turn was taken with still holds after the look
+pub end_turn-requires-clause-durable : goal.end_turn-requires-clause-durable
+end_turn-requires-clause-durable g c =
+    let ware = c.in-Ok.turn.ware in
+    subst (λ l. NoMore l (told_numbers ware.regions (numbers_of ware.device))) (sym c.broken.ensures.same.3) c.in-Ok.ensures.taken.1.below
+
+pub end_turn-requires-clause-broken : goal.end_turn-requires-clause-broken
+end_turn-requires-clause-broken g c =
+    let held = c.in-Ok.ensures.taken.1 in
+    held.broken ∙ (sym (c.broken.ensures.exact held.turn) ∙ sym c.broken.ensures.known.0)
+
+pub end_turn-requires-then-not-hand_chain-clause-durable : goal.end_turn-requires-then-not-hand_chain-clause-durable
+end_turn-requires-then-not-hand_chain-clause-durable g c =
+    let ware = c.in-Ok.turn.ware in
+    subst (λ l. NoMore l (told_numbers ware.regions (numbers_of ware.device))) (sym c.broken.ensures.same.3) c.in-Ok.ensures.taken.1.below
+
+pub end_turn-requires-then-not-hand_chain-clause-broken : goal.end_turn-requires-then-not-hand_chain-clause-broken
+end_turn-requires-then-not-hand_chain-clause-broken g c =
+    let held = c.in-Ok.ensures.taken.1 in
+    held.broken ∙ (sym (c.broken.ensures.exact held.turn) ∙ sym c.broken.ensures.known.0)
+
+pub commit_and_raise-commit-requires-clause-unbroken : goal.commit_and_raise-commit-requires-clause-unbroken
+commit_and_raise-commit-requires-clause-unbroken g c =
+    let held = c.in-Ok.ensures.taken.1 in
+    has_file (log_of c.in-Ok.turn.ware.device) (held.broken ∙ (sym (c.broken.ensures.exact held.turn) ∙ c.if-broken.false))
+
+pub commit_and_raise-commit-requires-clause-below : goal.commit_and_raise-commit-requires-clause-below
+commit_and_raise-commit-requires-clause-below g c =
+    let ware = c.in-Ok.turn.ware in
+    subst (λ l. NoMore l (told_numbers ware.regions (numbers_of ware.device))) (sym c.broken.ensures.same.3) c.in-Ok.ensures.taken.1.below

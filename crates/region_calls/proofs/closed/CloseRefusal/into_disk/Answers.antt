@@ -1,7 +1,7 @@
 use Rattle.std.proofs.Common.{◌≡◌, ℕ, ◌+◌, ◌-◌, ◌<◌, ◌≤◌, true, List, map, slice_index, Contains, sym, ap, ◌∙◌, subst, arith}
 use Rattle.std.proofs.Math.Logic.{∥∥₁_map, ∥∥₁_map₂}
 use Rattle.append_ring.specs.declared.pass.RingKey.{RingKey}
-use Rattle.log_service.specs.declared.item.Item.{Item}
+use Rattle.log_service.specs.log_halves.declared.item.Item.{Item}
 use Rattle.log_service.specs.Places.{ServiceId}
 use Rattle.log_service.specs.Closed.{stored_in}
 use Rattle.server_model.specs.Pass.{Pass as ThePass, Naming}

@@ -5,7 +5,7 @@ use Rattle.region_model.specs.Lines.{Line, edits_in}
 use Rattle.region_state.specs.States.{State, write_point}
 use Rattle.region_lock.specs.Parts.{Part}
 use Rattle.log_trucks.specs.Held.{Haul, IsHeld, held_of}
-use Rattle.log_service.specs.declared.item.Item.TheVariants as items
+use Rattle.log_service.specs.log_halves.declared.item.Item.TheVariants as items
 use Rattle.region_lock.specs.Jobs.{IsJob, line_of, entry_under}
 use Rattle.region_lock.proofs.Lists.{length_set}
 use Rattle.region_lock.proofs.Ties.{next_call, own_upto, follows_front}

@@ -28,3 +28,8 @@ pub returns-clause-tests : goal.returns-clause-tests
 returns-clause-tests c =
     subst (λ (a : Accounts). (f : ClosedFile) → Contains a.closed f → IsTested a.whole a.flushed f) c.self.view_is
     (told_each _ (IsTested c.self.inside.flushed.whole c.self.inside.flushed.families) _ (λ x b f' k. search (rules, tested)) _ _ c.retain.ensures.filtered)
+
+pub returns-clause-history : goal.returns-clause-history
+returns-clause-history c notes h =
+    let before = subst (λ (a : Accounts). HasNoted a notes) (sym c.self.view_is) h in
+    noted_same _ _ notes (record { flushed = record { whole = refl; flushed = refl }; noted = refl; flushing = refl; oldest = record { oldest = refl; since = refl } }) before

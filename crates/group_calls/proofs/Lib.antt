@@ -1,0 +1,8 @@
+pub use Rattle.script_handlers.proofs as script_handlers_laws
+pub use Rattle.group_servers.proofs.region_calls_laws as region_calls_laws
+pub mod Seats
+pub mod There
+pub mod Elsewhere
+pub mod Handlers
+pub mod Doing
+pub mod Crossing

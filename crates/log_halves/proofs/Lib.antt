@@ -1,0 +1,14 @@
+pub mod Numbers
+pub mod Faults
+pub mod Chains
+pub mod ItemLaws
+pub mod Raised
+pub mod Staged
+pub mod Committed
+pub mod Beginning
+pub mod Bounds
+pub mod Tied
+pub mod Elapsed
+pub mod Popped
+pub mod Stored
+pub mod Crossing
