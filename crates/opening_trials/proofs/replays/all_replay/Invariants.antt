@@ -5,4 +5,4 @@ use Rattle.disk_fakes.specs.Views.{view_of}
 use Rattle.opening_trials.proofs.replays.all_replay.Given as goal
 
 abbrev pub invariant-loop-before : goal.invariant-loop-before
-invariant-loop-before g l = (m : Name) → m.kind ≡ kinds.Store → ¬ (view_of l.disk).gone m
+invariant-loop-before l = (m : Name) → m.kind ≡ kinds.Store → ¬ (view_of l.disk).gone m
