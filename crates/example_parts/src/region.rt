@@ -1,12 +1,5 @@
-//! Example of one region in memory, without a log, a lock or threads: edits get their numbers in order, and end done or
-//! failed. A version is what a reader sees at a point: it stays as it is however the region goes on, and a failed edit shows
-//! nothing.
-//!
-//! What to know of Rattle to read it: memory can run out, so what allocates is passed an allocator and gives a `Result`. What
-//! the outside has (here printing) is reached through `rt`, which `main` gets. `ensures` says what a function promises and
-//! `requires` what its caller owes; both are proved when this file is compiled, and cost nothing when it runs. `state.old` is
-//! the value behind the `&mut` at the call, `state.new` that at the return.
-#![tactic(auto)]
+//! One region in memory, without a log, a lock or threads: edits get their numbers in order, and end done or failed. A version
+//! is what a reader sees at a point: it stays as it is however the region goes on, and a failed edit shows nothing.
 
 ghost use Rattle.std.specs.Prelude.{◌≡◌, ◌+◌, [], IfOk, OnOk};
 ghost use Rattle.region_state.specs.Calls.{AreBelow};
@@ -72,7 +65,8 @@ fn print_version<R: Print + AllocGlobal>(rt: &R, version: &Version) -> Result<()
     Ok(())
 }
 
-fn main(rt: HostRuntime) -> Result<()> {
+/// Prints what two readers see of one region, one before and one after two more edits.
+pub fn print_two_versions(rt: &HostRuntime) -> Result<()> {
     let alloc = rt.alloc();
     let mut state = empty_region(alloc)?;
     put_name(alloc, &mut state, 1, b"user1", b"Ann", Ended::Done)?;
@@ -81,6 +75,6 @@ fn main(rt: HostRuntime) -> Result<()> {
     put_name(alloc, &mut state, 3, b"user2", b"Eve", Ended::Failed)?;
     put_name(alloc, &mut state, 4, b"user1", b"Anna", Ended::Done)?;
     let after = state.next_version(alloc)?;
-    print_version(&rt, &before)?;
-    print_version(&rt, &after)
+    print_version(rt, &before)?;
+    print_version(rt, &after)
 }

@@ -1,10 +1,4 @@
-//! Example of a log file in a real folder: entries are staged, made durable together and read back, and a damaged byte is told
-//! with its place.
-//!
-//! What to know of Rattle to read it: memory can run out, so what allocates is passed an allocator and gives a `Result`. What
-//! the outside has (files, printing) is reached through `rt`, which `main` gets. `ensures` says what a function promises and
-//! `requires` what its caller owes; both are proved when this file is compiled, and cost nothing when it runs.
-#![tactic(auto)]
+//! A log file in a real folder: entries are staged, made durable together and read back, and a damaged byte is told with its place.
 
 ghost use Rattle.std.specs.Prelude.{◌≡◌, ◌≤◌, ◌<◌, ◌^◌, ℕ, List, IsTrue};
 ghost use Rattle.log_model.specs.Files.{Reads};
@@ -18,15 +12,15 @@ use log_file::{DiskFault, LogFile, read_log};
 use std::alloc::Global;
 
 /// The file `log-1`. A log belongs to no region, so its region is 0.
-const LOG: Name = Name {
+pub const LOG: Name = Name {
     kind: NameKind::Log,
     region: 0,
     number: 1,
 };
 
 /// Stages the put of a person's name as edit `number` of region 1, at time 1000. `LogFile::stage` asks for bytes that spell an
-/// entry of this file, and `encode_entry` promises such bytes: proofs/stage_name has the three lines that bring the two together.
-fn stage_name(alloc: Global, log: &mut LogFile, number: u64, row: &[u8], name: &[u8]) -> Result<()>
+/// entry of this file, and `encode_entry` promises such bytes: proofs/log/stage_name has the three lines that bring the two together.
+pub fn stage_name(alloc: Global, log: &mut LogFile, number: u64, row: &[u8], name: &[u8]) -> Result<()>
     requires region { log.old.name.region ≡ 0 }
     requires first { 1 ≤ number }
     requires last { number < 2 ^ 48 }
@@ -66,11 +60,12 @@ fn print_log<R: Print + AllocGlobal, D: Disk>(rt: &R, disk: &mut D, name: Name) 
     Ok(())
 }
 
-fn main(rt: HostRuntime) -> Result<()> {
+/// Prints what a log of two entries holds, before and after one of its bytes is damaged.
+pub fn print_durable_entries(rt: &HostRuntime) -> Result<()> {
     let alloc = rt.alloc();
     // The folder `hwal-store`. It tells nothing of what it holds, so what clauses say of crashes holds of it as far as it
     // behaves as docs/MODEL.md says.
-    let mut disk = FolderDisk::new(&rt, alloc, Access::Writing);
+    let mut disk = FolderDisk::new(rt, alloc, Access::Writing);
     // Three disk calls. Until the last one a crash leaves no file, or one without entries.
     let mut log = LogFile::begin(alloc, &mut disk, LOG)?;
     stage_name(alloc, &mut log, 1, b"user1", b"Ann")?;
@@ -80,8 +75,8 @@ fn main(rt: HostRuntime) -> Result<()> {
     println!(rt; "{count} entries are durable")?;
     // A staged entry is in memory alone, so it isn't in the file.
     stage_name(alloc, &mut log, 3, b"user3", b"Cid")?;
-    print_log(&rt, &mut disk, LOG)?;
+    print_log(rt, &mut disk, LOG)?;
     // Byte 17 is the kind of the first frame, right behind its gate at 16.
     disk.write_at(LOG, 17, b"?").map_err(DiskFault::from)?;
-    print_log(&rt, &mut disk, LOG)
+    print_log(rt, &mut disk, LOG)
 }
