@@ -16,7 +16,7 @@ use Rattle.ship_queue.specs.Course.{LeadsTo}
 use Rattle.ship_queue.specs.Messages.{Message}
 use Rattle.ship_queue.specs.Refusals.{IsOrFailure}
 use Rattle.ship_queue.specs.Shipping.{ShipsBeginning, ShipsUpTo, ShipsAll, AreTexts}
-use Rattle.ship_queue.specs.Sinks.{HasWritten}
+use Rattle.ship_command.specs.Sinks.{HasWritten}
 use Rattle.script_model.specs.Report.{end_line}
 use Rattle.ship_queue.specs.declared.error.Shipped.{Shipped}
 use Rattle.ship_queue.specs.declared.error.ShipRefusal.{ShipRefusal}

@@ -1,3 +1,4 @@
 pub mod Words
+pub mod Sinks
 pub mod Shipped
 pub mod Refusals

@@ -10,7 +10,7 @@ use Rattle.log_tail.specs.Reads.{IsDamagedAt, IsNoPosition}
 use Rattle.ship_queue.specs.Course.{LeadsTo}
 use Rattle.ship_queue.specs.Messages.{Message}
 use Rattle.ship_queue.specs.Shipping.{ShipsBeginning, ShipsUpTo, ShipsAll, AreTexts}
-use Rattle.ship_queue.specs.Sinks.{message_text}
+use Rattle.ship_command.specs.Sinks.{message_text}
 use Rattle.command_base.specs.Invocation.{Invocation, IsRefused}
 use Rattle.command_base.specs.Status.{refusal_line}
 use Rattle.command_base.specs.declared.status.Status.{Status}

@@ -13,10 +13,11 @@ ghost use Rattle.command_base.specs.Status.{IsDamageOf, IsNoPositionOf, IsOrEarl
 ghost use Rattle.ship_command.specs.Refusals.{HasPrinted, refused_as};
 ghost use Rattle.ship_command.specs.Shipped.{EndsShip, IsShipDamage, IsShipEnd, LacksPosition};
 
+use crate::sink_peer::SinkPeer;
 use command_base::{Damage, Status, emit, refuse};
 use disk_images::{Disk, Sink};
 use log_tail::{Position, Tail};
-use ship_queue::{ShipRefusal, Shipped, SinkPeer, ship_all};
+use ship_queue::{ShipRefusal, Shipped, ship_all};
 use std::alloc::Global;
 use std::sync::Wait;
 use std::thread::Threads;

@@ -4,7 +4,6 @@ pub mod Sends
 pub mod Behind
 pub mod Records
 mod Steps
-mod Written
 pub mod Places
 mod ReadingLaws
 pub mod Going

@@ -4,4 +4,3 @@ pub mod Sent
 pub mod Course
 pub mod Refusals
 pub mod Shipping
-pub mod Sinks

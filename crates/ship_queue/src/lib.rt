@@ -1,21 +1,16 @@
 //! Ships a log's entries to a peer, as HBase replicates its logs: `ship_all` reads what stands behind a position and ships it in
 //! order, and the peer records how far it has come. A call that begins at the recorded position ships no entry twice that
 //! stands before it, and leaves none out. Begin at `shipping`. A peer is whatever meets `Peer`: `MemPeer` keeps what it is
-//! shipped in memory, `SinkPeer` prints it, for the command `ship`.
+//! shipped in memory, and `SinkPeer` of ship_command prints it.
 #![tactic(auto)]
 
-mod cells;
-mod entries;
 mod error;
-mod held;
 mod laws;
 mod memory_peer;
 mod peer;
 mod reading;
 mod sending;
 mod shipping;
-mod sink_peer;
-mod tokens;
 
 pub use error::{ShipRefusal, Shipped};
 pub use laws::{part_ship_is_a_step, ship_is_a_part_ship};
@@ -23,4 +18,3 @@ pub use log_tail::Position;
 pub use memory_peer::{MemPeer, ShippedEntry};
 pub use peer::Peer;
 pub use shipping::ship_all;
-pub use sink_peer::SinkPeer;

@@ -2,7 +2,7 @@
 use Rattle.std.proofs.Common.{◌≡◌, ℕ, Bool, List, [], ◌∷◌, ◌++◌, sym, ap, ◌∙◌, append_assoc, append-nil}
 use Rattle.std.specs.List.{flat_map}
 use Rattle.ship_queue.specs.Messages.{Message}
-use Rattle.ship_queue.specs.Sinks.{message_text, HasWritten}
+use Rattle.ship_command.specs.Sinks.{message_text, HasWritten}
 
 texts : (ms : List Message) (m : Message) → flat_map message_text (ms ++ m ∷ []) ≡ flat_map message_text ms ++ message_text m
 texts [] m = append-nil (message_text m)

@@ -1,7 +1,7 @@
 use Rattle.std.proofs.Common.{◌≡◌, ◌++◌, ap, ◌∙◌, refl}
 use Rattle.cell_model.specs.Cell.{Cell}
 use Rattle.report_text.proofs.LineLaws.{cell_appended}
-use Rattle.ship_queue.proofs.cells.put_cell.Goals as goal
+use Rattle.ship_command.proofs.cells.put_cell.Goals as goal
 
 pub returns-clause-ok : goal.returns-clause-ok
 returns-clause-ok g c told =

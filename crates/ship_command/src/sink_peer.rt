@@ -1,13 +1,13 @@
 //! A peer that is a sink.
 
 ghost use Rattle.std.specs.Prelude.{◌≡◌, false, [], IsTrue};
-ghost use Rattle.ship_queue.specs.Sinks.{HasWritten};
+ghost use Rattle.ship_command.specs.Sinks.{HasWritten};
 
 use crate::entries::{write_entry, write_record};
-use crate::peer::Peer;
 use disk_images::{Failed, Sink};
 use entry_frame::Entry;
 use log_tail::Position;
+use ship_queue::Peer;
 use std::snapshot::Snapshot;
 
 /// Writes to a sink the lines of what it is shipped, and of what it is to record. It takes no memory, and fails only where the
@@ -50,7 +50,7 @@ impl<'a, K: Sink> SinkPeer<'a, K> {
 
 impl<'a, K: Sink> Peer for SinkPeer<'a, K> {
     ghost use Rattle.std.proofs.Common.{◌≡◌, ◌∙◌, refl};
-    ghost use Rattle.ship_queue.specs.Sinks.{HasWritten};
+    ghost use Rattle.ship_command.specs.Sinks.{HasWritten};
 
     ghost has = { λ p ms. HasWritten K.told p.failed (K.taken p.first.value) (K.taken p.out.now) ms };
 

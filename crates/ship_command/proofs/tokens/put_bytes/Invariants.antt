@@ -1,7 +1,7 @@
 use Rattle.std.proofs.Common.{◌≡◌, ◌≤◌, ◌++◌, IsTrue, take}
 use Rattle.std.specs.List.{flat_map}
 use Rattle.script_model.specs.Text.{escaped}
-use Rattle.ship_queue.proofs.tokens.put_bytes.Given as goal
+use Rattle.ship_command.proofs.tokens.put_bytes.Given as goal
 
 abbrev pub invariant-loop-b : goal.invariant-loop-b
 invariant-loop-b g l = record {

@@ -5,7 +5,7 @@ ghost use Rattle.disk_images.specs.Calls.{HasCause};
 ghost use Rattle.script_model.specs.Outputs.{table_line};
 ghost use Rattle.log_tail.specs.Position.{position_of};
 ghost use Rattle.ship_queue.specs.Messages.{Entry_of, Record_of, placed};
-ghost use Rattle.ship_queue.specs.Sinks.{ship_line, position_line, message_text};
+ghost use Rattle.ship_command.specs.Sinks.{ship_line, position_line, message_text};
 
 use crate::cells::put_cells;
 use crate::held::{Held, put, put_numbers, send};

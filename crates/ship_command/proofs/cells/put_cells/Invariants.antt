@@ -2,7 +2,7 @@ use Rattle.std.proofs.Common.{◌≡◌, ◌≤◌, ◌++◌, IsTrue, take}
 use Rattle.std.specs.List.{flat_map}
 use Rattle.cell_model.specs.Cell.{Cell}
 use Rattle.script_model.specs.Report.{cell_line}
-use Rattle.ship_queue.proofs.cells.put_cells.Given as goal
+use Rattle.ship_command.proofs.cells.put_cells.Given as goal
 
 abbrev pub invariant-loop-cell : goal.invariant-loop-cell
 invariant-loop-cell g l = record {
