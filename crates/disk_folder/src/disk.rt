@@ -1,7 +1,7 @@
 //! The folder as a disk: each failure is counted once, and told with its cause.
 
-ghost use Rattle.std.specs.Prelude.{◌≡◌, ◌≤◌, length, min, false, OnOk, IfOk, IsErr};
-ghost use Rattle.disk_images.specs.Calls.{Rose};
+ghost use Rattle.std.specs.Prelude.{◌≡◌, ◌≤◌, length, min, false, Ok, OnOk, IfOk, IsErr};
+ghost use Rattle.disk_images.specs.Calls.{Rose, HasCause};
 
 use crate::folder::FolderDisk;
 use disk_images::{Disk, Failed, Name, NameList, NamesError};
@@ -12,6 +12,19 @@ use std::rt::Files;
 
 /// A file ends below this many bytes.
 const LIMIT: u64 = 1 << 63;
+
+impl<R: Eprint> FolderDisk<'_, R> {
+    /// Hands on what a call on a file gave. An error is a fault.
+    fn answer<T: Copy>(&mut self, call: &str, name: Name, given: io::Result<T>) -> Result<T, Failed>
+        ensures same { IfOk result (λ value. given ≡ Ok value) }
+        ensures cause { HasCause self.old.faults self.new.faults (IsErr result) }
+    {
+        match given {
+            Ok(value) => Ok(value),
+            Err(cause) => Err(self.fail(call, name, &cause)),
+        }
+    }
+}
 
 impl<R: Files<File = File> + Eprint + AllocGlobal + Clone + Drop> Disk for FolderDisk<'_, R> {
     ghost use Rattle.disk_folder.specs.Untold.{no_view, untold};
@@ -36,58 +49,42 @@ impl<R: Files<File = File> + Eprint + AllocGlobal + Clone + Drop> Disk for Folde
     }
 
     fn size(&mut self, name: Name) -> Result<Option<u64>, Failed> {
-        match self.size_of(name) {
-            Ok(size) => Ok(size),
-            Err(e) => Err(self.fail("size", name, &e)),
-        }
+        let given = self.size_of(name);
+        self.answer("size", name, given)
     }
 
     fn read(&mut self, name: Name, at: u64, into: &mut [u8]) -> Result<usize, Failed> {
-        match self.read_file(name, at, into) {
-            Ok(n) => Ok(n),
-            Err(e) => Err(self.fail("read", name, &e)),
-        }
+        let given = self.read_file(name, at, into);
+        self.answer("read", name, given)
     }
 
     fn create(&mut self, name: Name) -> Result<(), Failed> {
-        match self.create_file(name) {
-            Ok(()) => Ok(()),
-            Err(e) => Err(self.fail("create", name, &e)),
-        }
+        let given = self.create_file(name);
+        self.answer("create", name, given)
     }
 
     fn write_at(&mut self, name: Name, at: u64, bytes: &[u8]) -> Result<(), Failed> {
-        let fits = at < LIMIT && (bytes.len() as u64) < LIMIT - at;
-        let written = if fits {
-            self.write_file(name, at, bytes)
-        } else {
-            Err(io::Error::from(ErrorKind::FileTooLarge))
-        };
-        match written {
-            Ok(()) => Ok(()),
-            Err(e) => Err(self.fail("write", name, &e)),
+        if at >= LIMIT || (bytes.len() as u64) >= LIMIT - at {
+            let cause = io::Error::from(ErrorKind::FileTooLarge);
+            return Err(self.fail("write", name, &cause));
         }
+        let given = self.write_file(name, at, bytes);
+        self.answer("write", name, given)
     }
 
     fn sync(&mut self, name: Name) -> Result<(), Failed> {
-        match self.sync_file(name) {
-            Ok(()) => Ok(()),
-            Err(e) => Err(self.fail("sync", name, &e)),
-        }
+        let given = self.sync_file(name);
+        self.answer("sync", name, given)
     }
 
     fn rename(&mut self, from: Name, to: Name) -> Result<(), Failed> {
-        match self.rename_file(from, to) {
-            Ok(()) => Ok(()),
-            Err(e) => Err(self.fail("rename", from, &e)),
-        }
+        let given = self.rename_file(from, to);
+        self.answer("rename", from, given)
     }
 
     fn remove(&mut self, name: Name) -> Result<(), Failed> {
-        match self.remove_file(name) {
-            Ok(()) => Ok(()),
-            Err(e) => Err(self.fail("remove", name, &e)),
-        }
+        let given = self.remove_file(name);
+        self.answer("remove", name, given)
     }
 
     fn settle(&mut self) -> Result<(), Failed> {

@@ -14,7 +14,7 @@ use std::os::unix::fs::FileExt;
 use std::rt::Files;
 
 /// What a program does with a store.
-#[derive(Clone, Copy, Debug, PartialEq, Eq)]
+#[derive(Clone, Copy, PartialEq, Eq)]
 pub enum Access {
     /// It reads, beside others that read.
     Reading,
@@ -75,30 +75,20 @@ impl<'a, R> FolderDisk<'a, R> {
 }
 
 impl<R: Eprint> FolderDisk<'_, R> {
-    /// Counts a fault, and tells its cause.
+    /// Counts a fault, and tells its cause. Where standard error takes nothing, nobody is told.
     pub(crate) fn fail(&mut self, call: &str, name: Name, cause: &io::Error) -> Failed
         ensures rose { Rose self.old.faults self.new.faults }
         ensures later { self.old.faults ≤ self.new.faults }
     {
         // Where there is one folder, the file's name is enough.
-        if self.folder == FOLDER {
-            self.tell(call, name, cause);
+        let (folder, slash) = if self.folder == FOLDER {
+            ("", "")
         } else {
-            self.tell_in_folder(call, name, cause);
-        }
-        self.count()
-    }
-
-    /// Tells a cause on standard error. Where that takes nothing, nobody is told.
-    fn tell(&self, call: &str, name: Name, cause: &io::Error) {
+            (self.folder, "/")
+        };
         let spelled = Spelled(name);
-        let _ = eprintln!(self.rt; "hwal: {call} {spelled}: {cause}");
-    }
-
-    /// The same with the folder in front of the file.
-    fn tell_in_folder(&self, call: &str, name: Name, cause: &io::Error) {
-        let (folder, spelled) = (self.folder, Spelled(name));
-        let _ = eprintln!(self.rt; "hwal: {call} {folder}/{spelled}: {cause}");
+        let _ = eprintln!(self.rt; "hwal: {call} {folder}{slash}{spelled}: {cause}");
+        self.count()
     }
 
     /// The same for a call on the folder.
@@ -125,61 +115,56 @@ impl<R: Files<File = File> + AllocGlobal + Clone + Drop> FolderDisk<'_, R> {
     pub(crate) fn list_files(&mut self) -> io::Result<Vec<Name>>
         ensures faults { self.new.faults ≡ self.old.faults }
     {
-        self.hold()?;
-        names_in(self.rt, self.alloc, self.folder)
+        match self.hold(Access::Reading) {
+            Ok(()) => names_in(self.rt, self.alloc, self.folder),
+            Err(e) => Err(e),
+        }
     }
 
     pub(crate) fn size_of(&mut self, name: Name) -> io::Result<Option<u64>>
         ensures faults { self.new.faults ≡ self.old.faults }
     {
-        self.hold()?;
-        length_of(self.rt, self.alloc, self.folder, name)
+        match self.hold(Access::Reading) {
+            Ok(()) => length_of(self.rt, self.alloc, self.folder, name),
+            Err(e) => Err(e),
+        }
     }
 
     pub(crate) fn read_file(&mut self, name: Name, at: u64, into: &mut [u8]) -> io::Result<usize>
         ensures within { IfOk result (λ n. n ≤ length into.old) }
         ensures faults { self.new.faults ≡ self.old.faults }
     {
-        self.hold()?;
+        self.hold(Access::Reading)?;
         self.open_file(name, false)?;
-        let file = self.open.latest()?;
-        read_from(file, at, into)
+        read_from(self.open.latest()?, at, into)
     }
 
     pub(crate) fn create_file(&mut self, name: Name) -> io::Result<()>
         ensures faults { self.new.faults ≡ self.old.faults }
     {
-        self.hold_to_write()?;
+        self.hold(Access::Writing)?;
         self.make_folder()?;
         self.place_folder()?;
         self.is_settled = false;
-        let path = path_of(self.alloc, self.folder, name)?;
-        let file = OpenOptions::new()
-            .read(true)
-            .write(true)
-            .create_new(true)
-            .open(self.rt, path.as_str())?;
-        self.open.keep(name, file, true)?;
-        Ok(())
+        let file = self.opened(name, true, true)?;
+        self.open.keep(name, file, true)
     }
 
     pub(crate) fn write_file(&mut self, name: Name, at: u64, bytes: &[u8]) -> io::Result<()>
         ensures faults { self.new.faults ≡ self.old.faults }
     {
-        self.hold_to_write()?;
+        self.hold(Access::Writing)?;
         self.open_file(name, true)?;
-        let file = self.open.latest()?;
-        file.write_all_at(bytes, at)
+        self.open.latest()?.write_all_at(bytes, at)
     }
 
     /// Pins what the file holds and, where any name in the folder may not be durable, all names.
     pub(crate) fn sync_file(&mut self, name: Name) -> io::Result<()>
         ensures faults { self.new.faults ≡ self.old.faults }
     {
-        self.hold_to_write()?;
+        self.hold(Access::Writing)?;
         self.open_file(name, false)?;
-        let file = self.open.latest()?;
-        file.sync_all()?;
+        self.open.latest()?.sync_all()?;
         if self.is_settled {
             return Ok(());
         }
@@ -189,7 +174,7 @@ impl<R: Files<File = File> + AllocGlobal + Clone + Drop> FolderDisk<'_, R> {
     pub(crate) fn rename_file(&mut self, from: Name, to: Name) -> io::Result<()>
         ensures faults { self.new.faults ≡ self.old.faults }
     {
-        self.hold_to_write()?;
+        self.hold(Access::Writing)?;
         let old = path_of(self.alloc, self.folder, from)?;
         let new = path_of(self.alloc, self.folder, to)?;
         self.open.close(from);
@@ -200,7 +185,7 @@ impl<R: Files<File = File> + AllocGlobal + Clone + Drop> FolderDisk<'_, R> {
     pub(crate) fn remove_file(&mut self, name: Name) -> io::Result<()>
         ensures faults { self.new.faults ≡ self.old.faults }
     {
-        self.hold_to_write()?;
+        self.hold(Access::Writing)?;
         let path = path_of(self.alloc, self.folder, name)?;
         self.open.close(name);
         fs::remove_file(self.rt, path.as_str())
@@ -210,7 +195,7 @@ impl<R: Files<File = File> + AllocGlobal + Clone + Drop> FolderDisk<'_, R> {
     pub(crate) fn sync_folder(&mut self) -> io::Result<()>
         ensures faults { self.new.faults ≡ self.old.faults }
     {
-        self.hold_to_write()?;
+        self.hold(Access::Writing)?;
         if let Some(folder) = &self.held {
             folder.sync_all()?;
             self.place_folder()?;
@@ -222,10 +207,14 @@ impl<R: Files<File = File> + AllocGlobal + Clone + Drop> FolderDisk<'_, R> {
 
 /// What the calls share.
 impl<R: Files<File = File> + AllocGlobal + Clone + Drop> FolderDisk<'_, R> {
-    /// Opens and locks the folder, if it is there and wasn't locked yet.
-    fn hold(&mut self) -> io::Result<()>
+    /// Opens and locks the folder, if it is there and wasn't locked yet. A disk for reading refuses a call that writes.
+    fn hold(&mut self, wanted: Access) -> io::Result<()>
         ensures faults { self.new.faults ≡ self.old.faults }
     {
+        if wanted == Access::Writing && self.access == Access::Reading {
+            let why = "the store is open for reading";
+            return Err(io::Error::new(io::ErrorKind::PermissionDenied, why));
+        }
         if self.held.is_some() {
             return Ok(());
         }
@@ -240,17 +229,6 @@ impl<R: Files<File = File> + AllocGlobal + Clone + Drop> FolderDisk<'_, R> {
         }
     }
 
-    /// The same in front of a call that changes something.
-    fn hold_to_write(&mut self) -> io::Result<()>
-        ensures faults { self.new.faults ≡ self.old.faults }
-    {
-        if self.access == Access::Reading {
-            let why = "the store is open for reading";
-            return Err(io::Error::new(io::ErrorKind::PermissionDenied, why));
-        }
-        self.hold()
-    }
-
     /// Makes the folder where it wasn't there. No other program has begun the store since.
     fn make_folder(&mut self) -> io::Result<()>
         ensures faults { self.new.faults ≡ self.old.faults }
@@ -259,7 +237,7 @@ impl<R: Files<File = File> + AllocGlobal + Clone + Drop> FolderDisk<'_, R> {
             return Ok(());
         }
         fs::create_dir(self.rt, self.folder)?;
-        self.hold()?;
+        self.hold(Access::Reading)?;
         let names = names_in(self.rt, self.alloc, self.folder)?;
         if names.is_empty() {
             Ok(())
@@ -287,13 +265,18 @@ impl<R: Files<File = File> + AllocGlobal + Clone + Drop> FolderDisk<'_, R> {
         if self.open.find(name, for_writing) {
             return Ok(());
         }
+        let file = self.opened(name, for_writing, false)?;
+        self.open.keep(name, file, for_writing)
+    }
+
+    /// A handle of the file of this name, which is made where it is to be new.
+    fn opened(&self, name: Name, for_writing: bool, is_new: bool) -> io::Result<File> {
         let path = path_of(self.alloc, self.folder, name)?;
-        let file = OpenOptions::new()
+        OpenOptions::new()
             .read(true)
             .write(for_writing)
-            .open(self.rt, path.as_str())?;
-        self.open.keep(name, file, for_writing)?;
-        Ok(())
+            .create_new(is_new)
+            .open(self.rt, path.as_str())
     }
 }
 

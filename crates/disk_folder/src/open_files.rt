@@ -1,7 +1,7 @@
 //! Files that stay open between the calls on them.
 
 use disk_images::Name;
-use std::alloc::{AllocError, Global};
+use std::alloc::Global;
 use std::fs::File;
 use std::io;
 
@@ -49,7 +49,7 @@ impl OpenFiles {
 
     /// Keeps a file open in place of an older handle, and closes the one that wasn't used for longest where there are too
     /// many.
-    pub fn keep(&mut self, name: Name, file: File, is_writable: bool) -> Result<(), AllocError> {
+    pub fn keep(&mut self, name: Name, file: File, is_writable: bool) -> io::Result<()> {
         self.close(name);
         if self.files.len() >= MOST {
             let oldest = self.files.remove(0);
