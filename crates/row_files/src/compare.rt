@@ -1,6 +1,6 @@
 //! In what a run of a step differs from what its row says.
 
-use crate::output::{Difference, output_difference};
+use crate::output::{Difference, add_output};
 use crate::row::{ExpectedFile, ExpectedNames, Step, StoredFile};
 use crate::showing::{ShownByte, add_names};
 use disk_folder::Spelled;
@@ -8,78 +8,54 @@ use disk_images::Name;
 use std::alloc::{AllocError, Global};
 
 /// What a step's run printed and left. Its files stand in the order of their names.
-#[derive(Drop)]
-pub struct Found {
+#[derive(Clone, Copy)]
+pub struct Found<'a> {
     pub status: u8,
-    pub output: Vec<u8>,
-    pub files: Vec<StoredFile>,
+    pub output: &'a [u8],
+    pub files: &'a [StoredFile],
 }
 
-/// Of each kind the first difference: the output, the status, the names left, and what files hold.
-pub fn differences(
-    alloc: Global,
-    step: &Step,
-    found: &Found,
-) -> Result<Vec<Difference>, AllocError> {
-    let mut told = Vec::new(alloc);
-    add_differences(alloc, &mut told, step, found)?;
-    Ok(told)
-}
-
-fn add_differences(
+/// Tells of each kind the first difference: the output, the status, the names left, and what files hold.
+pub fn add_differences(
     alloc: Global,
     told: &mut Vec<Difference>,
     step: &Step,
-    found: &Found,
+    found: Found<'_>,
 ) -> Result<(), AllocError> {
     let line = step.status_line;
-    add(
-        told,
-        output_difference(alloc, &step.output, line, &found.output)?,
-    )?;
-    add(told, status_difference(alloc, step, found.status)?)?;
-    add(told, names_difference(alloc, &step.left, &found.files)?)?;
-    add(told, bytes_difference(alloc, &step.files, &found.files)?)
-}
-
-fn add(told: &mut Vec<Difference>, difference: Option<Difference>) -> Result<(), AllocError> {
-    if let Some(difference) = difference {
-        told.push(difference)?;
+    add_output(alloc, told, &step.output, line, found.output)?;
+    if step.status != found.status {
+        told.push(status_difference(alloc, line, step.status, found.status)?)?;
     }
-    Ok(())
+    add_left(alloc, told, &step.left, found.files)?;
+    add_contents(alloc, told, &step.files, found.files)
 }
 
 fn status_difference(
     alloc: Global,
-    step: &Step,
+    line: u64,
+    wanted: u8,
     status: u8,
-) -> Result<Option<Difference>, AllocError> {
-    let wanted = step.status;
-    if wanted == status {
-        return Ok(None);
-    }
+) -> Result<Difference, AllocError> {
     let what = format!(in alloc; "status: expected {wanted}, found {status}")?;
-    Ok(Some(Difference {
-        line: step.status_line,
-        what,
-    }))
+    Ok(Difference { line, what })
 }
 
-fn names_difference(
+fn add_left(
     alloc: Global,
+    told: &mut Vec<Difference>,
     left: &Option<ExpectedNames>,
     files: &[StoredFile],
-) -> Result<Option<Difference>, AllocError> {
+) -> Result<(), AllocError> {
     match left {
         Some(left) if !are_named(files, &left.names) => {
+            let line = left.line;
             let mut what = String::new(alloc);
             tell_names(alloc, &mut what, &left.names, files)?;
-            Ok(Some(Difference {
-                line: left.line,
-                what,
-            }))
+            told.push(Difference { line, what })?;
+            Ok(())
         }
-        _ => Ok(None),
+        _ => Ok(()),
     }
 }
 
@@ -112,36 +88,43 @@ fn names_of(alloc: Global, files: &[StoredFile]) -> Result<Vec<Name>, AllocError
     Ok(names)
 }
 
-/// The first file that isn't there or holds other bytes.
-fn bytes_difference(
+/// Tells the first file that isn't there or holds other bytes.
+fn add_contents(
     alloc: Global,
+    told: &mut Vec<Difference>,
     expected: &[ExpectedFile],
     files: &[StoredFile],
-) -> Result<Option<Difference>, AllocError> {
+) -> Result<(), AllocError> {
     for it in expected {
         let name = it.file.name;
         let found = files.iter().find(|file| file.name == name);
-        if let Some(what) = told_of_file(alloc, &it.file, found)? {
-            return Ok(Some(Difference {
-                line: it.line,
-                what,
-            }));
+        if !is_held(found, &it.file.bytes) {
+            return add_content(alloc, told, it, found);
         }
     }
-    Ok(None)
+    Ok(())
 }
 
-fn told_of_file(
-    alloc: Global,
-    expected: &StoredFile,
-    found: Option<&StoredFile>,
-) -> Result<Option<String>, AllocError> {
-    let wanted = expected.bytes.as_slice();
+fn is_held(found: Option<&StoredFile>, wanted: &[u8]) -> bool {
     match found {
-        None => Ok(Some(told_of_none(alloc, expected.name)?)),
-        Some(file) if file.bytes.as_slice() == wanted => Ok(None),
-        Some(file) => Ok(Some(told_of_bytes(alloc, expected.name, wanted, &file.bytes)?)),
+        None => false,
+        Some(file) => file.bytes.as_slice() == wanted,
     }
+}
+
+fn add_content(
+    alloc: Global,
+    told: &mut Vec<Difference>,
+    expected: &ExpectedFile,
+    found: Option<&StoredFile>,
+) -> Result<(), AllocError> {
+    let (line, file) = (expected.line, &expected.file);
+    let what = match found {
+        None => told_of_none(alloc, file.name)?,
+        Some(found) => told_of_bytes(alloc, file.name, &file.bytes, &found.bytes)?,
+    };
+    told.push(Difference { line, what })?;
+    Ok(())
 }
 
 fn told_of_none(alloc: Global, name: Name) -> Result<String, AllocError> {

@@ -18,7 +18,7 @@ mod row_lines;
 mod showing;
 mod words;
 
-pub use compare::{Found, differences};
+pub use compare::{Found, add_differences};
 pub use fault::{LineFault, RowFault};
 pub use output::{Difference, ExpectedLine};
 pub use piece::Piece;

@@ -18,27 +18,11 @@ pub struct ExpectedLine {
 }
 
 impl ExpectedLine {
-    pub fn read(
-        alloc: Global,
-        line: u64,
-        text: &str,
-        is_ended: bool,
-        turn: Option<u64>,
-    ) -> Result<ExpectedLine, LineFault> {
-        let pieces = if text == "{any}" {
-            None
-        } else {
-            Some(read_pieces(alloc, text, turn)?)
+    /// Whether a line was printed that may stand here.
+    fn is_met(&self, alloc: Global, found: Option<&[u8]>) -> Result<bool, AllocError> {
+        let Some(printed) = found else {
+            return Ok(false);
         };
-        Ok(ExpectedLine {
-            line,
-            pieces,
-            is_ended,
-        })
-    }
-
-    /// Whether the printed line is one that may stand here.
-    fn is_met(&self, alloc: Global, printed: &[u8]) -> Result<bool, AllocError> {
         let (text, is_ended) = match printed.strip_suffix(b"\n") {
             Some(text) => (text, true),
             None => (printed, false),
@@ -55,14 +39,36 @@ impl ExpectedLine {
     /// Adds the line as it is told to a reader.
     fn add_to(&self, alloc: Global, text: &mut String) -> Result<(), AllocError> {
         match &self.pieces {
-            None => text.push_str("{any}")?,
-            Some(pieces) => add_pieces(alloc, text, pieces)?,
+            None => text.push_str("`{any}")?,
+            Some(pieces) => {
+                text.push_str("`")?;
+                add_pieces(alloc, text, pieces)?;
+            }
         }
-        if self.is_ended {
-            text.push_str("\\n")?;
-        }
-        Ok(())
+        text.push_str(if self.is_ended { "\\n`" } else { "`" })
     }
+}
+
+/// Adds a line with this text to the expected ones, in the turn of this number where it is repeated.
+pub fn add_expected(
+    alloc: Global,
+    lines: &mut Vec<ExpectedLine>,
+    line: u64,
+    text: &str,
+    is_ended: bool,
+    turn: Option<u64>,
+) -> Result<(), LineFault> {
+    let pieces = if text == "{any}" {
+        None
+    } else {
+        Some(read_pieces(alloc, text, turn)?)
+    };
+    lines.push(ExpectedLine {
+        line,
+        pieces,
+        is_ended,
+    })?;
+    Ok(())
 }
 
 /// In what a run differs from its row, and the line of the row's file that says otherwise.
@@ -72,69 +78,56 @@ pub struct Difference {
     pub what: String,
 }
 
-/// The first line of the output that isn't the expected one. What comes behind the last expected line is told at the line
-/// of the status.
-pub fn output_difference(
+/// Tells the first line of the output that isn't the expected one. What comes behind the last expected line is told at the
+/// line of the status.
+pub fn add_output(
     alloc: Global,
+    told: &mut Vec<Difference>,
     expected: &[ExpectedLine],
     status_line: u64,
     output: &[u8],
-) -> Result<Option<Difference>, AllocError> {
+) -> Result<(), AllocError> {
     let mut printed = output.split_inclusive(|byte| *byte == b'\n');
     for line in expected {
         let found = printed.next();
-        if let Some(difference) = line_difference(alloc, line, found)? {
-            return Ok(Some(difference));
+        if !line.is_met(alloc, found)? {
+            return add_line(alloc, told, line.line, Some(line), found);
         }
     }
     match printed.next() {
-        None => Ok(None),
-        Some(more) => Ok(Some(more_difference(alloc, status_line, more)?)),
+        None => Ok(()),
+        more => add_line(alloc, told, status_line, None, more),
     }
 }
 
-fn more_difference(alloc: Global, line: u64, more: &[u8]) -> Result<Difference, AllocError> {
-    let mut what = String::new(alloc);
-    tell_more(alloc, &mut what, more)?;
-    Ok(Difference { line, what })
-}
-
-fn tell_more(alloc: Global, what: &mut String, more: &[u8]) -> Result<(), AllocError> {
-    what.push_str("output: expected no more, found `")?;
-    add_bytes(alloc, what, more)?;
-    what.push_str("`")
-}
-
-fn line_difference(
+fn add_line(
     alloc: Global,
-    expected: &ExpectedLine,
+    told: &mut Vec<Difference>,
+    line: u64,
+    expected: Option<&ExpectedLine>,
     found: Option<&[u8]>,
-) -> Result<Option<Difference>, AllocError> {
-    if let Some(printed) = found {
-        if expected.is_met(alloc, printed)? {
-            return Ok(None);
-        }
-    }
+) -> Result<(), AllocError> {
     let mut what = String::new(alloc);
     tell_line(alloc, &mut what, expected, found)?;
-    Ok(Some(Difference {
-        line: expected.line,
-        what,
-    }))
+    told.push(Difference { line, what })?;
+    Ok(())
 }
 
 fn tell_line(
     alloc: Global,
     what: &mut String,
-    expected: &ExpectedLine,
+    expected: Option<&ExpectedLine>,
     found: Option<&[u8]>,
 ) -> Result<(), AllocError> {
-    what.push_str("output: expected `")?;
-    expected.add_to(alloc, what)?;
+    what.push_str("output: expected ")?;
+    match expected {
+        None => what.push_str("no more")?,
+        Some(line) => line.add_to(alloc, what)?,
+    }
     match found {
-        None => what.push_str("`, found no more"),
+        None => what.push_str(", found no more"),
         Some(printed) => {
-            what.push_str("`, found `")?;
+            what.push_str(", found `")?;
             add_bytes(alloc, what, printed)?;
             what.push_str("`")
         }

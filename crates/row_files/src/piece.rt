@@ -145,8 +145,24 @@ pub fn read_pieces(alloc: Global, text: &str, turn: Option<u64>) -> Result<Vec<P
     Ok(pieces)
 }
 
-/// Adds the text of these pieces to a script, which has one text for each.
-pub fn add_script(script: &mut Vec<u8>, pieces: &[Piece]) -> Result<(), LineFault> {
+/// Adds a line to a script.
+pub fn add_script(
+    alloc: Global,
+    script: &mut Vec<u8>,
+    text: &str,
+    is_ended: bool,
+    turn: Option<u64>,
+) -> Result<(), LineFault> {
+    let pieces = read_pieces(alloc, text, turn)?;
+    add_texts(script, &pieces)?;
+    if is_ended {
+        script.push(b'\n')?;
+    }
+    Ok(())
+}
+
+/// Adds the text of these pieces, which have one text each.
+fn add_texts(script: &mut Vec<u8>, pieces: &[Piece]) -> Result<(), LineFault> {
     for piece in pieces {
         match piece.options.as_slice() {
             [bytes] => script.extend_from_slice(bytes)?,

@@ -1,11 +1,8 @@
 //! Reading a row's file, line by line.
 
-mod files;
-mod streams;
-
 use crate::fault::{LineFault, RowFault};
-use crate::repeated::Block;
-use crate::row::{Row, Step};
+use crate::repeated::{Block, StreamLine};
+use crate::row::Row;
 use crate::words::{LineKind, kind_of, parted};
 use std::alloc::Global;
 
@@ -20,6 +17,27 @@ enum Place {
     Behind,
 }
 
+impl Place {
+    /// Refuses a line that doesn't stand here.
+    fn see(self, kind: LineKind) -> Result<(), LineFault> {
+        match kind {
+            LineKind::Call if self == Place::Inside => Err(LineFault::NoStatus),
+            LineKind::From | LineKind::File if self != Place::Head => Err(LineFault::BehindHead),
+            LineKind::Left | LineKind::Bytes if self != Place::Behind => {
+                Err(LineFault::BeforeStatus)
+            }
+            LineKind::Call
+            | LineKind::From
+            | LineKind::File
+            | LineKind::Left
+            | LineKind::Bytes
+            | LineKind::More => Ok(()),
+            _ if self != Place::Inside => Err(LineFault::OutsideStep),
+            _ => Ok(()),
+        }
+    }
+}
+
 /// What has been read of a row.
 #[derive(Drop)]
 struct RowReader {
@@ -30,9 +48,6 @@ struct RowReader {
     block: Option<Block>,
     // whether the line before holds hexadecimal
     extends: bool,
-    // whether the step's script, and its output, ended without a line feed
-    is_script_over: bool,
-    is_output_over: bool,
 }
 
 impl RowReader {
@@ -43,13 +58,11 @@ impl RowReader {
             place: Place::Head,
             block: None,
             extends: false,
-            is_script_over: false,
-            is_output_over: false,
         }
     }
 
-    /// Takes all lines of a text, and tells how many there are.
-    fn take_all(&mut self, text: &str) -> Result<u64, RowFault> {
+    /// Takes all lines of a text, and sees that a whole row ends there.
+    fn take_all(&mut self, text: &str) -> Result<(), RowFault> {
         let mut line = 0u64;
         for item in text.split('\n') {
             line = line.saturating_add(1);
@@ -57,7 +70,10 @@ impl RowReader {
                 return Err(RowFault { line, fault });
             }
         }
-        Ok(line)
+        match self.see_whole() {
+            Ok(()) => Ok(()),
+            Err(fault) => Err(RowFault { line, fault }),
+        }
     }
 
     fn take(&mut self, line: u64, text: &str) -> Result<(), LineFault> {
@@ -82,42 +98,58 @@ impl RowReader {
     }
 
     fn take_item(&mut self, line: u64, kind: LineKind, rest: &str) -> Result<(), LineFault> {
-        let extends = self.extends;
+        if kind == LineKind::More && !self.extends {
+            return Err(LineFault::NothingToExtend);
+        }
         self.extends = matches!(kind, LineKind::File | LineKind::Bytes | LineKind::More);
+        self.place.see(kind)?;
         match kind {
-            LineKind::Call => self.begin_step(rest),
-            LineKind::From | LineKind::File => self.take_head(line, kind, rest),
-            LineKind::More if !extends => Err(LineFault::NothingToExtend),
-            LineKind::More => self.extend(rest),
-            LineKind::Left | LineKind::Bytes => self.take_behind(line, kind, rest),
-            _ => self.take_inside(line, kind, rest),
+            LineKind::Call => {
+                self.place = Place::Inside;
+                self.row.begin_step(self.alloc, rest)
+            }
+            LineKind::Repeat => {
+                self.block = Some(Block::begun(self.alloc, rest)?);
+                Ok(())
+            }
+            _ if self.place == Place::Head => self.row.take(self.alloc, line, kind, rest),
+            _ => self.take_inside(line, kind, rest, None),
         }
     }
 
-    fn begin_step(&mut self, words: &str) -> Result<(), LineFault> {
-        if self.place == Place::Inside {
-            return Err(LineFault::NoStatus);
+    /// A line of the step that is read.
+    fn take_inside(
+        &mut self,
+        line: u64,
+        kind: LineKind,
+        rest: &str,
+        turn: Option<u64>,
+    ) -> Result<(), LineFault> {
+        if kind == LineKind::Status {
+            self.place = Place::Behind;
         }
-        self.row.begin_step(self.alloc, words)?;
-        self.place = Place::Inside;
-        self.is_script_over = false;
-        self.is_output_over = false;
-        Ok(())
-    }
-
-    /// The step that is read.
-    fn step(&mut self) -> Result<&mut Step, LineFault> {
         match self.row.steps.last_mut() {
-            Some(step) => Ok(step),
+            Some(step) => step.take(self.alloc, line, kind, rest, turn),
             None => Err(LineFault::NoStep),
         }
     }
 
-    /// The whole row.
-    fn end(self) -> Result<Row, LineFault> {
-        self.see_whole()?;
-        let RowReader { row, .. } = self;
-        Ok(row)
+    /// Takes the lines of a block, turn by turn.
+    fn end_block(&mut self) -> Result<(), LineFault> {
+        let Some(block) = self.block.take() else {
+            return Err(LineFault::NoRepeat);
+        };
+        for turn in 0..block.turns {
+            self.take_turn(&block.lines, turn + 1)?;
+        }
+        Ok(())
+    }
+
+    fn take_turn(&mut self, lines: &[StreamLine], turn: u64) -> Result<(), LineFault> {
+        for it in lines {
+            self.take_inside(it.line, it.kind, it.text.as_str(), Some(turn))?;
+        }
+        Ok(())
     }
 
     /// Refuses a row that goes on.
@@ -136,9 +168,7 @@ impl RowReader {
 /// The row that a file's text says.
 pub fn read_row(alloc: Global, text: &str) -> Result<Row, RowFault> {
     let mut reader = RowReader::new(alloc);
-    let line = reader.take_all(text)?;
-    match reader.end() {
-        Ok(row) => Ok(row),
-        Err(fault) => Err(RowFault { line, fault }),
-    }
+    reader.take_all(text)?;
+    let RowReader { row, .. } = reader;
+    Ok(row)
 }

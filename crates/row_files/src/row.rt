@@ -72,6 +72,9 @@ pub struct Step {
     pub status_line: u64,
     pub left: Option<ExpectedNames>,
     pub files: Vec<ExpectedFile>,
+    // whether the script, and the output, ended without a line feed
+    pub(crate) is_script_over: bool,
+    pub(crate) is_output_over: bool,
 }
 
 impl Step {
@@ -86,6 +89,8 @@ impl Step {
             status_line: 0,
             left: None,
             files: Vec::new(alloc),
+            is_script_over: false,
+            is_output_over: false,
         }
     }
 }
