@@ -1,16 +1,16 @@
 -- Passes that are back, what they know, and their seats.
 use Rattle.std.proofs.Common.{◌≡◌, inl, inr, ℕ, zero, suc, ◌+◌, ◌<◌, ◌≤◌, Bool, true, false, List, [], ◌∷◌, ◌++◌, length, map, set, Option, Some, slice_get, Contains, refl, sym, ap, ◌∙◌, subst, arith}
 use Rattle.log_berth.specs.Standing.{Standing, AreBack, Saw, AllSaw}
-use Rattle.log_service.specs.declared.seats.LogSeat.{LogSeat}
-use Rattle.log_service.specs.Numbers.{seen_synced, seen_stored, seen_closed}
-use Rattle.log_service.specs.Closed.{synced_in, stored_in, closed_in}
-use Rattle.log_service.specs.Places.{ServiceId}
+use Rattle.pass_calls.specs.log_service.declared.seats.LogSeat.{LogSeat}
+use Rattle.pass_calls.specs.log_service.Numbers.{seen_synced, seen_stored, seen_closed}
+use Rattle.pass_calls.specs.log_service.Closed.{synced_in, stored_in, closed_in}
+use Rattle.pass_calls.specs.log_service.Places.{ServiceId}
 use Rattle.region_model.specs.Lines.{Line, edits_in}
-use Rattle.region_lock.specs.declared.pass.RegionPass.{RegionPass}
-use Rattle.region_lock.specs.declared.naming.LockNaming.{Ghosts}
-use Rattle.region_lock.specs.Parts.{AreCalledBelow}
-use Rattle.region_lock.specs.Passes.{known_of}
-use Rattle.region_lock.proofs.Lists.{get_set, length_set}
+use Rattle.pass_calls.specs.region_lock.declared.pass.RegionPass.{RegionPass}
+use Rattle.pass_calls.specs.region_lock.declared.naming.LockNaming.{Ghosts}
+use Rattle.pass_calls.specs.region_lock.Parts.{AreCalledBelow}
+use Rattle.pass_calls.specs.region_lock.Passes.{known_of}
+use Rattle.pass_calls.proofs.region_lock_laws.Lists.{get_set, length_set}
 use Rattle.region_versions.specs.Histories.{Beginning}
 use Rattle.hand_register.specs.declared.known.Record.{Record}
 use Rattle.server_model.specs.Pass.{Pass as ThePass}

@@ -16,11 +16,11 @@ use Rattle.log_ledger.specs.Bases.{AreRegions, IsAmong, AreNumbersOf}
 use Rattle.append_ring.specs.Rules.{base_of}
 use Rattle.log_ledger.specs.Numbers.{IsServed}
 use Rattle.log_ledger.specs.History.{started_in}
-use Rattle.log_service.specs.log_device.declared.device.Device.{Device}
-use Rattle.log_service.specs.log_device.Whole.{IsWhole, IsBroken, IsIdle, log_of, numbers_of}
-use Rattle.log_service.specs.Begun.{IsFresh, BeginsAs}
-use Rattle.log_service.specs.Halves.{AreNumbersUpTo, HasFewStores}
-use Rattle.log_service.specs.log_device.Opened.{IsOpened}
+use Rattle.pass_calls.specs.log_service.log_device.declared.device.Device.{Device}
+use Rattle.pass_calls.specs.log_service.log_device.Whole.{IsWhole, IsBroken, IsIdle, log_of, numbers_of}
+use Rattle.pass_calls.specs.log_service.Begun.{IsFresh, BeginsAs}
+use Rattle.pass_calls.specs.log_service.Halves.{AreNumbersUpTo, HasFewStores}
+use Rattle.pass_calls.specs.log_service.log_device.Opened.{IsOpened}
 use Rattle.region_replay.specs.Ready.{Found}
 use Rattle.region_replay.specs.Opened.{AreOf}
 use Rattle.region_replay.specs.Cleared.{IsReady}

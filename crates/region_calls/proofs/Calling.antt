@@ -1,19 +1,19 @@
 -- One call of a pass on one region, from what it does to its hand there and to its seat.
 use Rattle.std.proofs.Common.{◌≡◌, ℕ, zero, suc, ◌+◌, ◌<◌, ◌≤◌, Bool, IsTrue, List, ◌++◌, length, set, Option, Some, None, slice_get, Contains, refl, sym, ap, ◌∙◌, subst, arith}
 use Rattle.cell_model.specs.Batch.{Batch}
-use Rattle.log_service.specs.declared.seats.LogSeat.{LogSeat}
-use Rattle.log_service.specs.Places.{IsLaterSeat}
+use Rattle.pass_calls.specs.log_service.declared.seats.LogSeat.{LogSeat}
+use Rattle.pass_calls.specs.log_service.Places.{IsLaterSeat}
 use Rattle.region_model.specs.Calls.{Answer, Raw, is_put, is_scan, is_flush}
 use Rattle.region_model.specs.Journal.{Base, Edit, Caller}
 use Rattle.region_model.specs.Lawful.{number_of}
 use Rattle.region_model.specs.Lines.{edits_in}
 use Rattle.server_model.specs.Pass.{Known, Naming}
 use Rattle.server_model.specs.Steps.{Puts, Scans, Flushes, drawn}
-use Rattle.region_lock.specs.declared.pass.RegionPass.{RegionPass}
-use Rattle.region_lock.specs.declared.naming.LockNaming.{Ghosts}
-use Rattle.region_lock.specs.Calls.{PutsAt, ScansAt, FlushesAt}
-use Rattle.region_lock.specs.Passes.{known_of, SamePass}
-use Rattle.region_lock.proofs.Lifts.{puts_from, scans_from, flushes_from}
+use Rattle.pass_calls.specs.region_lock.declared.pass.RegionPass.{RegionPass}
+use Rattle.pass_calls.specs.region_lock.declared.naming.LockNaming.{Ghosts}
+use Rattle.pass_calls.specs.region_lock.Calls.{PutsAt, ScansAt, FlushesAt}
+use Rattle.pass_calls.specs.region_lock.Passes.{known_of, SamePass}
+use Rattle.pass_calls.proofs.region_lock_laws.Lifts.{puts_from, scans_from, flushes_from}
 use Rattle.region_calls.specs.Passes.{known_at, known_in, pass_of, IsHandOf}
 use Rattle.region_calls.proofs.Knowing.{others_later, known_here, below_more, called_more}
 

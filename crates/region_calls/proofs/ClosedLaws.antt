@@ -8,9 +8,9 @@ use Rattle.log_model.specs.Files.{Files}
 use Rattle.log_model.specs.Recovered.{IsRecovered, IsContent, IsLast, put_entries}
 use Rattle.disk_images.specs.Crash.{DiskView, Since}
 use Rattle.log_berth.specs.Standing.{Saw}
-use Rattle.log_service.specs.declared.seats.LogSeat.{LogSeat}
-use Rattle.log_service.specs.Numbers.{seen_synced, seen_stored, seen_closed}
-use Rattle.log_service.specs.Closed.{Image, Commits as ServiceCommits, synced_in, stored_in, closed_in}
+use Rattle.pass_calls.specs.log_service.declared.seats.LogSeat.{LogSeat}
+use Rattle.pass_calls.specs.log_service.Numbers.{seen_synced, seen_stored, seen_closed}
+use Rattle.pass_calls.specs.log_service.Closed.{Image, Commits as ServiceCommits, synced_in, stored_in, closed_in}
 use Rattle.region_model.specs.Journal.{Base, Edit, IsJournal, cut_at, put_edits}
 use Rattle.region_model.specs.Lines.{Line, edit_in, edits_in}
 use Rattle.region_model.specs.Crash.{Fits}
@@ -18,8 +18,8 @@ use Rattle.server_model.specs.Pass.{Pass, Naming}
 use Rattle.server_model.specs.Closing.{Region, IsClosedRegion, Survives}
 use Rattle.server_model.specs.Service.{Commits}
 use Rattle.server_model.proofs.ServiceLaw.{survives_from, cut_is_take}
-use Rattle.region_lock.specs.Parts.{AreOwned, entries_in}
-use Rattle.region_lock.proofs.Knowns.{last_same}
+use Rattle.pass_calls.specs.region_lock.Parts.{AreOwned, entries_in}
+use Rattle.pass_calls.proofs.region_lock_laws.Knowns.{last_same}
 use Rattle.region_calls.specs.Closes.{HasMet, worded, AreWordsIn, HasSurvived}
 
 -- each edit of lines of n handlers is of one of them

@@ -1,16 +1,16 @@
 -- What a pass knows of all regions, where one of its hands was used.
 use Rattle.std.proofs.Common.{◌≡◌, ◌≢◌, inl, inr, ℕ, zero, suc, ◌+◌, ◌-◌, ◌<◌, ◌≤◌, List, [], ◌∷◌, ◌++◌, length, set, Option, Some, None, slice_get, Contains, refl, sym, ap, subst, arith}
-use Rattle.region_lock.proofs.Lists.{get_set, length_set}
+use Rattle.pass_calls.proofs.region_lock_laws.Lists.{get_set, length_set}
 use Rattle.log_berth.specs.Words.{NoMore}
-use Rattle.log_service.specs.declared.seats.LogSeat.{LogSeat}
+use Rattle.pass_calls.specs.log_service.declared.seats.LogSeat.{LogSeat}
 use Rattle.region_model.specs.Journal.{Edit}
 use Rattle.region_model.specs.Lines.{Line, edit_in, edits_in}
 use Rattle.server_model.specs.Pass.{Known, IsLaterOf, IsQuiet}
 use Rattle.server_model.proofs.JournalLaws.{prefix_here}
-use Rattle.region_lock.specs.declared.pass.RegionPass.{RegionPass}
-use Rattle.region_lock.specs.declared.naming.LockNaming.{Ghosts}
-use Rattle.region_lock.specs.Parts.{AreCalledBelow}
-use Rattle.region_lock.specs.Passes.{known_of}
+use Rattle.pass_calls.specs.region_lock.declared.pass.RegionPass.{RegionPass}
+use Rattle.pass_calls.specs.region_lock.declared.naming.LockNaming.{Ghosts}
+use Rattle.pass_calls.specs.region_lock.Parts.{AreCalledBelow}
+use Rattle.pass_calls.specs.region_lock.Passes.{known_of}
 use Rattle.region_calls.specs.Passes.{known_at, known_in, IsHandOf, AreHandsOf}
 
 get_other : {A : Type 0} → (xs : List A) (k j : ℕ) (y : A) → j ≢ k → slice_get (set xs k y) j ≡ slice_get xs j

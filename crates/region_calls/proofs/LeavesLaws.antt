@@ -5,8 +5,8 @@ use Rattle.log_model.specs.Files.{Files, IsSound, IsFit, IsPresent}
 use Rattle.log_model.specs.Recovered.{RecoversAlike}
 use Rattle.recovery_laws.specs.Alike.{AllAlike}
 use Rattle.disk_images.specs.Crash.{DiskView}
-use Rattle.log_service.specs.Closed.{LeavesFiles}
-use Rattle.log_service.specs.Moments.{GoesOnFrom, OthersSince}
+use Rattle.pass_calls.specs.log_service.Closed.{LeavesFiles}
+use Rattle.pass_calls.specs.log_service.Moments.{GoesOnFrom, OthersSince}
 use Rattle.region_replay.specs.Opened.{AtMostOneHigher}
 use Rattle.server_model.specs.Closing.{Leaves}
 use Rattle.region_calls.specs.Cleared.{AreCleared}

@@ -1,4 +1,4 @@
-pub use Rattle.log_service.proofs as log_service_laws
+pub use Rattle.pass_calls.proofs.log_service_laws as log_service_laws
 pub mod Sown
 pub mod Marks
 pub mod Begun

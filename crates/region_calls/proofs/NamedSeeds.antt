@@ -5,7 +5,7 @@ use Rattle.logbook.specs.Pages.{Book}
 use Rattle.append_ring.specs.Rules.{base_of as last_before}
 use Rattle.region_model.specs.Journal.{Base}
 use Rattle.region_versions.specs.Histories.{no_book, no_base}
-use Rattle.log_service.specs.Names.{no_table}
+use Rattle.pass_calls.specs.log_service.Names.{no_table}
 use Rattle.log_model.specs.Files.{Files}
 use Rattle.region_calls.specs.declared.seeds.RegionSeeds.{RegionSeeds}
 use Rattle.region_calls.specs.declared.store.OpenedStore.{OpenedStore}

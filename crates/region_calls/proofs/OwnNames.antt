@@ -1,9 +1,9 @@
 -- A name that an opened store has of itself: what a caller picks for `named`.
 use Rattle.std.proofs.Common.{ℕ, List, length, refl}
 use Rattle.disk_images.specs.declared.disk.Disk.{Ghosts as Disks}
-use Rattle.log_service.specs.log_halves.declared.name.ServiceNaming.{Ghosts as ServiceNames}
+use Rattle.pass_calls.specs.log_service.log_halves.declared.name.ServiceNaming.{Ghosts as ServiceNames}
 use Rattle.region_model.specs.Journal.{Caller}
-use Rattle.region_lock.specs.declared.naming.LockNaming.{Ghosts as LockNames}
+use Rattle.pass_calls.specs.region_lock.declared.naming.LockNaming.{Ghosts as LockNames}
 use Rattle.region_versions.specs.declared.naming.VersionsNaming.{Ghosts as VersionsNames}
 use Rattle.region_calls.specs.declared.naming.ServerNaming.{Ghosts as ServerNames}
 use Rattle.region_calls.specs.declared.store.OpenedStore.{OpenedStore}

@@ -3,13 +3,13 @@ use Rattle.std.proofs.Common.{◌≡◌, ℕ, List, Result, Ok, Err, IfOk, refl,
 use mathlib.Core.List.{IsPrefix}
 use Rattle.cell_model.specs.Cell.{Cell}
 use Rattle.kv_cell.specs.declared.error.NoMemory.{NoMemory}
-use Rattle.log_service.specs.declared.seats.LogSeat.{LogSeat}
+use Rattle.pass_calls.specs.log_service.declared.seats.LogSeat.{LogSeat}
 use Rattle.region_model.specs.Journal.{Base, visible}
 use Rattle.region_model.specs.Lines.{Line, edits_in, last_in}
 use Rattle.region_state.specs.Versions.{Shown, seen_in}
-use Rattle.region_lock.specs.Calls.{ScansAt}
-use Rattle.region_lock.proofs.Knowns.{at_region}
-use Rattle.region_lock.proofs.ScanLaws.{scan_ok, scan_none}
+use Rattle.pass_calls.specs.region_lock.Calls.{ScansAt}
+use Rattle.pass_calls.proofs.region_lock_laws.Knowns.{at_region}
+use Rattle.pass_calls.proofs.region_lock_laws.ScanLaws.{scan_ok, scan_none}
 use Rattle.region_calls.specs.Answers.{begun_answer}
 
 pub begun_at : (n : ℕ) (base : Base) (from to : List ℕ) (r r' : ℕ) (own own' shown shown' : List Line) (told told' : List ℕ) (seat : LogSeat) (v : Shown) (x : Result (List (ℕ × Cell)) NoMemory)

@@ -5,12 +5,12 @@ use Rattle.std.specs.Global.{Vec}
 use Rattle.atomic_table.specs.Seated.{TableId}
 use Rattle.hand_register.specs.declared.known.Record.{Record}
 use Rattle.log_berth.specs.Standing.{Standing, AreBack, fresh}
-use Rattle.log_service.specs.declared.seats.LogSeat.{LogSeat}
-use Rattle.log_service.specs.Places.{ServiceId, IsSeatOf}
+use Rattle.pass_calls.specs.log_service.declared.seats.LogSeat.{LogSeat}
+use Rattle.pass_calls.specs.log_service.Places.{ServiceId, IsSeatOf}
 use Rattle.region_model.specs.Lines.{Line}
-use Rattle.region_lock.specs.declared.pass.RegionPass.{RegionPass}
-use Rattle.region_lock.specs.declared.naming.LockNaming.{Ghosts}
-use Rattle.region_lock.specs.Parts.{AreCalledBelow}
+use Rattle.pass_calls.specs.region_lock.declared.pass.RegionPass.{RegionPass}
+use Rattle.pass_calls.specs.region_lock.declared.naming.LockNaming.{Ghosts}
+use Rattle.pass_calls.specs.region_lock.Parts.{AreCalledBelow}
 use Rattle.region_calls.specs.declared.pass.Pass.{Pass}
 use Rattle.region_calls.specs.Hands.{Deal, deal_of, AreDeals}
 use Rattle.region_calls.specs.Named.{AreFrom}

@@ -14,11 +14,11 @@ use Rattle.disk_images.specs.Crash.{DiskView}
 use Rattle.region_model.specs.Journal.{Base}
 use Rattle.region_model.specs.Lines.{Line, edit_in, edits_in}
 use Rattle.std.proofs.lemmas.List.{length-map}
-use Rattle.log_service.specs.log_halves.declared.item.Item.{Item}
-use Rattle.log_service.specs.Closed.{Pushed, CommitsRegion, CommitsSince, synced_in, stored_in, closed_in}
+use Rattle.pass_calls.specs.log_service.log_halves.declared.item.Item.{Item}
+use Rattle.pass_calls.specs.log_service.Closed.{Pushed, CommitsRegion, CommitsSince, synced_in, stored_in, closed_in}
 use Rattle.server_model.specs.Pass.{Pass, Naming}
 use Rattle.server_model.specs.Closing.{Region, IsClosedRegion, Survives, Leaves}
-use Rattle.region_lock.specs.Parts.{entries_in}
+use Rattle.pass_calls.specs.region_lock.Parts.{entries_in}
 use Rattle.region_calls.specs.Bases.{IsBaseOf}
 use Rattle.region_calls.specs.Backs.{AreAll}
 use Rattle.region_calls.specs.Closes.{HasMet, IsTaken, worded, HasSurvived}

@@ -6,29 +6,29 @@ use Rattle.cell_model.specs.Batch.{Batch}
 use Rattle.cell_model.specs.Cell.{Cell}
 use Rattle.hand_register.specs.Views.{HandView}
 use Rattle.kv_cell.specs.declared.error.NoMemory.{NoMemory}
-use Rattle.log_service.specs.log_device.declared.error.Rolled.{Rolled}
-use Rattle.log_service.specs.log_device.declared.error.RollRefusal.{RollRefusal}
-use Rattle.log_service.specs.log_device.declared.error.RollRefusal.TheVariants as roll
-use Rattle.log_service.specs.declared.seats.LogSeat.{LogSeat}
-use Rattle.log_service.specs.Places.{IsLaterSeat}
+use Rattle.pass_calls.specs.log_service.log_device.declared.error.Rolled.{Rolled}
+use Rattle.pass_calls.specs.log_service.log_device.declared.error.RollRefusal.{RollRefusal}
+use Rattle.pass_calls.specs.log_service.log_device.declared.error.RollRefusal.TheVariants as roll
+use Rattle.pass_calls.specs.log_service.declared.seats.LogSeat.{LogSeat}
+use Rattle.pass_calls.specs.log_service.Places.{IsLaterSeat}
 use Rattle.region_model.specs.Calls.{Answer, Raw, is_put, is_scan, is_flush, is_roll}
 use Rattle.region_model.specs.Journal.{Base, Caller, last_of}
 use Rattle.region_model.specs.Lines.{Line, edits_in, last_in}
 use Rattle.server_model.specs.Pass.{Naming}
 use Rattle.server_model.specs.Steps.{Puts, Scans, Flushes, Rolls, IsRolled}
-use Rattle.region_lock.specs.declared.answers.PutRefusal.{PutRefusal}
-use Rattle.region_lock.specs.declared.answers.PutRefusal.TheVariants as put
-use Rattle.region_lock.specs.declared.answers.FlushRefusal.{FlushRefusal}
-use Rattle.region_lock.specs.declared.answers.FlushRefusal.TheVariants as flush
-use Rattle.region_lock.specs.declared.scan.ScanReply.{ScanReply}
-use Rattle.region_lock.specs.declared.pass.RegionPass.{RegionPass}
-use Rattle.region_lock.specs.declared.naming.LockNaming.{Ghosts}
-use Rattle.region_lock.specs.Answers.{put_answer, scan_answer, flush_answer, roll_answer}
-use Rattle.region_lock.specs.Calls.{PutsAt, ScansAt, FlushesAt, RollsAt}
-use Rattle.region_lock.specs.Parts.{AreCalledBelow}
-use Rattle.region_lock.specs.Passes.{known_of, SamePass}
-use Rattle.region_lock.proofs.Knowns.{last_same}
-use Rattle.region_lock.proofs.Lifts.{rolls_from}
+use Rattle.pass_calls.specs.region_lock.declared.answers.PutRefusal.{PutRefusal}
+use Rattle.pass_calls.specs.region_lock.declared.answers.PutRefusal.TheVariants as put
+use Rattle.pass_calls.specs.region_lock.declared.answers.FlushRefusal.{FlushRefusal}
+use Rattle.pass_calls.specs.region_lock.declared.answers.FlushRefusal.TheVariants as flush
+use Rattle.pass_calls.specs.region_lock.declared.scan.ScanReply.{ScanReply}
+use Rattle.pass_calls.specs.region_lock.declared.pass.RegionPass.{RegionPass}
+use Rattle.pass_calls.specs.region_lock.declared.naming.LockNaming.{Ghosts}
+use Rattle.pass_calls.specs.region_lock.Answers.{put_answer, scan_answer, flush_answer, roll_answer}
+use Rattle.pass_calls.specs.region_lock.Calls.{PutsAt, ScansAt, FlushesAt, RollsAt}
+use Rattle.pass_calls.specs.region_lock.Parts.{AreCalledBelow}
+use Rattle.pass_calls.specs.region_lock.Passes.{known_of, SamePass}
+use Rattle.pass_calls.proofs.region_lock_laws.Knowns.{last_same}
+use Rattle.pass_calls.proofs.region_lock_laws.Lifts.{rolls_from}
 use Rattle.region_calls.specs.Answers.{point_seen, begun_answer}
 use Rattle.region_calls.specs.Passes.{known_at, known_in, pass_of, IsHandOf, AreHandsOf}
 use Rattle.region_calls.proofs.Knowing.{all_later, known_here, below_more, called_more}

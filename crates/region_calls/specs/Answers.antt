@@ -5,7 +5,7 @@ use Rattle.kv_cell.specs.declared.error.NoMemory.{NoMemory}
 use Rattle.region_model.specs.Calls.{Answer, Scanned, ScanMemory}
 use Rattle.region_model.specs.Journal.{last_of}
 use Rattle.server_model.specs.Pass.{Naming, Pass}
-pub use Rattle.region_lock.specs.Answers.{is_sync, put_answer, scan_answer, flush_answer, roll_answer}
+pub use Rattle.pass_calls.specs.region_lock.Answers.{is_sync, put_answer, scan_answer, flush_answer, roll_answer}
 
 -- the last point of a region that a pass has seen
 abbrev pub point_seen : Naming → ℕ → Pass → ℕ

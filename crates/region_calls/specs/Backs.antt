@@ -1,10 +1,10 @@
 -- Passes and seats that are all back.
 use Rattle.std.specs.Prelude.{◌≡◌, ℕ, ◌+◌, ◌≤◌, List, length, map, Contains}
 use Rattle.log_berth.specs.Standing.{Standing, AreBack}
-use Rattle.log_service.specs.declared.seats.LogSeat.{LogSeat}
-use Rattle.log_service.specs.declared.seats.LogSeats.{LogSeats}
-use Rattle.log_service.specs.Places.{ServiceId}
-use Rattle.region_lock.specs.declared.naming.LockNaming.{Ghosts}
+use Rattle.pass_calls.specs.log_service.declared.seats.LogSeat.{LogSeat}
+use Rattle.pass_calls.specs.log_service.declared.seats.LogSeats.{LogSeats}
+use Rattle.pass_calls.specs.log_service.Places.{ServiceId}
+use Rattle.pass_calls.specs.region_lock.declared.naming.LockNaming.{Ghosts}
 use Rattle.server_model.specs.Pass.{Pass as ThePass}
 use Rattle.region_calls.specs.declared.pass.Pass.{Pass}
 use Rattle.region_calls.specs.declared.passes.Passes.{Passes}

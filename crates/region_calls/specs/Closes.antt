@@ -8,13 +8,13 @@ use Rattle.disk_images.specs.Crash.{DiskView, Since}
 use Rattle.region_model.specs.Journal.{Base, IsJournal}
 use Rattle.region_model.specs.Lines.{Line, edits_in, last_in}
 use Rattle.region_model.specs.Crash.{Fits}
-use Rattle.log_service.specs.log_halves.declared.item.Item.{Item}
-use Rattle.log_service.specs.Closed.{HasPushedEntries, synced_in, stored_in, closed_in}
-use Rattle.log_service.specs.Moments.{GoesOnFrom}
+use Rattle.pass_calls.specs.log_service.log_halves.declared.item.Item.{Item}
+use Rattle.pass_calls.specs.log_service.Closed.{HasPushedEntries, synced_in, stored_in, closed_in}
+use Rattle.pass_calls.specs.log_service.Moments.{GoesOnFrom}
 use Rattle.server_model.specs.Pass.{Pass, Naming}
 use Rattle.server_model.specs.Closing.{Region, IsClosedRegion, Survives}
-use Rattle.region_lock.specs.Met.{IsMet}
-use Rattle.region_lock.specs.Parts.{AreOwned, entries_in}
+use Rattle.pass_calls.specs.region_lock.Met.{IsMet}
+use Rattle.pass_calls.specs.region_lock.Parts.{AreOwned, entries_in}
 
 -- a region's base and its journal, in which all that each of these passes knows of it meets
 pub record HasMet (bases : ℕ → Base) (handlers : ℕ) (passes : List Pass) (r : ℕ) (base : Base) (xs : List Line) : Type 0 where

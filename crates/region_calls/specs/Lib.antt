@@ -1,6 +1,6 @@
 pub use Rattle.region_replay.specs.wal_split as wal_split
-pub use Rattle.region_lock.specs as region_lock
-pub use Rattle.log_service.specs as log_service
+pub use Rattle.pass_calls.specs.region_lock as region_lock
+pub use Rattle.pass_calls.specs.log_service as log_service
 pub mod Bases
 pub mod Seeds
 pub mod Cleared

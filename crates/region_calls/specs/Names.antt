@@ -7,8 +7,8 @@ use Rattle.region_model.specs.Journal.{Base, Caller}
 use Rattle.disk_images.specs.declared.disk.Disk.{Ghosts as Disks}
 use Rattle.region_versions.specs.Histories.{no_base}
 use Rattle.region_versions.specs.declared.naming.VersionsNaming.{Ghosts as VersionsNames}
-use Rattle.log_service.specs.log_halves.declared.name.ServiceNaming.{Ghosts as ServiceNames}
-use Rattle.region_lock.specs.declared.naming.LockNaming.{Ghosts as LockNames}
+use Rattle.pass_calls.specs.log_service.log_halves.declared.name.ServiceNaming.{Ghosts as ServiceNames}
+use Rattle.pass_calls.specs.region_lock.declared.naming.LockNaming.{Ghosts as LockNames}
 use Rattle.server_model.specs.Pass.{Naming}
 use Rattle.region_calls.specs.Seeds.{base_at, table_at, book_at, lasts_of}
 use Rattle.region_calls.specs.declared.naming.ServerNaming.{Ghosts as ServerNames}

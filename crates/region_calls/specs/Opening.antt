@@ -3,8 +3,8 @@ use Rattle.std.specs.Prelude.{◌≡◌, Result, Ok, Err}
 use Rattle.log_model.specs.declared.damage.Damage.{Damage}
 use Rattle.region_replay.specs.found_files.declared.refusal.SplitRefusal.{SplitRefusal}
 use Rattle.region_replay.specs.found_files.declared.refusal.SplitRefusal.TheVariants as refusals
-use Rattle.log_service.specs.log_device.declared.error.DeviceWhy.{DeviceWhy}
-use Rattle.log_service.specs.log_device.declared.error.DeviceWhy.TheVariants as whys
+use Rattle.pass_calls.specs.log_service.log_device.declared.error.DeviceWhy.{DeviceWhy}
+use Rattle.pass_calls.specs.log_service.log_device.declared.error.DeviceWhy.TheVariants as whys
 use Rattle.region_calls.specs.declared.refusal.StartWhy.{StartWhy}
 use Rattle.region_calls.specs.declared.refusal.StartWhy.TheVariants as starts
 use Rattle.region_calls.specs.declared.refusal.StartRefusal.{StartRefusal}

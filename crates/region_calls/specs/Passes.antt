@@ -1,13 +1,13 @@
 -- What a handler's pass knows of its server.
 use Rattle.std.specs.Prelude.{◌≡◌, ℕ, zero, suc, ◌+◌, List, [], length, Option, Some, None, slice_get}
 use Rattle.hand_register.specs.Rule.{empty}
-use Rattle.log_service.specs.declared.seats.LogSeat.{LogSeat}
-use Rattle.log_service.specs.Places.{ServiceId, IsSeatOf}
+use Rattle.pass_calls.specs.log_service.declared.seats.LogSeat.{LogSeat}
+use Rattle.pass_calls.specs.log_service.Places.{ServiceId, IsSeatOf}
 use Rattle.server_model.specs.Pass.{Known, Pass as ThePass}
-use Rattle.region_lock.specs.declared.pass.RegionPass.{RegionPass}
-use Rattle.region_lock.specs.declared.naming.LockNaming.{Ghosts}
-use Rattle.region_lock.specs.Parts.{AreCalledBelow}
-use Rattle.region_lock.specs.Passes.{known_of}
+use Rattle.pass_calls.specs.region_lock.declared.pass.RegionPass.{RegionPass}
+use Rattle.pass_calls.specs.region_lock.declared.naming.LockNaming.{Ghosts}
+use Rattle.pass_calls.specs.region_lock.Parts.{AreCalledBelow}
+use Rattle.pass_calls.specs.region_lock.Passes.{known_of}
 use Rattle.region_calls.specs.declared.pass.Pass.{Pass}
 
 abbrev pub nothing_known : Known

@@ -6,7 +6,7 @@ use Rattle.logbook.specs.Pages.{Book}
 use Rattle.hand_register.specs.Desks.{AreParts}
 use Rattle.region_model.specs.Journal.{Base}
 use Rattle.region_versions.specs.Histories.{no_book, no_base}
-use Rattle.log_service.specs.Names.{no_table}
+use Rattle.pass_calls.specs.log_service.Names.{no_table}
 use Rattle.log_ledger.specs.declared.base.RegionBase.{RegionBase}
 use Rattle.region_replay.specs.Ready.{Found}
 use Rattle.region_calls.specs.declared.seeds.RegionSeeds.{RegionSeeds}

@@ -7,11 +7,11 @@ use Rattle.append_ring.specs.Rules.{base_of as last_before}
 use Rattle.log_model.specs.Files.{Files}
 use Rattle.recovery_laws.specs.Alike.{AllAlike}
 use Rattle.region_model.specs.Journal.{Base, Caller}
-use Rattle.log_service.specs.log_halves.declared.item.Item.{Item}
+use Rattle.pass_calls.specs.log_service.log_halves.declared.item.Item.{Item}
 use Rattle.log_berth.specs.Words.{starts}
 use Rattle.log_berth.specs.Standing.{fresh}
-use Rattle.log_service.specs.declared.seats.LogSeats.{LogSeats}
-use Rattle.log_service.specs.Places.{ServiceId}
+use Rattle.pass_calls.specs.log_service.declared.seats.LogSeats.{LogSeats}
+use Rattle.pass_calls.specs.log_service.Places.{ServiceId}
 use Rattle.region_replay.specs.Opened.{AtMostOneHigher}
 use Rattle.server_model.specs.Pass.{Naming}
 use Rattle.region_calls.specs.Bases.{IsBaseOf}

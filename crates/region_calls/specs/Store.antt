@@ -7,8 +7,8 @@ use Rattle.region_model.specs.Journal.{Base}
 use Rattle.recovery_laws.specs.Alike.{AllAlike}
 use Rattle.disk_images.specs.declared.disk.Disk.{Ghosts}
 use Rattle.log_ledger.specs.History.{History}
-use Rattle.log_service.specs.log_device.Whole.{disk_of}
-use Rattle.log_service.specs.Begun.{AreNewParts, IsFresh, BeginsAs}
+use Rattle.pass_calls.specs.log_service.log_device.Whole.{disk_of}
+use Rattle.pass_calls.specs.log_service.Begun.{AreNewParts, IsFresh, BeginsAs}
 use Rattle.region_replay.specs.Opened.{AtMostOneHigher}
 use Rattle.region_calls.specs.declared.store.OpenedStore.{OpenedStore}
 use Rattle.region_calls.specs.Seeds.{AreSeeds, base_of, desk_of, spent_of, book_of, lasts_of}

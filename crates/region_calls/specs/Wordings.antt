@@ -2,7 +2,7 @@
 use Rattle.std.specs.Prelude.{◌≡◌, ℕ, ◌+◌, List}
 use Rattle.region_model.specs.Journal.{Base}
 use Rattle.region_model.specs.Lines.{Line, edits_in}
-use Rattle.log_service.specs.Closed.{synced_in, stored_in, closed_in}
+use Rattle.pass_calls.specs.log_service.Closed.{synced_in, stored_in, closed_in}
 use Rattle.server_model.specs.Closing.{Region}
 use Rattle.region_calls.specs.Closes.{AreWordsIn}
 use Rattle.region_calls.specs.declared.closed.ClosedRegion.{ClosedRegion}

@@ -4,7 +4,7 @@ ghost use Rattle.std.specs.Prelude.{◌≡◌, ◌≢◌, ◌≤◌, ◌<◌, �
 ghost use Rattle.append_ring.specs.Parts.{AreOut};
 ghost use Rattle.region_model.specs.Journal.{Base as TheBase};
 ghost use Rattle.region_model.specs.Lines.{Line as TheLine};
-ghost use Rattle.log_service.specs.Places.{ServiceId};
+ghost use Rattle.pass_calls.specs.log_service.Places.{ServiceId};
 ghost use Rattle.region_calls.specs.Closes.{IsTaken};
 ghost use Rattle.region_calls.specs.Deals.{AllOf};
 ghost use Rattle.region_calls.specs.Passes.{knows};
@@ -13,9 +13,9 @@ use crate::hands::RegionHands;
 use crate::meeting::meet_all;
 use crate::pass::Pass;
 use append_ring::RingKeys;
-use log_service::Item;
 use mem_segments::Base;
-use region_lock::{Locked, RegionPass};
+use pass_calls::log_service::Item;
+use pass_calls::region_lock::{Locked, RegionPass};
 use region_state::Line;
 use std::sync::{Mutex, Wait};
 
@@ -37,10 +37,9 @@ impl Taken {
 
 /// The hands of passes that weren't handed out, and the room for them, are let go: in a function of its own, since their drop is written out
 /// where it is.
-pub(crate) fn let_hands_go<N: region_lock::LockNaming + region_versions::VersionsNaming>(
-    hands: Vec<RegionHands<N>>,
-    rooms: Vec<Vec<RegionPass<N>>>,
-) {
+pub(crate) fn let_hands_go<
+    N: pass_calls::region_lock::LockNaming + region_versions::VersionsNaming,
+>(hands: Vec<RegionHands<N>>, rooms: Vec<Vec<RegionPass<N>>>) {
     let _all = (hands, rooms);
 }
 
@@ -56,7 +55,9 @@ pub(crate) fn sure<S: Wait>(rt: &S, holds: bool)
 
 /// Takes a region apart, in whose journal all passes meet, and puts its key of the ring back.
 fn take_region<
-    N: region_lock::LockNaming + log_service::ServiceNaming + region_versions::VersionsNaming,
+    N: pass_calls::region_lock::LockNaming
+        + pass_calls::log_service::ServiceNaming
+        + region_versions::VersionsNaming,
     R: Wait + Drop,
     S: Wait,
 >(
@@ -86,7 +87,9 @@ fn take_region<
 
 /// Takes all regions apart, in the room for them.
 pub(crate) fn take_all<
-    N: region_lock::LockNaming + log_service::ServiceNaming + region_versions::VersionsNaming,
+    N: pass_calls::region_lock::LockNaming
+        + pass_calls::log_service::ServiceNaming
+        + region_versions::VersionsNaming,
     R: Wait + Drop,
     S: Wait,
 >(
@@ -125,7 +128,9 @@ fn note(lasts: &mut [u64], place: usize, last: u64)
 
 /// Takes all regions apart, and lets go what they leave but their bases' last numbers, for which there is room.
 pub(crate) fn let_all_go<
-    N: region_lock::LockNaming + log_service::ServiceNaming + region_versions::VersionsNaming,
+    N: pass_calls::region_lock::LockNaming
+        + pass_calls::log_service::ServiceNaming
+        + region_versions::VersionsNaming,
     R: Wait + Drop,
     S: Wait,
 >(

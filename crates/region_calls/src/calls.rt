@@ -2,11 +2,11 @@
 
 ghost use Rattle.std.specs.Prelude.{◌≡◌, ◌-◌, ◌≤◌, ◌<◌, ◌^◌, ◌⊎◌, length, IfSome, Contains, true};
 ghost use Rattle.std.specs.Option.{option_map};
-ghost use Rattle.log_service.specs.Places.{IsSeatOf, IsLaterSeat, FoundTaken, HadTurn, LastFoundTaken, LastHadTurn};
+ghost use Rattle.pass_calls.specs.log_service.Places.{IsSeatOf, IsLaterSeat, FoundTaken, HadTurn, LastFoundTaken, LastHadTurn};
 ghost use Rattle.server_model.specs.Pass.{IsLater};
 ghost use Rattle.region_model.specs.Calls.{Raw};
 ghost use Rattle.server_model.specs.Steps.{IsQuietPass, Puts, Scans, Flushes, Rolls};
-ghost use Rattle.region_lock.specs.Puts.{IsFaultExact};
+ghost use Rattle.pass_calls.specs.region_lock.Puts.{IsFaultExact};
 ghost use Rattle.region_calls.specs.Answers.{is_sync, put_answer, scan_answer, begun_answer, point_seen, flush_answer, roll_answer};
 ghost use Rattle.region_calls.specs.Passes.{knows, IsPassOf};
 
@@ -17,11 +17,10 @@ use crate::reading::scanner_in;
 use crate::server::Server;
 use disk_images::Disk;
 use kv_cell::{Batch, Durability, NoMemory};
-use log_service::log_device::{RollRefusal, Rolled};
-use log_service::{Helped, LogSeat};
-use region_lock::{
-    FlushRefusal, Gate, PutRefusal, ScanReply, flush_in, point_in, roll_in, scan_in,
-};
+use pass_calls::log_service::log_device::{RollRefusal, Rolled};
+use pass_calls::log_service::{Helped, LogSeat};
+use pass_calls::region_lock::{FlushRefusal, Gate, PutRefusal, ScanReply, point_in, scan_in};
+use pass_calls::{flush_in, roll_in};
 use region_state::{Caller, Scanner};
 use std::alloc::Global;
 use std::sync::Wait;
@@ -30,8 +29,8 @@ impl<
     'a,
     D: Disk,
     N: ServerNaming
-        + region_lock::LockNaming
-        + log_service::ServiceNaming
+        + pass_calls::region_lock::LockNaming
+        + pass_calls::log_service::ServiceNaming
         + region_versions::VersionsNaming,
     R: Wait,
 > Server<'a, D, N, R> {

@@ -33,8 +33,8 @@ pub struct CloseRefusal<
     'a,
     D: Disk,
     N: ServerNaming
-        + region_lock::LockNaming
-        + log_service::ServiceNaming
+        + pass_calls::region_lock::LockNaming
+        + pass_calls::log_service::ServiceNaming
         + region_versions::VersionsNaming,
     R: Wait,
 > {

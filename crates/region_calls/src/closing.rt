@@ -8,8 +8,8 @@ ghost use Rattle.cell_model.specs.Order.{Content};
 ghost use Rattle.log_model.specs.Entry.{Entry};
 ghost use Rattle.disk_images.specs.Calls.{Rose};
 ghost use Rattle.log_berth.specs.Standing.{AllSaw};
-ghost use Rattle.log_service.specs.Closed.{CommitsRegion, CommitsSince, LeavesFiles, Pushed};
-ghost use Rattle.log_service.specs.Moments.{GoesOnFrom, OthersSince};
+ghost use Rattle.pass_calls.specs.log_service.Closed.{CommitsRegion, CommitsSince, LeavesFiles, Pushed};
+ghost use Rattle.pass_calls.specs.log_service.Moments.{GoesOnFrom, OthersSince};
 ghost use Rattle.server_model.specs.Pass.{Pass as ThePass};
 ghost use Rattle.server_model.specs.Closing.{IsClosedRegion, Survives, Leaves};
 ghost use Rattle.region_calls.specs.Backs.{AllBack, AreAll, AreSeats, device_seats, seats_of};
@@ -30,7 +30,7 @@ use crate::wording::{sure_stored, word_all};
 use append_ring::RingKeys;
 use disk_images::Disk;
 use kv_cell::NoMemory;
-use log_service::{Item, LogSeats, LogService, ServiceClosed};
+use pass_calls::log_service::{Item, LogSeats, LogService, ServiceClosed};
 use std::alloc::Global;
 use std::sync::Wait;
 
@@ -54,7 +54,9 @@ fn make_room(alloc: Global, regions: usize) -> Result<CloseRoom, NoMemory>
 /// Gives all seats back, and closes the log.
 fn shut<
     D: Disk,
-    N: region_lock::LockNaming + log_service::ServiceNaming + region_versions::VersionsNaming,
+    N: pass_calls::region_lock::LockNaming
+        + pass_calls::log_service::ServiceNaming
+        + region_versions::VersionsNaming,
     S: Wait,
 >(
     rt: &S,
@@ -92,8 +94,8 @@ fn finish<
     'a,
     D: Disk,
     N: ServerNaming
-        + region_lock::LockNaming
-        + log_service::ServiceNaming
+        + pass_calls::region_lock::LockNaming
+        + pass_calls::log_service::ServiceNaming
         + region_versions::VersionsNaming,
     R: Wait,
     S: Wait,
@@ -152,8 +154,8 @@ impl<
     'a,
     D: Disk,
     N: ServerNaming
-        + region_lock::LockNaming
-        + log_service::ServiceNaming
+        + pass_calls::region_lock::LockNaming
+        + pass_calls::log_service::ServiceNaming
         + region_versions::VersionsNaming,
     R: Wait,
 > Server<'a, D, N, R> {
@@ -208,8 +210,8 @@ impl<
     'a,
     D: Disk,
     N: ServerNaming
-        + region_lock::LockNaming
-        + log_service::ServiceNaming
+        + pass_calls::region_lock::LockNaming
+        + pass_calls::log_service::ServiceNaming
         + region_versions::VersionsNaming,
     R: Wait,
 > CloseRefusal<'a, D, N, R> {

@@ -5,10 +5,10 @@ ghost use Rattle.region_calls.specs.Hands.{AreDeals};
 ghost use Rattle.region_calls.specs.Passes.{AreNewHands};
 
 use crate::hands::RegionHands;
-use region_lock::RegionPass;
+use pass_calls::region_lock::RegionPass;
 
 /// The next handler's hands of all regions, into the room for them.
-pub(crate) fn deal<N: region_lock::LockNaming + region_versions::VersionsNaming>(
+pub(crate) fn deal<N: pass_calls::region_lock::LockNaming + region_versions::VersionsNaming>(
     regions: &mut Vec<RegionHands<N>>,
     room: Vec<RegionPass<N>>,
     handler: u32,

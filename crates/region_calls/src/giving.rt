@@ -1,15 +1,15 @@
 //! The seats of passes and of those that help are given back.
 
 ghost use Rattle.std.specs.Prelude.{◌≡◌, ◌≤◌, ◌+◌, ◌++◌, ℕ, length};
-ghost use Rattle.log_service.specs.Places.{ServiceId};
+ghost use Rattle.pass_calls.specs.log_service.Places.{ServiceId};
 ghost use Rattle.region_calls.specs.Backs.{AreSeats, device_seats, seats_of};
 ghost use Rattle.region_calls.specs.Deals.{AllOf, AreSeatsOf};
 
 use crate::pass::Pass;
-use log_service::{LogSeat, LogSeats};
+use pass_calls::log_service::{LogSeat, LogSeats};
 
 /// The seats of passes.
-pub(crate) fn give_passes<N: region_lock::LockNaming + region_versions::VersionsNaming>(
+pub(crate) fn give_passes<N: pass_calls::region_lock::LockNaming + region_versions::VersionsNaming>(
     seats: &mut LogSeats,
     passes: Vec<Pass<N>>,
     more: u32,

@@ -5,7 +5,7 @@ ghost use Rattle.region_calls.specs.Hands.{deal_of};
 ghost use Rattle.region_calls.specs.Passes.{IsNewHand};
 
 use hand_register::HandList;
-use region_lock::RegionPass;
+use pass_calls::region_lock::RegionPass;
 use region_state::Line;
 use region_versions::ViewerList;
 use std::marker::Model;
@@ -13,7 +13,9 @@ use std::marker::Model;
 /// The hands of a region's two desks, and its viewers, handler after handler. Contracts see the region, the next handler and how many are
 /// left.
 #[derive(Drop)]
-pub(crate) struct RegionHands<N: region_lock::LockNaming + region_versions::VersionsNaming> {
+pub(crate) struct RegionHands<
+    N: pass_calls::region_lock::LockNaming + region_versions::VersionsNaming,
+> {
     pub(crate) region: u32,
     pub(crate) next: u32,
     pub(crate) left: u32,
@@ -22,7 +24,8 @@ pub(crate) struct RegionHands<N: region_lock::LockNaming + region_versions::Vers
     pub(crate) viewers: ViewerList<N>,
 }
 
-impl<N: region_lock::LockNaming + region_versions::VersionsNaming> Model for RegionHands<N> {
+impl<N: pass_calls::region_lock::LockNaming + region_versions::VersionsNaming> Model
+    for RegionHands<N> {
     ghost use Rattle.region_calls.specs.Hands.{Deal, deal_of, AreLeft};
 
     ghost Value = { Deal };
@@ -32,7 +35,7 @@ impl<N: region_lock::LockNaming + region_versions::VersionsNaming> Model for Reg
     ghost invariant = { λ h. AreLeft (N.desk h.region) (N.spent h.region) (deal_of h.region h.next h.left) h.ours h.theirs h.viewers.viewers.items };
 }
 
-impl<N: region_lock::LockNaming + region_versions::VersionsNaming> RegionHands<N> {
+impl<N: pass_calls::region_lock::LockNaming + region_versions::VersionsNaming> RegionHands<N> {
     /// The next handler's.
     pub(crate) fn next(&mut self) -> RegionPass<N>
         requires { 0 < self.old.left }

@@ -2,20 +2,22 @@
 
 ghost use Rattle.std.specs.Prelude.{◌≡◌, ◌≤◌, ◌<◌, ◌+◌, ℕ, length, map, IsTrue, Contains, slice_get, Some};
 ghost use Rattle.region_model.specs.Lines.{edits_in};
-ghost use Rattle.log_service.specs.Places.{ServiceId};
+ghost use Rattle.pass_calls.specs.log_service.Places.{ServiceId};
 ghost use Rattle.server_model.specs.Pass.{Pass as ThePass};
-ghost use Rattle.region_lock.specs.Met.{IsMet};
+ghost use Rattle.pass_calls.specs.region_lock.Met.{IsMet};
 ghost use Rattle.region_calls.specs.Backs.{AreAll};
 ghost use Rattle.region_calls.specs.Deals.{AllOf};
 ghost use Rattle.region_calls.specs.Passes.{knows, IsPassOf};
 
 use crate::pass::Pass;
-use region_lock::Locked;
+use pass_calls::region_lock::Locked;
 use std::sync::Wait;
 
 /// A pass meets a region. False where it viewed more than was shown, which no run shows.
 fn meet_one<
-    N: region_lock::LockNaming + log_service::ServiceNaming + region_versions::VersionsNaming,
+    N: pass_calls::region_lock::LockNaming
+        + pass_calls::log_service::ServiceNaming
+        + region_versions::VersionsNaming,
     R: Wait + Drop,
 >(locked: &mut Locked<N, R>, pass: &mut Pass<N>, place: usize) -> bool
     requires region { locked.old.state.region ≡ place + 1 }
@@ -31,7 +33,9 @@ fn meet_one<
 
 /// All passes meet a region. False where one viewed more than was shown, which no run shows.
 pub(crate) fn meet_all<
-    N: region_lock::LockNaming + log_service::ServiceNaming + region_versions::VersionsNaming,
+    N: pass_calls::region_lock::LockNaming
+        + pass_calls::log_service::ServiceNaming
+        + region_versions::VersionsNaming,
     R: Wait + Drop,
 >(locked: &mut Locked<N, R>, passes: &mut Vec<Pass<N>>, place: usize) -> bool
     requires region { locked.old.state.region ≡ place + 1 }
@@ -51,7 +55,7 @@ pub(crate) fn meet_all<
 }
 
 /// One of these passes is the handler's.
-fn is_among<N: region_lock::LockNaming + region_versions::VersionsNaming>(
+fn is_among<N: pass_calls::region_lock::LockNaming + region_versions::VersionsNaming>(
     passes: &[Pass<N>],
     handler: u32,
 ) -> bool
@@ -66,7 +70,7 @@ fn is_among<N: region_lock::LockNaming + region_versions::VersionsNaming>(
 }
 
 /// For each handler one of these passes is its.
-pub(crate) fn are_all<N: region_lock::LockNaming + region_versions::VersionsNaming>(
+pub(crate) fn are_all<N: pass_calls::region_lock::LockNaming + region_versions::VersionsNaming>(
     passes: &[Pass<N>],
     handlers: u32,
 ) -> bool

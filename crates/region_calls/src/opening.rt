@@ -15,7 +15,7 @@ use crate::sowing::{Sown, sow};
 use crate::store::OpenedStore;
 use disk_images::Disk;
 use kv_cell::NoMemory;
-use log_service::log_device::{Device, DeviceRefusal};
+use pass_calls::log_service::log_device::{Device, DeviceRefusal};
 use region_replay::{Recovered, recover_all};
 use std::alloc::Global;
 use std::snapshot::Snapshot;

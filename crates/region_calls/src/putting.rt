@@ -1,24 +1,27 @@
 //! A put into one region, with its memory.
 
 ghost use Rattle.std.specs.Prelude.{◌≡◌, ◌≤◌, ◌<◌, ◌^◌};
-ghost use Rattle.log_service.specs.Places.{IsSeatOf, IsLaterSeat};
-ghost use Rattle.region_lock.specs.Answers.{is_sync, put_answer};
-ghost use Rattle.region_lock.specs.Calls.{PutsAt};
-ghost use Rattle.region_lock.specs.Parts.{AreCalledBelow};
-ghost use Rattle.region_lock.specs.Passes.{IsAtService, SamePass, known_of};
-ghost use Rattle.region_lock.specs.Puts.{IsFaultExact};
+ghost use Rattle.pass_calls.specs.log_service.Places.{IsSeatOf, IsLaterSeat};
+ghost use Rattle.pass_calls.specs.region_lock.Answers.{is_sync, put_answer};
+ghost use Rattle.pass_calls.specs.region_lock.Calls.{PutsAt};
+ghost use Rattle.pass_calls.specs.region_lock.Parts.{AreCalledBelow};
+ghost use Rattle.pass_calls.specs.region_lock.Passes.{IsAtService, SamePass, known_of};
+ghost use Rattle.pass_calls.specs.region_lock.Puts.{IsFaultExact};
 
 use disk_images::Disk;
 use kv_cell::{Batch, Durability, NoMemory};
-use log_service::{LogSeat, LogService};
-use region_lock::{Gate, Locked, PutRefusal, RegionPass, prepare, put_in};
+use pass_calls::log_service::{LogSeat, LogService};
+use pass_calls::region_lock::{Gate, Locked, PutRefusal, RegionPass};
+use pass_calls::{prepare, put_in};
 use region_state::Caller;
 use std::alloc::Global;
 use std::sync::{Mutex, Wait};
 
 /// Takes the memory of an edit, and puts it in.
 pub(crate) fn put_at<
-    N: region_lock::LockNaming + log_service::ServiceNaming + region_versions::VersionsNaming,
+    N: pass_calls::region_lock::LockNaming
+        + pass_calls::log_service::ServiceNaming
+        + region_versions::VersionsNaming,
     D: Disk,
     R: Wait + Drop,
     G: Gate,

@@ -1,19 +1,19 @@
 //! A scan of one region that is read a page at a time.
 
 ghost use Rattle.std.specs.Prelude.{◌≡◌, ℕ};
-ghost use Rattle.log_service.specs.declared.seats.LogSeat.{LogSeat};
+ghost use Rattle.pass_calls.specs.log_service.declared.seats.LogSeat.{LogSeat};
 ghost use Rattle.region_model.specs.Lines.{last_in};
-ghost use Rattle.region_lock.specs.Calls.{ScansAt};
-ghost use Rattle.region_lock.specs.Passes.{known_of};
+ghost use Rattle.pass_calls.specs.region_lock.Calls.{ScansAt};
+ghost use Rattle.pass_calls.specs.region_lock.Passes.{known_of};
 ghost use Rattle.region_calls.specs.Answers.{begun_answer};
 
 use kv_cell::NoMemory;
-use region_lock::{RegionPass, view_in};
+use pass_calls::region_lock::{RegionPass, view_in};
 use region_state::Scanner;
 use std::alloc::Global;
 
 /// The scan of the last version shown of the region, which is not before one that the pass has seen. The pass has then seen it.
-pub(crate) fn scanner_in<N: region_lock::LockNaming + region_versions::VersionsNaming>(
+pub(crate) fn scanner_in<N: pass_calls::region_lock::LockNaming + region_versions::VersionsNaming>(
     alloc: Global,
     at: &mut RegionPass<N>,
     from: &[u8],

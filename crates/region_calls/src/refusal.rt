@@ -4,7 +4,7 @@ ghost use Rattle.std.specs.Prelude.{◌≡◌};
 ghost use Rattle.region_calls.specs.Opening.{why_of, why_not};
 
 use log_model::Damage;
-use log_service::log_device::DeviceWhy;
+use pass_calls::log_service::log_device::DeviceWhy;
 use region_replay::found_files::SplitRefusal;
 
 /// Why a store isn't opened.

@@ -10,14 +10,16 @@ use crate::hands::RegionHands;
 use crate::seeds::RegionSeeds;
 use crate::unlocked::{NamedRegion, Unlocked};
 use kv_cell::NoMemory;
-use region_lock::RegionPass;
+use pass_calls::region_lock::RegionPass;
 use std::alloc::Global;
 use std::sync::Wait;
 
 /// All regions under their name, and the hands of their handlers.
 #[derive(Drop)]
 pub(crate) struct NamedRegions<
-    N: region_lock::LockNaming + log_service::ServiceNaming + region_versions::VersionsNaming,
+    N: pass_calls::region_lock::LockNaming
+        + pass_calls::log_service::ServiceNaming
+        + region_versions::VersionsNaming,
     R: Wait + Drop,
 > {
     pub(crate) unlocked: Vec<Unlocked<N, R>>,
@@ -27,7 +29,9 @@ pub(crate) struct NamedRegions<
 /// Gives all regions their name.
 pub(crate) fn name_regions<
     'a,
-    N: region_lock::LockNaming + log_service::ServiceNaming + region_versions::VersionsNaming,
+    N: pass_calls::region_lock::LockNaming
+        + pass_calls::log_service::ServiceNaming
+        + region_versions::VersionsNaming,
     R: Wait,
 >(
     rt: &'a R,
@@ -56,7 +60,7 @@ pub(crate) fn name_regions<
 }
 
 /// For each handler room for its hands of all regions.
-pub(crate) fn make_rooms<N: region_lock::LockNaming + region_versions::VersionsNaming>(
+pub(crate) fn make_rooms<N: pass_calls::region_lock::LockNaming + region_versions::VersionsNaming>(
     alloc: Global,
     regions: usize,
     handlers: u32,

@@ -5,8 +5,8 @@ ghost use Rattle.std.specs.Prelude.{◌≡◌};
 use crate::naming::ServerNaming;
 use append_ring::RingKeys;
 use disk_images::Disk;
-use log_service::{Item, LogService};
-use region_lock::Locked;
+use pass_calls::log_service::{Item, LogService};
+use pass_calls::region_lock::Locked;
 use std::marker::Model;
 use std::sync::{Mutex, Wait};
 
@@ -16,8 +16,8 @@ pub struct Server<
     'a,
     D: Disk,
     N: ServerNaming
-        + region_lock::LockNaming
-        + log_service::ServiceNaming
+        + pass_calls::region_lock::LockNaming
+        + pass_calls::log_service::ServiceNaming
         + region_versions::VersionsNaming,
     R: Wait,
 > {
@@ -34,13 +34,13 @@ impl<
     'a,
     D: Disk,
     N: ServerNaming
-        + region_lock::LockNaming
-        + log_service::ServiceNaming
+        + pass_calls::region_lock::LockNaming
+        + pass_calls::log_service::ServiceNaming
         + region_versions::VersionsNaming,
     R: Wait,
 > Model for Server<'a, D, N, R> {
     ghost use Rattle.std.specs.Prelude.{length};
-    ghost use Rattle.log_service.specs.Places.{ServiceId};
+    ghost use Rattle.pass_calls.specs.log_service.Places.{ServiceId};
     ghost use Rattle.region_calls.specs.Served.{IsBegun, AreLocked};
 
     ghost Value = { ServiceId };

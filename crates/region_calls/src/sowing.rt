@@ -3,13 +3,13 @@
 ghost use Rattle.std.specs.Prelude.{◌≡◌, ◌≤◌, ◌<◌, ◌^◌, length, map, IfOk};
 ghost use Rattle.crossbeam_queue.specs.Passes.{view};
 ghost use Rattle.log_ledger.specs.Bases.{AreRegions, IsBase};
-ghost use Rattle.log_service.specs.Begun.{AreNewParts};
+ghost use Rattle.pass_calls.specs.log_service.Begun.{AreNewParts};
 ghost use Rattle.region_calls.specs.Seeds.{AreSeeds, base_of, lasts_of, bases_found, mark, marks_from, flushed_of};
 
 use crate::seeds::RegionSeeds;
 use kv_cell::NoMemory;
-use log_service::Rings;
-use log_service::log_device::RegionBase;
+use pass_calls::log_service::Rings;
+use pass_calls::log_service::log_device::RegionBase;
 use region_replay::Replayed;
 use std::alloc::Global;
 

@@ -2,7 +2,7 @@
 
 ghost use Rattle.std.specs.Prelude.{◌≡◌, ◌≤◌, ◌+◌, [], length, IfOk, IfErr, vec_capacity};
 ghost use Rattle.append_ring.specs.Parts.{AreNew, AreOut};
-ghost use Rattle.log_service.specs.log_device.Whole.{disk_of};
+ghost use Rattle.pass_calls.specs.log_service.log_device.Whole.{disk_of};
 ghost use Rattle.region_calls.specs.Hands.{AreDeals};
 ghost use Rattle.region_calls.specs.Deals.{AreSeatsOf, AreRooms, ArePassesOf, passes_out, passes_back};
 ghost use Rattle.region_calls.specs.Named.{AreFrom, AreNamedSeeds};
@@ -25,9 +25,9 @@ use crate::unlocked::Unlocked;
 use append_ring::RingKeys;
 use disk_images::Disk;
 use kv_cell::NoMemory;
-use log_service::log_device::Device;
-use log_service::{Item, LogSeat, LogService, Rings, ServiceParts, ServiceRefusal};
-use region_lock::{Locked, RegionPass};
+use pass_calls::log_service::log_device::Device;
+use pass_calls::log_service::{Item, LogSeat, LogService, Rings, ServiceParts, ServiceRefusal};
+use pass_calls::region_lock::{Locked, RegionPass};
 use std::alloc::Global;
 use std::sync::{Mutex, Wait};
 
@@ -36,8 +36,8 @@ pub struct Started<
     'a,
     D: Disk,
     N: ServerNaming
-        + region_lock::LockNaming
-        + log_service::ServiceNaming
+        + pass_calls::region_lock::LockNaming
+        + pass_calls::log_service::ServiceNaming
         + region_versions::VersionsNaming,
     R: Wait,
 > {
@@ -50,8 +50,8 @@ pub struct Started<
 struct NamedRoom<
     'a,
     N: ServerNaming
-        + region_lock::LockNaming
-        + log_service::ServiceNaming
+        + pass_calls::region_lock::LockNaming
+        + pass_calls::log_service::ServiceNaming
         + region_versions::VersionsNaming,
     R: Wait,
 > {
@@ -67,8 +67,8 @@ struct NamedRoom<
 impl<
     'a,
     N: ServerNaming
-        + region_lock::LockNaming
-        + log_service::ServiceNaming
+        + pass_calls::region_lock::LockNaming
+        + pass_calls::log_service::ServiceNaming
         + region_versions::VersionsNaming,
     R: Wait,
 > Drop for NamedRoom<'a, N, R> {
@@ -88,8 +88,8 @@ impl<
 fn make_room<
     'a,
     N: ServerNaming
-        + region_lock::LockNaming
-        + log_service::ServiceNaming
+        + pass_calls::region_lock::LockNaming
+        + pass_calls::log_service::ServiceNaming
         + region_versions::VersionsNaming,
     R: Wait,
 >(
@@ -127,7 +127,9 @@ fn make_room<
 
 /// Puts each region behind its lock, with its key of the ring.
 fn lock_all<
-    N: region_lock::LockNaming + log_service::ServiceNaming + region_versions::VersionsNaming,
+    N: pass_calls::region_lock::LockNaming
+        + pass_calls::log_service::ServiceNaming
+        + region_versions::VersionsNaming,
     R: Wait + Drop,
 >(
     passes: &mut RingKeys<Item>,
@@ -153,8 +155,8 @@ fn lock_all<
 impl<
     'a,
     N: ServerNaming
-        + region_lock::LockNaming
-        + log_service::ServiceNaming
+        + pass_calls::region_lock::LockNaming
+        + pass_calls::log_service::ServiceNaming
         + region_versions::VersionsNaming,
     R: Wait,
 > NamedRoom<'a, N, R> {
@@ -238,8 +240,8 @@ impl<D: Disk> OpenedStore<D> {
     pub fn named<
         'a,
         N: ServerNaming
-            + region_lock::LockNaming
-            + log_service::ServiceNaming
+            + pass_calls::region_lock::LockNaming
+            + pass_calls::log_service::ServiceNaming
             + region_versions::VersionsNaming,
         R: Wait,
     >(self, rt: &'a R, alloc: Global) -> Result<Started<'a, D, N, R>, StartRefusal<D>>

@@ -4,8 +4,8 @@ ghost use Rattle.std.specs.Prelude.{◌≡◌};
 ghost use Rattle.region_calls.specs.Store.{disk_now, regions_of, handlers_of};
 
 use crate::seeds::RegionSeeds;
-use log_service::Rings;
-use log_service::log_device::Device;
+use pass_calls::log_service::Rings;
+use pass_calls::log_service::log_device::Device;
 use std::snapshot::Snapshot;
 
 /// An opened store: its device, the log's rings and the regions' parts, all with their memory; and the disk as it was found, and as it was

@@ -1,7 +1,7 @@
 //! Passes are handed out, and come back.
 
 ghost use Rattle.std.specs.Prelude.{◌≡◌, ◌+◌, ◌<◌, [], ◌∷◌, ◌++◌, length, IfSome, IfNone};
-ghost use Rattle.log_service.specs.Places.{ServiceId};
+ghost use Rattle.pass_calls.specs.log_service.Places.{ServiceId};
 ghost use Rattle.server_model.specs.Pass.{IsFresh};
 ghost use Rattle.region_calls.specs.Passes.{knows, IsPassOf};
 ghost use Rattle.region_calls.specs.Deals.{passes_out, passes_back, ArePassesOf};
@@ -10,7 +10,7 @@ use crate::dealing::deal;
 use crate::pass::Pass;
 use crate::passes::Passes;
 
-impl<N: region_lock::LockNaming + region_versions::VersionsNaming> Passes<N> {
+impl<N: pass_calls::region_lock::LockNaming + region_versions::VersionsNaming> Passes<N> {
     /// The pass of the next handler, from 1 on, and None exactly after the last. It takes no memory.
     pub fn next(&mut self) -> Option<Pass<N>>
         requires of { (place : ServiceId) × ArePassesOf place N.handlers self.old }

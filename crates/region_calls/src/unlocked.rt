@@ -11,8 +11,8 @@ use crate::seeds::RegionSeeds;
 use append_ring::RingKey;
 use hand_register::{Desk, DeskParts};
 use kv_cell::NoMemory;
-use log_service::Item;
-use region_lock::Locked;
+use pass_calls::log_service::Item;
+use pass_calls::region_lock::Locked;
 use region_state::{Line, RegionState};
 use region_versions::{History, Shower, VersionParts, versions};
 use std::alloc::Global;
@@ -22,7 +22,9 @@ use std::sync::Wait;
 /// All that lies under a region's lock, but its key of the ring. Contracts see the region.
 #[derive(Drop)]
 pub(crate) struct Unlocked<
-    N: region_lock::LockNaming + log_service::ServiceNaming + region_versions::VersionsNaming,
+    N: pass_calls::region_lock::LockNaming
+        + pass_calls::log_service::ServiceNaming
+        + region_versions::VersionsNaming,
     R: Wait + Drop,
 > {
     state: RegionState,
@@ -33,7 +35,9 @@ pub(crate) struct Unlocked<
 }
 
 impl<
-    N: region_lock::LockNaming + log_service::ServiceNaming + region_versions::VersionsNaming,
+    N: pass_calls::region_lock::LockNaming
+        + pass_calls::log_service::ServiceNaming
+        + region_versions::VersionsNaming,
     R: Wait + Drop,
 > Model for Unlocked<N, R> {
     ghost use Rattle.std.specs.Prelude.{ℕ};
@@ -50,7 +54,9 @@ impl<
 /// The region, and the hands of its handlers.
 #[derive(Drop)]
 pub(crate) struct NamedRegion<
-    N: region_lock::LockNaming + log_service::ServiceNaming + region_versions::VersionsNaming,
+    N: pass_calls::region_lock::LockNaming
+        + pass_calls::log_service::ServiceNaming
+        + region_versions::VersionsNaming,
     R: Wait + Drop,
 > {
     pub(crate) unlocked: Unlocked<N, R>,
@@ -58,7 +64,9 @@ pub(crate) struct NamedRegion<
 }
 
 impl<
-    N: region_lock::LockNaming + log_service::ServiceNaming + region_versions::VersionsNaming,
+    N: pass_calls::region_lock::LockNaming
+        + pass_calls::log_service::ServiceNaming
+        + region_versions::VersionsNaming,
     R: Wait + Drop,
 > NamedRegion<N, R> {
     /// Gives a region's parts their name. It keeps the handle `rt`, since its drop waits for those that view it.
@@ -113,7 +121,9 @@ impl<
 }
 
 impl<
-    N: region_lock::LockNaming + log_service::ServiceNaming + region_versions::VersionsNaming,
+    N: pass_calls::region_lock::LockNaming
+        + pass_calls::log_service::ServiceNaming
+        + region_versions::VersionsNaming,
     R: Wait + Drop,
 > Unlocked<N, R> {
     /// The value of the region's lock, with its pass, under which nothing was pushed.

@@ -1,7 +1,7 @@
 //! Regions get the words of a log that was closed.
 
 ghost use Rattle.std.specs.Prelude.{◌≡◌, ◌≤◌, ◌<◌, ◌*◌, ◌+◌, ◌^◌, ℕ, [], length, Some, slice_get, slice_index, vec_capacity};
-ghost use Rattle.log_service.specs.Closed.{synced_in, stored_in, closed_in};
+ghost use Rattle.pass_calls.specs.log_service.Closed.{synced_in, stored_in, closed_in};
 ghost use Rattle.region_calls.specs.Closes.{AreWordsIn};
 ghost use Rattle.region_calls.specs.Wordings.{IsWorded};
 

@@ -1,3 +1,4 @@
+pub use Rattle.log_service.specs as log_service
 pub mod Parts
 pub mod Jobs
 pub mod Histories

@@ -1,6 +1,6 @@
 //! How an edit is begun and ended under its region's lock.
 
-ghost use Rattle.std.specs.Prelude.{◌≡◌, ◌+◌, ◌<◌, ◌≤◌, ◌^◌};
+ghost use Rattle.std.specs.Prelude.{◌≡◌, ℕ, ◌+◌, ◌<◌, ◌≤◌, ◌^◌};
 ghost use Rattle.hand_register.specs.Desks.{with_value};
 ghost use Rattle.log_model.specs.Entry.{Entry, entry_frame};
 ghost use Rattle.region_model.specs.Lines.{with_outcome};
@@ -24,7 +24,7 @@ use std::sync::Wait;
 use write_queue::WriteEntry;
 
 /// What came of a try to begin an edit. The number that was begun has to be ended.
-pub(crate) enum Tried {
+pub enum Tried {
     Begun(WriteEntry),
     Spent { last: u64 },
     Memory,
@@ -35,30 +35,26 @@ impl<
     N: LockNaming + log_service::ServiceNaming + region_versions::VersionsNaming,
     R: Wait + Drop,
 > Locked<N, R> {
-    /// Tries to begin an edit of this region, whose pass has seen this point.
-    pub(crate) fn draw<D: Disk, S: Wait>(
+    /// Tries to begin an edit. The number that it draws is above the write point.
+    pub fn draw<D: Disk, S: Wait>(
         &mut self,
         rt: &S,
         service: &LogService<D, N>,
-        region: u32,
-        seen: u64,
         hand: &mut Hand<Line>,
         told: &mut Hand<u64>,
         job: Job,
     ) -> Tried
         requires ring { service.now.ring ≡ N.ring }
-        requires hand { hand.old.desk ≡ N.desk region }
-        requires told { told.old.desk ≡ N.spent region }
-        requires job { IsJob region job }
+        requires hand { hand.old.desk ≡ N.desk self.old.state.region }
+        requires told { told.old.desk ≡ N.spent self.old.state.region }
+        requires job { IsJob self.old.state.region job }
         requires caller { (job.caller.handler ≡ hand.old.number) × AreCalledBelow job.caller.call hand.old.record.list }
-        ensures tried { IsTried region seen job hand.old.record.list told.old.record.list result hand.new.record.list told.new.record.list }
+        ensures tried { (seen : ℕ) → seen ≤ write_point self.old.state
+            → IsTried self.old.state.region seen job hand.old.record.list told.old.record.list result hand.new.record.list told.new.record.list }
         ensures mark { hand.new.record.mark ≡ hand.old.record.mark }
         ensures hand { SameHand hand.old hand.new }
         ensures told { SameHand told.old told.new }
     {
-        if self.region() != region || self.write_point() < seen {
-            return Tried::Again(job);
-        }
         if self.write_point() + 1 >= 1 << 48 {
             return Tried::Spent {
                 last: self.tell_spent(told),
@@ -133,7 +129,7 @@ impl<
 
     /// Asks that the region's entries up to the number be durable. False where the ring was full, or where it is another region's lock,
     /// which no run shows.
-    pub(crate) fn ask<D: Disk, S: Wait>(
+    pub fn ask<D: Disk, S: Wait>(
         &mut self,
         rt: &S,
         service: &LogService<D, N>,
@@ -152,7 +148,7 @@ impl<
     }
 
     /// Ends the handler's last line, which is pending, and gives the read point.
-    pub(crate) fn end(&mut self, hand: &mut Hand<Line>, entry: WriteEntry, ended: Ended) -> u64
+    pub fn end(&mut self, hand: &mut Hand<Line>, entry: WriteEntry, ended: Ended) -> u64
         requires hand { hand.old.desk ≡ N.desk self.old.state.region }
         requires last { EndsPending hand.old.record.list entry }
         ensures own { WasEnded (outcome_at_end ended) hand.old.record.list hand.new.record.list }

@@ -91,7 +91,7 @@ impl<
     }
 
     /// The last number that was drawn, or the base's.
-    pub(crate) fn write_point(&self) -> u64
+    pub fn write_point(&self) -> u64
         ensures point { result ≡ write_point self.now.state }
         ensures limit { result < 2 ^ 48 }
         ensures base { self.now.state.base ≡ N.region_base self.now.state.region }
@@ -100,7 +100,7 @@ impl<
     }
 
     /// Shows the version at the read point. Where memory is refused another one may do it later.
-    pub(crate) fn show(&mut self, alloc: Global) -> Result<(), NoMemory>
+    pub fn show(&mut self, alloc: Global) -> Result<(), NoMemory>
         ensures same { self.new ≡ with_lines self.old self.old.state.lines self.new.state.room }
     {
         let version = self.state.next_version(alloc)?;

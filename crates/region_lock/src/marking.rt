@@ -42,7 +42,7 @@ impl<
     }
 
     /// Takes a flush's mark away.
-    pub(crate) fn unmark(&mut self, hand: &mut Hand<Line>)
+    pub fn unmark(&mut self, hand: &mut Hand<Line>)
         requires hand { hand.old.desk ≡ N.desk self.old.state.region }
         requires marked { 1 ≤ hand.old.record.mark }
         ensures mark { self.new ≡ record self.old { mark = None } }

@@ -1,27 +1,30 @@
-//! What a handler does while it waits.
+//! How a call waits for the log.
 
+ghost use Rattle.std.specs.Prelude.{◌≤◌, ◌<◌, true};
 ghost use Rattle.log_service.specs.Places.{IsSeatOf, IsLaterSeat};
+ghost use Rattle.region_lock.specs.Puts.{IsLogged};
 
 use disk_images::Disk;
-use log_service::{Helped, LogSeat, LogService, ServiceNaming};
+use log_service::{LogSeat, LogService, ServiceNaming, Waited};
 use std::sync::Wait;
-use std::thread;
 
-/// Helps the log once: a consumer turn and a sync turn. Where another seat has one of the two it sleeps until a turn of the device has ended,
-/// and where there was nothing to do the processor is given away.
-pub(crate) fn help<N: ServiceNaming, D: Disk, S: Wait>(
+/// Waits until the region's entries up to the number are durable. False where the log is broken below the number: the fault word was seen
+/// set, and then the synced word was loaded below the number.
+pub fn wait_logged<N: ServiceNaming, D: Disk, S: Wait>(
     rt: &S,
     service: &LogService<D, N>,
     seat: &mut LogSeat,
-)
-    requires { IsSeatOf service.now seat.old }
+    region: u32,
+    number: u64,
+) -> bool
+    requires region { (0 < region) × (region ≤ service.now.regions) }
+    requires seat { IsSeatOf service.now seat.old }
+    ensures logged { IsLogged true result region number seat.new.device.knows }
     ensures seat { IsSeatOf service.now seat.new }
     ensures later { IsLaterSeat seat.old seat.new }
 {
-    let turns = service.turns();
-    match service.help(rt, seat) {
-        Helped::Something => {}
-        Helped::Busy => service.rest(rt, turns),
-        Helped::Nothing => thread::yield_now(),
+    match service.wait_synced(rt, seat, region, number) {
+        Waited::Synced => true,
+        Waited::Broken => false,
     }
 }

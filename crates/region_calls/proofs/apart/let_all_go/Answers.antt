@@ -1,7 +1,7 @@
 use Rattle.std.proofs.Common.{◌≡◌, inl, inr, ℕ, ◌<◌, List, [], ◌∷◌, ◌++◌, length, map, Some, None, slice_get, slice_index, set, refl, sym, ap, ◌∙◌, subst, arith, length-append, append_assoc}
 use Rattle.std.proofs.lemmas.Bool.{cases_lt}
 use Rattle.std.specs.Vec.Iter.{into_iter_items}
-use Rattle.region_lock.proofs.Lists.{length_set}
+use Rattle.pass_calls.proofs.region_lock_laws.Lists.{length_set}
 use Rattle.region_model.specs.Journal.{Base}
 use Rattle.region_model.specs.Lines.{Line}
 use Rattle.server_model.specs.Pass.{Pass as ThePass}

@@ -1,6 +1,6 @@
 use Rattle.std.proofs.Common.{◌≡◌, ℕ, ◌<◌, ◌≤◌, ◌++◌, List, length, map, Some, None, slice_get, slice_index}
 use Rattle.std.specs.Vec.Iter.{into_iter_items, into_iter_len}
-use Rattle.log_service.specs.Places.{ServiceId}
+use Rattle.pass_calls.specs.log_service.Places.{ServiceId}
 use Rattle.region_model.specs.Journal.{Base}
 use Rattle.region_model.specs.Lines.{Line}
 use Rattle.region_calls.specs.Closes.{IsTaken}

@@ -1,6 +1,6 @@
 use Rattle.std.proofs.Common.{◌≡◌, ℕ, ◌<◌, ◌≤◌, ◌++◌, length, map, Some, None, slice_get, vec_capacity}
 use Rattle.std.specs.Vec.Iter.{into_iter_items, into_iter_len}
-use Rattle.log_service.specs.Places.{ServiceId}
+use Rattle.pass_calls.specs.log_service.Places.{ServiceId}
 use Rattle.region_calls.specs.Closes.{IsTaken}
 use Rattle.region_calls.specs.Deals.{AllOf}
 use Rattle.region_calls.specs.Passes.{knows}

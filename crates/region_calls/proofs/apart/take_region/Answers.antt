@@ -2,10 +2,10 @@ use Rattle.std.proofs.Common.{◌≡◌, ℕ, ◌+◌, ◌-◌, ◌<◌, ◌^◌
 use Rattle.append_ring.specs.declared.pass.RingKey.{RingKey}
 use Rattle.region_model.specs.Journal.{Base, IsJournal}
 use Rattle.region_model.specs.Lines.{Line, edits_in, last_in}
-use Rattle.log_service.specs.log_halves.declared.item.Item.{Item}
-use Rattle.log_service.specs.Closed.{HasPushedEntries}
-use Rattle.region_lock.specs.Met.{IsMet}
-use Rattle.region_lock.specs.Parts.{Part, AreOwned, entries_in}
+use Rattle.pass_calls.specs.log_service.log_halves.declared.item.Item.{Item}
+use Rattle.pass_calls.specs.log_service.Closed.{HasPushedEntries}
+use Rattle.pass_calls.specs.region_lock.Met.{IsMet}
+use Rattle.pass_calls.specs.region_lock.Parts.{Part, AreOwned, entries_in}
 use Rattle.region_calls.proofs.BackLaws.{get_set_same, get_set_other}
 use Rattle.region_calls.proofs.apart.take_region.Goals as goal
 

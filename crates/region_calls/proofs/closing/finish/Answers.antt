@@ -2,8 +2,8 @@ use Rattle.std.proofs.Common.{◌≡◌, ℕ, List, length, map, Contains, sym, 
 use Rattle.std.specs.List.{range_with_len}
 use Rattle.std.proofs.Math.Logic.{∥∥₁_map, ∥∥₁_map₂}
 use Rattle.append_ring.specs.declared.pass.RingKey.{RingKey}
-use Rattle.log_service.specs.log_halves.declared.item.Item.{Item}
-use Rattle.log_service.specs.Places.{ServiceId}
+use Rattle.pass_calls.specs.log_service.log_halves.declared.item.Item.{Item}
+use Rattle.pass_calls.specs.log_service.Places.{ServiceId}
 use Rattle.server_model.specs.Pass.{Pass as ThePass, Naming}
 use Rattle.server_model.specs.Closing.{Leaves}
 use Rattle.region_calls.specs.declared.apart.Taken.{Taken}

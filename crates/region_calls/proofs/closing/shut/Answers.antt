@@ -1,6 +1,6 @@
 use Rattle.std.proofs.Common.{◌≡◌, ℕ, List, length, sym, ap, subst, arith}
 use Rattle.log_berth.specs.Standing.{Standing, AllSaw}
-use Rattle.log_service.specs.declared.seats.LogSeat.{LogSeat}
+use Rattle.pass_calls.specs.log_service.declared.seats.LogSeat.{LogSeat}
 use Rattle.region_calls.specs.Deals.{AreSeatsOf}
 use Rattle.region_calls.specs.Backs.{AreSeats, device_seats, seats_of}
 use Rattle.region_calls.proofs.BackLaws.{saw_split}

@@ -1,7 +1,7 @@
 use Rattle.std.proofs.Common.{◌≡◌, inl, inr, ◌+◌, ◌-◌, ◌<◌, List, [], ◌∷◌, length, refl, sym, ap, ◌∙◌, subst, arith, length-append}
 use Rattle.std.proofs.lemmas.Option.{slice_get_read}
-use Rattle.region_lock.specs.declared.pass.RegionPass.{RegionPass}
-use Rattle.region_lock.proofs.Lists.{get_set, length_set}
+use Rattle.pass_calls.specs.region_lock.declared.pass.RegionPass.{RegionPass}
+use Rattle.pass_calls.proofs.region_lock_laws.Lists.{get_set, length_set}
 use Rattle.region_calls.specs.Hands.{Deal, deal_of}
 use Rattle.region_calls.specs.Passes.{IsNewHand, AreNewHands}
 use Rattle.region_calls.proofs.Seated.{hands_more}

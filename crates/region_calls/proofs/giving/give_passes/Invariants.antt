@@ -1,6 +1,6 @@
 use Rattle.std.proofs.Common.{◌≡◌, ◌+◌, ◌++◌, length}
 use Rattle.std.specs.Vec.Iter.{into_iter_items, into_iter_len}
-use Rattle.log_service.specs.Places.{ServiceId}
+use Rattle.pass_calls.specs.log_service.Places.{ServiceId}
 use Rattle.region_calls.specs.Backs.{AreSeats, device_seats, seats_of}
 use Rattle.region_calls.specs.Deals.{AllOf}
 use Rattle.region_calls.proofs.giving.give_passes.Given as goal

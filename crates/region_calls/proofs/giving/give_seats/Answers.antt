@@ -1,7 +1,7 @@
 use Rattle.std.proofs.Common.{◌≡◌, ℕ, List, [], ◌∷◌, ◌++◌, length, sym, ap, ◌∙◌, subst, arith, length-append, append_assoc}
 use Rattle.std.specs.Vec.Iter.{into_iter_items}
 use Rattle.log_berth.specs.Standing.{Standing, AreBack}
-use Rattle.log_service.specs.declared.seats.LogSeat.{LogSeat}
+use Rattle.pass_calls.specs.log_service.declared.seats.LogSeat.{LogSeat}
 use Rattle.region_calls.specs.Deals.{AreSeatsOf}
 use Rattle.region_calls.specs.Backs.{AreSeats, device_seats}
 use Rattle.region_calls.proofs.BackLaws.{back_more, seats_snoc}

@@ -1,6 +1,6 @@
 use Rattle.std.proofs.Common.{◌≡◌, ◌++◌, length}
 use Rattle.std.specs.Vec.Iter.{into_iter_items, into_iter_len}
-use Rattle.log_service.specs.Places.{ServiceId}
+use Rattle.pass_calls.specs.log_service.Places.{ServiceId}
 use Rattle.region_calls.specs.Backs.{AreSeats, device_seats}
 use Rattle.region_calls.specs.Deals.{AreSeatsOf}
 use Rattle.region_calls.proofs.giving.give_seats.Given as goal

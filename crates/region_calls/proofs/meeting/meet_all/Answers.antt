@@ -3,9 +3,9 @@ use Rattle.std.proofs.lemmas.Bool.{cases_lt}
 use Rattle.std.proofs.lemmas.Option.{slice_get_read}
 use Rattle.region_model.specs.Lines.{edits_in}
 use Rattle.server_model.specs.Pass.{Pass as ThePass}
-use Rattle.region_lock.specs.Met.{IsMet}
-use Rattle.region_lock.specs.Parts.{Part}
-use Rattle.region_lock.proofs.Lists.{length_set}
+use Rattle.pass_calls.specs.region_lock.Met.{IsMet}
+use Rattle.pass_calls.specs.region_lock.Parts.{Part}
+use Rattle.pass_calls.proofs.region_lock_laws.Lists.{length_set}
 use Rattle.region_calls.specs.declared.pass.Pass.{Pass}
 use Rattle.region_calls.specs.Passes.{knows}
 use Rattle.region_calls.proofs.BackLaws.{contains_get, map_set, map_at, all_set, all_get}

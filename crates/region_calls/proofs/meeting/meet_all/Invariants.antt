@@ -1,8 +1,8 @@
 use Rattle.std.proofs.Common.{◌≡◌, ℕ, ◌+◌, ◌<◌, length, map, Some, slice_get}
-use Rattle.log_service.specs.Places.{ServiceId}
+use Rattle.pass_calls.specs.log_service.Places.{ServiceId}
 use Rattle.region_model.specs.Lines.{edits_in}
 use Rattle.server_model.specs.Pass.{Pass as ThePass}
-use Rattle.region_lock.specs.Met.{IsMet}
+use Rattle.pass_calls.specs.region_lock.Met.{IsMet}
 use Rattle.region_calls.specs.Deals.{AllOf}
 use Rattle.region_calls.specs.Passes.{knows}
 use Rattle.region_calls.proofs.meeting.meet_all.Given as goal

@@ -2,9 +2,9 @@ use Rattle.std.proofs.Common.{ℕ, ◌<◌, length, refl, sym, ◌∙◌, subst,
 use Rattle.std.proofs.lemmas.Option.{slice_get_read}
 use Rattle.region_model.specs.Lines.{edits_in}
 use Rattle.server_model.specs.Pass.{Known}
-use Rattle.region_lock.specs.Met.{IsMet}
-use Rattle.region_lock.specs.Passes.{known_of}
-use Rattle.region_lock.proofs.Lists.{length_set}
+use Rattle.pass_calls.specs.region_lock.Met.{IsMet}
+use Rattle.pass_calls.specs.region_lock.Passes.{known_of}
+use Rattle.pass_calls.proofs.region_lock_laws.Lists.{length_set}
 use Rattle.region_calls.proofs.BackLaws.{known_kept, known_here, knows_set, hands_kept}
 use Rattle.region_calls.proofs.meeting.meet_one.Goals as goal
 

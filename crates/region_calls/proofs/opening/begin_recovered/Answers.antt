@@ -4,14 +4,14 @@ use Rattle.crossbeam_queue.specs.Passes.{view}
 use Rattle.recovery_laws.specs.Alike.{AllAlike}
 use Rattle.disk_images.specs.Crash.{DiskView}
 use Rattle.log_model.specs.Files.{Files}
-use Rattle.log_service.specs.log_device.Opened.{IsOpened}
+use Rattle.pass_calls.specs.log_service.log_device.Opened.{IsOpened}
 use Rattle.region_replay.specs.Ready.{Found}
 use Rattle.region_replay.specs.Cleared.{IsReady}
 use Rattle.region_replay.specs.Opened.{AreOf, AtMostOneHigher}
 use Rattle.log_ledger.specs.declared.base.RegionBase.{RegionBase}
 use Rattle.log_ledger.specs.Bases.{AreRegions}
 use Rattle.log_ledger.specs.History.{started_in}
-use Rattle.log_service.specs.Begun.{AreNewParts}
+use Rattle.pass_calls.specs.log_service.Begun.{AreNewParts}
 use Rattle.region_calls.specs.Bases.{AreBasesOf}
 use Rattle.region_calls.specs.Cleared.{AreCleared}
 use Rattle.region_calls.specs.Seeds.{base_of, bases_found, lasts_of, marks_from, flushed_of}
@@ -62,7 +62,7 @@ returns-in-Ok-start-clause-store g c =
       begins = λ told.
           let v = g.D.Disk.view c.args.disk in
           let opened = opened_at v _ n xs ms is (c.requires.recovered.ready told) (c.requires.recovered.each told) c.requires.recovered.count in
-          subst (λ e. ∥ ((h : _) × Rattle.log_service.specs.Begun.BeginsAs (g.D.Disk.view e).files first d (g.D.Disk.view d.disk) h) ∥₁) (sym c.of-split.ensures)
+          subst (λ e. ∥ ((h : _) × Rattle.pass_calls.specs.log_service.Begun.BeginsAs (g.D.Disk.view e).files first d (g.D.Disk.view d.disk) h) ∥₁) (sym c.of-split.ensures)
           ∣ (
             started_in v.files (flushed_in xs),
             begins_as n xs ms first d v.files (g.D.Disk.view d.disk) is firsts

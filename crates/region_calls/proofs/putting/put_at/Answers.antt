@@ -2,11 +2,11 @@ use Rattle.std.proofs.Common.{◌≡◌, ℕ, Bool, ap, sym, subst}
 use Rattle.region_model.specs.Calls.{Answer}
 use Rattle.region_model.specs.Journal.{Base, Caller}
 use Rattle.region_model.specs.Lines.{Line, pending}
-use Rattle.region_lock.specs.Answers.{is_sync, put_answer}
-use Rattle.region_lock.specs.Calls.{PutsAt}
-use Rattle.region_lock.specs.Jobs.{line_of}
-use Rattle.region_lock.specs.Parts.{AreCalledBelow}
-use Rattle.region_lock.specs.Passes.{known_of}
+use Rattle.pass_calls.specs.region_lock.Answers.{is_sync, put_answer}
+use Rattle.pass_calls.specs.region_lock.Calls.{PutsAt}
+use Rattle.pass_calls.specs.region_lock.Jobs.{line_of}
+use Rattle.pass_calls.specs.region_lock.Parts.{AreCalledBelow}
+use Rattle.pass_calls.specs.region_lock.Passes.{known_of}
 use Rattle.server_model.specs.Pass.{Known}
 use Rattle.region_calls.proofs.putting.put_at.Goals as goal
 

@@ -3,7 +3,7 @@ use Rattle.std.specs.Arc.{arc_value}
 use Rattle.hand_register.specs.Views.{HandView}
 use Rattle.region_model.specs.Lines.{Line, last_in}
 use Rattle.region_state.specs.Versions.{Shown}
-use Rattle.region_lock.proofs.ScanLaws.{scan_none}
+use Rattle.pass_calls.proofs.region_lock_laws.ScanLaws.{scan_none}
 use Rattle.region_calls.proofs.Paging.{begun_at}
 use Rattle.region_calls.proofs.reading.scanner_in.Goals as goal
 

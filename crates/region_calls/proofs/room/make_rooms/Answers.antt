@@ -1,6 +1,6 @@
 use Rattle.std.proofs.Common.{List, ◌∷◌, [], length, sym, ap, ◌∙◌, subst, arith, length-append}
 use Rattle.std.specs.Global.{Vec}
-use Rattle.region_lock.specs.declared.pass.RegionPass.{RegionPass}
+use Rattle.pass_calls.specs.region_lock.declared.pass.RegionPass.{RegionPass}
 use Rattle.region_calls.specs.Deals.{AreRooms}
 use Rattle.region_calls.proofs.Seated.{rooms_more}
 use Rattle.region_calls.proofs.room.make_rooms.Goals as goal

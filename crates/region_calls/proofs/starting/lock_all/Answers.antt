@@ -4,7 +4,7 @@ use Rattle.std.specs.Vec.Iter.{into_iter_items}
 use Rattle.append_ring.specs.declared.pass.RingKey.{RingKey}
 use Rattle.append_ring.specs.Parts.{IsNew, AreNewAfter}
 use Rattle.append_ring.proofs.Handing.{next_new, none_left}
-use Rattle.log_service.specs.log_halves.declared.item.Item.{Item}
+use Rattle.pass_calls.specs.log_service.log_halves.declared.item.Item.{Item}
 use Rattle.region_calls.specs.Named.{AreFrom}
 use Rattle.region_calls.proofs.Seated.{same_of}
 use Rattle.region_calls.proofs.starting.lock_all.Goals as goal

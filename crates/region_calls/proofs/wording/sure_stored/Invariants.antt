@@ -1,5 +1,5 @@
 use Rattle.std.proofs.Common.{ℕ, ◌+◌, ◌<◌, ◌≤◌, slice_index}
-use Rattle.log_service.specs.Closed.{stored_in}
+use Rattle.pass_calls.specs.log_service.Closed.{stored_in}
 use Rattle.region_calls.proofs.wording.sure_stored.Given as goal
 
 abbrev pub invariant-checking : goal.invariant-checking

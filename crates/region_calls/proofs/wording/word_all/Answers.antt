@@ -1,6 +1,6 @@
 use Rattle.std.proofs.Common.{◌≡◌, inl, inr, ℕ, List, [], ◌∷◌, ◌++◌, length, Some, slice_get, sym, ap, ◌∙◌, subst, arith, length-append, append_assoc}
 use Rattle.std.specs.Vec.Iter.{into_iter_items}
-use Rattle.region_lock.proofs.Lists.{at_middle}
+use Rattle.pass_calls.proofs.region_lock_laws.Lists.{at_middle}
 use Rattle.region_calls.specs.Wordings.{IsWorded}
 use Rattle.region_calls.specs.declared.apart.Taken.{Taken}
 use Rattle.region_calls.specs.declared.closed.ClosedRegion.{ClosedRegion}

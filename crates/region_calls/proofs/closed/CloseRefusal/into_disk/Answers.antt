@@ -1,9 +1,9 @@
 use Rattle.std.proofs.Common.{◌≡◌, ℕ, ◌+◌, ◌-◌, ◌<◌, ◌≤◌, true, List, map, slice_index, Contains, sym, ap, ◌∙◌, subst, arith}
 use Rattle.std.proofs.Math.Logic.{∥∥₁_map, ∥∥₁_map₂}
 use Rattle.append_ring.specs.declared.pass.RingKey.{RingKey}
-use Rattle.log_service.specs.log_halves.declared.item.Item.{Item}
-use Rattle.log_service.specs.Places.{ServiceId}
-use Rattle.log_service.specs.Closed.{stored_in}
+use Rattle.pass_calls.specs.log_service.log_halves.declared.item.Item.{Item}
+use Rattle.pass_calls.specs.log_service.Places.{ServiceId}
+use Rattle.pass_calls.specs.log_service.Closed.{stored_in}
 use Rattle.server_model.specs.Pass.{Pass as ThePass, Naming}
 use Rattle.server_model.specs.Closing.{Region, IsClosedRegion, Survives, Leaves}
 use Rattle.region_calls.specs.declared.pass.Pass.{Pass}

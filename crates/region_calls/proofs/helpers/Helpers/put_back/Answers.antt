@@ -1,5 +1,5 @@
 use Rattle.std.proofs.Common.{List, sym, subst}
-use Rattle.log_service.specs.declared.seats.LogSeat.{LogSeat}
+use Rattle.pass_calls.specs.log_service.declared.seats.LogSeat.{LogSeat}
 use Rattle.region_calls.specs.Deals.{AreSeatsOf}
 use Rattle.region_calls.proofs.Seated.{seat_more}
 use Rattle.region_calls.proofs.helpers.Helpers.put_back.Goals as goal

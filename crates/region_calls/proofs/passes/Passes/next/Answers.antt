@@ -1,7 +1,7 @@
 use Rattle.std.proofs.Common.{◌≡◌, ◌+◌, ◌-◌, List, [], ◌∷◌, length, ap, ◌∙◌, subst, arith, length-append}
 use Rattle.std.specs.Global.{Vec}
 use Rattle.log_berth.specs.Standing.{Standing, AreBack}
-use Rattle.region_lock.specs.declared.pass.RegionPass.{RegionPass}
+use Rattle.pass_calls.specs.region_lock.declared.pass.RegionPass.{RegionPass}
 use Rattle.region_calls.specs.Hands.{AreDeals}
 use Rattle.region_calls.specs.Deals.{AreRooms}
 use Rattle.region_calls.proofs.Seated.{rooms_less, back_less, new_hand}

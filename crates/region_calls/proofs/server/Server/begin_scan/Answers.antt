@@ -1,6 +1,6 @@
 use Rattle.std.proofs.Common.{ℕ, ◌+◌, length, set, ◌∙◌, subst, arith}
 use Rattle.region_model.specs.Lines.{last_in}
-use Rattle.region_lock.proofs.Lists.{length_set}
+use Rattle.pass_calls.proofs.region_lock_laws.Lists.{length_set}
 use Rattle.region_model.specs.Calls.{Raw}
 use Rattle.server_model.specs.Steps.{Scans}
 use Rattle.region_calls.specs.Answers.{begun_answer}

@@ -1,8 +1,8 @@
 use Rattle.std.proofs.Common.{◌+◌, sym, ap, ◌∙◌, subst, arith}
 use Rattle.std.specs.Option.{option_map}
-use Rattle.log_service.specs.Places.{ServiceId, IsSeatOf}
-use Rattle.region_lock.specs.Answers.{flush_answer}
-use Rattle.region_lock.proofs.Lists.{length_set}
+use Rattle.pass_calls.specs.log_service.Places.{ServiceId, IsSeatOf}
+use Rattle.pass_calls.specs.region_lock.Answers.{flush_answer}
+use Rattle.pass_calls.proofs.region_lock_laws.Lists.{length_set}
 use Rattle.region_calls.proofs.Knowing.{hands_set}
 use Rattle.region_calls.proofs.Using.{flush_is, used, flushes_used, flush_hand}
 use Rattle.region_calls.proofs.server.Server.flush.Goals as goal

@@ -1,5 +1,5 @@
 use Rattle.std.proofs.Common.{ap, arith}
-use Rattle.log_service.specs.Places.{ServiceId}
+use Rattle.pass_calls.specs.log_service.Places.{ServiceId}
 use Rattle.server_model.specs.Pass.{Naming}
 use Rattle.region_calls.proofs.server.Server.place_of.Goals as goal
 

@@ -1,8 +1,8 @@
 use Rattle.std.proofs.Common.{ℕ, ◌+◌, sym, ap, ◌∙◌, subst, arith}
-use Rattle.log_service.specs.Places.{ServiceId, IsSeatOf}
-use Rattle.region_lock.specs.Answers.{is_sync, put_answer}
-use Rattle.region_lock.specs.Puts.{IsFaultExact}
-use Rattle.region_lock.proofs.Lists.{length_set}
+use Rattle.pass_calls.specs.log_service.Places.{ServiceId, IsSeatOf}
+use Rattle.pass_calls.specs.region_lock.Answers.{is_sync, put_answer}
+use Rattle.pass_calls.specs.region_lock.Puts.{IsFaultExact}
+use Rattle.pass_calls.proofs.region_lock_laws.Lists.{length_set}
 use Rattle.region_calls.proofs.Knowing.{below_more, hands_set}
 use Rattle.region_calls.proofs.Calling.{put_hand}
 use Rattle.region_calls.proofs.Using.{put_is, used, puts_used}

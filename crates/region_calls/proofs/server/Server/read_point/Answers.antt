@@ -2,8 +2,8 @@ use Rattle.std.proofs.Common.{ℕ, ◌+◌, [], length, refl, ap, ◌∙◌, ari
 use Rattle.hand_register.specs.Views.{HandView}
 use Rattle.region_model.specs.Calls.{ScanMemory}
 use Rattle.region_model.specs.Lines.{Line, last_in}
-use Rattle.region_lock.proofs.Lists.{length_set}
-use Rattle.region_lock.proofs.ScanLaws.{scan_none}
+use Rattle.pass_calls.proofs.region_lock_laws.Lists.{length_set}
+use Rattle.pass_calls.proofs.region_lock_laws.ScanLaws.{scan_none}
 use Rattle.region_calls.proofs.Knowing.{hands_set}
 use Rattle.region_calls.proofs.Using.{used, scans_used, point_used, view_hand}
 use Rattle.region_calls.proofs.server.Server.read_point.Goals as goal

@@ -1,6 +1,6 @@
 use Rattle.std.proofs.Common.{sym, ap, ◌∙◌}
-use Rattle.log_service.specs.Places.{ServiceId}
-use Rattle.region_lock.specs.Answers.{roll_answer}
+use Rattle.pass_calls.specs.log_service.Places.{ServiceId}
+use Rattle.pass_calls.specs.region_lock.Answers.{roll_answer}
 use Rattle.region_calls.proofs.Using.{roll_is, rolls_used}
 use Rattle.region_calls.proofs.server.Server.roll.Goals as goal
 

@@ -1,6 +1,6 @@
 use Rattle.std.proofs.Common.{◌+◌, length, ◌∙◌, arith}
-use Rattle.region_lock.specs.Answers.{scan_answer}
-use Rattle.region_lock.proofs.Lists.{length_set}
+use Rattle.pass_calls.specs.region_lock.Answers.{scan_answer}
+use Rattle.pass_calls.proofs.region_lock_laws.Lists.{length_set}
 use Rattle.region_calls.proofs.Knowing.{hands_set}
 use Rattle.region_calls.proofs.Using.{scan_is, used, scans_used, view_hand}
 use Rattle.region_calls.proofs.server.Server.scan.Goals as goal

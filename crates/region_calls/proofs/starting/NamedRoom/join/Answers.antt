@@ -1,8 +1,8 @@
 use Rattle.std.proofs.Common.{◌≡◌, ◌+◌, ◌-◌, List, [], ◌∷◌, ◌++◌, length, map, refl, sym, ap, ◌∙◌, subst, arith, length-append}
 use Rattle.log_berth.specs.Standing.{Standing, AreBack, fresh}
 use Rattle.log_berth.specs.Words.{starts}
-use Rattle.log_service.specs.declared.seats.LogSeat.{LogSeat}
-use Rattle.region_lock.proofs.NewPart.{len_replicate}
+use Rattle.pass_calls.specs.log_service.declared.seats.LogSeat.{LogSeat}
+use Rattle.pass_calls.proofs.region_lock_laws.NewPart.{len_replicate}
 use Rattle.region_calls.specs.declared.pass.Pass.{Pass}
 use Rattle.region_calls.specs.Hands.{AreDeals}
 use Rattle.region_calls.specs.Passes.{knows}

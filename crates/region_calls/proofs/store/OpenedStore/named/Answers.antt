@@ -2,7 +2,7 @@ use Rattle.std.proofs.Common.{ℕ, ◌≤◌, List, length, sym, ap, ◌∙◌, 
 use Rattle.log_model.specs.Files.{Files}
 use Rattle.recovery_laws.specs.Alike.{AllAlike}
 use Rattle.log_ledger.specs.History.{History}
-use Rattle.log_service.specs.Begun.{BeginsAs}
+use Rattle.pass_calls.specs.log_service.Begun.{BeginsAs}
 use Rattle.region_model.specs.Journal.{Base}
 use Rattle.region_replay.specs.Opened.{AtMostOneHigher}
 use Rattle.append_ring.specs.Rules.{base_of as last_before}
