@@ -1,13 +1,13 @@
 //! Several servers, each with a disk and a log of its own.
 
 ghost use Rattle.std.specs.Prelude.{◌≡◌, ◌≤◌};
-ghost use Rattle.group_stores.specs.Lists.{counted};
+ghost use Rattle.group_servers.specs.Lists.{counted};
 ghost use Rattle.groups_model.specs.Groups.{group_of};
 
 use disk_images::Disk;
+use group_servers::group_in;
 use group_servers::handler_threads::ServerName;
 use group_servers::region_calls::{LogSeat, Pass, Server};
-use group_stores::group_in;
 use std::marker::Model;
 use std::sync::Wait;
 

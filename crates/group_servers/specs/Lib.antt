@@ -1,7 +1,13 @@
+pub use Rattle.wal_split.specs as wal_split
 pub use Rattle.handler_threads.specs.region_lock as region_lock
 pub use Rattle.handler_threads.specs.region_calls as region_calls
 pub use Rattle.handler_threads.specs.log_service as log_service
 pub use Rattle.handler_threads.specs as handler_threads
+pub mod Lists
+pub mod Choosing
+pub mod Refusals
+pub mod Recovering
+pub mod Checking
 pub mod Beginning
 pub mod Passes
 pub mod Helping

@@ -1,22 +1,36 @@
-//! One group's server, and what is done with it where there is one: a log is begun on its store's disk, it is named and started, it is called, its
-//! passes and seats are handed out, and it is closed. Several groups' servers are put together of these.
+//! One group's server, and what is done with it where there is one: its store is recovered and looked at, a log is begun on it, it is named and
+//! started, it is called, its passes and seats are handed out, and it is closed. Several groups' servers are put together of these, with a value for
+//! each group in a list; and of the groups' lists of regions the one list in which each region is its own group's.
 #![tactic(auto)]
 
 mod at;
 mod beginning;
+mod checking;
+mod choosing;
 mod dealing;
+mod group;
 mod letting;
+mod lists;
+mod recovering;
+mod refusal;
 mod shutting;
 mod starting;
+mod stores;
 
 pub use at::{
     GroupPut, flush_at, help_at, help_with, put_at, put_with, read_point_at, read_point_of,
     roll_at, scan_at,
 };
 pub use beginning::{begin_each, disk_at};
+pub use choosing::choose;
 pub use dealing::{next_at, next_seat_at, put_back_at, put_seat_back_at};
+pub use group::group_in;
 pub use handler_threads;
 pub use handler_threads::region_calls;
 pub use letting::{let_go, let_go_at};
+pub use lists::GroupList;
+pub use recovering::{FoundStore, StoresRefusal};
+pub use refusal::{GroupsRefusal, GroupsWhy};
 pub use shutting::{ServerEnd, close_at, close_one};
 pub use starting::start_at;
+pub use stores::recover_groups;

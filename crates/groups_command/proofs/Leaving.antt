@@ -4,7 +4,7 @@ use Rattle.disk_images.specs.Calls.{Rose}
 use Rattle.disk_images.specs.Crash.{DiskView}
 use Rattle.disk_images.specs.declared.disk.Disk.{Ghosts}
 use Rattle.log_model.specs.Files.{IsSound}
-use Rattle.group_stores.specs.wal_split.Moments.{During, WasOrAlike}
+use Rattle.groups_run.specs.group_servers.wal_split.Moments.{During, WasOrAlike}
 use Rattle.region_model.specs.Journal.{Caller}
 use Rattle.groups_run.specs.region_calls.declared.closed.ClosedRegion.{ClosedRegion}
 use Rattle.groups_run.specs.region_calls.declared.store.OpenedStore.{OpenedStore}
@@ -22,16 +22,16 @@ use Rattle.command_base.proofs.Endings.{rose_from}
 use Rattle.run_command.proofs.Leaving.{all_named}
 use Rattle.groups_run.proofs.script_run_laws.Elapsed.{opened_throughout}
 use Rattle.groups_model.specs.Groups.{IsGroup}
-use Rattle.group_stores.specs.declared.lists.GroupList.{GroupList}
-use Rattle.group_stores.specs.declared.refusal.GroupsWhy.{GroupsWhy}
-use Rattle.group_stores.specs.declared.refusal.GroupsWhy.TheVariants as whys
-use Rattle.group_stores.specs.Lists.{at_group, count_of, AtBoth, AtEach}
-use Rattle.group_stores.proofs.Each.{partner}
-use Rattle.group_stores.specs.Refusals.{AreRefused, GoesOn, HaveNoOthers as NoneHasOthers, IsWrong, Tells}
+use Rattle.groups_run.specs.group_servers.declared.lists.GroupList.{GroupList}
+use Rattle.groups_run.specs.group_servers.declared.refusal.GroupsWhy.{GroupsWhy}
+use Rattle.groups_run.specs.group_servers.declared.refusal.GroupsWhy.TheVariants as whys
+use Rattle.groups_run.specs.group_servers.Lists.{at_group, count_of, AtBoth, AtEach}
+use Rattle.groups_run.proofs.group_servers_laws.Each.{partner}
+use Rattle.groups_run.specs.group_servers.Refusals.{AreRefused, GoesOn, HaveNoOthers as NoneHasOthers, IsWrong, Tells}
 use Rattle.groups_run.specs.group_servers.Beginning.{IsOpened}
 use Rattle.groups_run.specs.group_servers.Starting.{IsNamedBy, IsNamedAt}
-use Rattle.groups_run.specs.log_groups.group_calls.Passes.{named}
-use Rattle.groups_run.specs.log_groups.Starting.{AreAlike, IsAlike}
+use Rattle.groups_run.specs.group_calls.Passes.{named}
+use Rattle.groups_run.specs.Starting.{AreAlike, IsAlike}
 use Rattle.groups_run.specs.Found.{AreFound, IsFoundSo, found_views, or_that, value_of, views}
 use Rattle.groups_run.specs.Ends.{HaveClosed}
 use Rattle.groups_command.specs.Carried.{AreNotOpened}

@@ -29,8 +29,8 @@ use Rattle.run_command.proofs.Standing.{same_report, no_cut, damage_line}
 use Rattle.groups_model.specs.Groups.{IsGroup}
 use Rattle.groups_model.specs.Closed.{GroupHandled, all_replies}
 use Rattle.groups_model.proofs.Assembled.{groups_headline_with}
-use Rattle.group_stores.specs.declared.refusal.GroupsWhy.{GroupsWhy}
-use Rattle.group_stores.specs.declared.refusal.GroupsWhy.TheVariants as whys
+use Rattle.groups_run.specs.group_servers.declared.refusal.GroupsWhy.{GroupsWhy}
+use Rattle.groups_run.specs.group_servers.declared.refusal.GroupsWhy.TheVariants as whys
 use Rattle.groups_run.specs.Ends.{lines_of, HaveClosed}
 use Rattle.groups_command.specs.Carried.{AreNotOpened}
 use Rattle.groups_command.specs.Disks.{OfEach}

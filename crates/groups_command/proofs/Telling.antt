@@ -20,8 +20,8 @@ use Rattle.command_base.proofs.Endings.{refused_so, same_disk}
 use Rattle.run_command.proofs.recover_command_laws.OneDamage.{one_told}
 use Rattle.run_command.specs.Ends.{IsReportEnd}
 use Rattle.run_command.proofs.Telling.{report_cases}
-use Rattle.group_stores.specs.declared.refusal.GroupsWhy.{GroupsWhy}
-use Rattle.group_stores.specs.declared.refusal.GroupsWhy.TheVariants as whys
+use Rattle.groups_run.specs.group_servers.declared.refusal.GroupsWhy.{GroupsWhy}
+use Rattle.groups_run.specs.group_servers.declared.refusal.GroupsWhy.TheVariants as whys
 use Rattle.groups_command.specs.Carried.{AreNotOpened}
 use Rattle.groups_command.specs.Disks.{AreSound, HaveNoOthers, IsFirstDamaged, IsFirstWrong}
 use Rattle.groups_command.specs.Ends.{groups_invocation, EndsGroups, GroupsEnd}

@@ -6,9 +6,9 @@ use Rattle.log_model.specs.Files.{IsSound}
 use Rattle.disk_images.specs.Crash.{DiskView}
 use Rattle.disk_images.specs.Calls.{Rose}
 use Rattle.groups_model.specs.Groups.{IsGroup}
-use Rattle.group_stores.specs.declared.lists.GroupList.{GroupList}
-use Rattle.group_stores.specs.Lists.{count_of}
-use Rattle.group_stores.specs.Refusals.{HasNoOthers, IsWrong}
+use Rattle.groups_run.specs.group_servers.declared.lists.GroupList.{GroupList}
+use Rattle.groups_run.specs.group_servers.Lists.{count_of}
+use Rattle.groups_run.specs.group_servers.Refusals.{HasNoOthers, IsWrong}
 use Rattle.groups_run.specs.Found.{value_of}
 
 -- no disk stands behind one that is left out

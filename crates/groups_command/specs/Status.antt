@@ -8,8 +8,8 @@ use Rattle.script_model.specs.Why.{why_of}
 use Rattle.command_base.specs.declared.status.Status.{Status}
 use Rattle.command_base.specs.declared.status.Status.TheVariants as ends
 use Rattle.command_base.specs.Status.{refusal_line as one_line}
-use Rattle.group_stores.specs.declared.refusal.GroupsWhy.{GroupsWhy}
-use Rattle.group_stores.specs.declared.refusal.GroupsWhy.TheVariants as whys
+use Rattle.groups_run.specs.group_servers.declared.refusal.GroupsWhy.{GroupsWhy}
+use Rattle.groups_run.specs.group_servers.declared.refusal.GroupsWhy.TheVariants as whys
 use Rattle.groups_command.specs.declared.status.GroupsStatus.{GroupsStatus}
 use Rattle.groups_command.specs.declared.status.WrongRegion.{WrongRegion}
 use Rattle.groups_command.specs.declared.status.GroupsStatus.TheVariants as statuses

@@ -10,8 +10,7 @@ mod words;
 
 pub use carrying::carry_out_groups;
 pub use command::run_groups;
-pub use group_stores;
-pub use groups_run::region_calls;
+pub use groups_run::{group_servers, region_calls};
 pub use ran::GroupsRan;
 pub use refusing::refuse;
 pub use status::{GroupsOutcome, GroupsStatus};

@@ -1,6 +1,6 @@
 //! What a script leaves that was run on several stores.
 
-use group_stores::{GroupList, GroupsWhy};
+use groups_run::group_servers::{GroupList, GroupsWhy};
 use groups_run::region_calls::ClosedRegion;
 use run_model::Spent;
 use script_calls::ReplyLines;

@@ -4,7 +4,7 @@ ghost use Rattle.std.specs.Prelude.{◌≡◌};
 ghost use Rattle.groups_command.specs.Status.{exit_status, status_as, split_of, IsShared};
 
 use command_base::{Damage, Status};
-use group_stores::GroupList;
+use groups_run::group_servers::GroupList;
 use script_text::ScriptWhy;
 
 /// How a run on several disks ended: as `run` does, with the number of the disk where it is told of one.

@@ -10,26 +10,26 @@ use Rattle.server_model.specs.Pass.{Pass, Naming}
 use Rattle.server_model.specs.Closing.{passes_of, replies_of}
 use Rattle.run_model.specs.Closed.{ClosedOn, IsNameFor, FitsThroughout}
 use Rattle.run_model.specs.Headline.{KeepsFound, KeepsThroughout}
-use Rattle.log_groups.specs.log_service.log_halves.declared.name.ServiceNaming.{Ghosts as LogGhosts}
-use Rattle.log_groups.specs.region_calls.declared.naming.ServerNaming.{Ghosts as NameGhosts}
-use Rattle.log_groups.specs.region_calls.declared.store.OpenedStore.{OpenedStore}
-use Rattle.log_groups.specs.region_calls.declared.closed.ClosedRegion.{ClosedRegion}
-use Rattle.log_groups.specs.region_calls.Store.{disk_now, disk_found, regions_of}
-use Rattle.log_groups.specs.region_lock.declared.naming.LockNaming.{Ghosts as LockGhosts}
+use Rattle.group_calls.specs.log_service.log_halves.declared.name.ServiceNaming.{Ghosts as LogGhosts}
+use Rattle.group_calls.specs.region_calls.declared.naming.ServerNaming.{Ghosts as NameGhosts}
+use Rattle.group_calls.specs.region_calls.declared.store.OpenedStore.{OpenedStore}
+use Rattle.group_calls.specs.region_calls.declared.closed.ClosedRegion.{ClosedRegion}
+use Rattle.group_calls.specs.region_calls.Store.{disk_now, disk_found, regions_of}
+use Rattle.group_calls.specs.region_lock.declared.naming.LockNaming.{Ghosts as LockGhosts}
 use Rattle.region_versions.specs.declared.naming.VersionsNaming.{Ghosts as VersionGhosts}
 use Rattle.groups_model.specs.Groups.{IsGroup, asked_on}
 use Rattle.groups_model.specs.Closed.{GroupHandled, all_replies, handled_on, AreClosed}
 use Rattle.groups_model.proofs.Parts.{calls_on, replies_joined}
-use Rattle.group_stores.specs.declared.lists.GroupList.{GroupList}
-use Rattle.group_stores.specs.Choosing.{AreChosen as AreChosenOf}
-use Rattle.group_stores.specs.Lists.{AtEach, at_group, count_of, counted, mapped}
-use Rattle.log_groups.specs.group_servers.declared.shutting.ServerEnd.{ServerEnd}
-use Rattle.log_groups.specs.group_servers.Starting.{HasRegionsOf, IsNamedAt, IsNamedBy}
-use Rattle.log_groups.specs.Closing.{is_broken, regions_in}
-use Rattle.log_groups.specs.group_calls.Passes.{named}
-use Rattle.log_groups.specs.group_calls.Servers.{Servers}
+use Rattle.group_calls.specs.group_servers.declared.lists.GroupList.{GroupList}
+use Rattle.group_calls.specs.group_servers.Choosing.{AreChosen as AreChosenOf}
+use Rattle.group_calls.specs.group_servers.Lists.{AtEach, at_group, count_of, counted, mapped}
+use Rattle.group_calls.specs.group_servers.declared.shutting.ServerEnd.{ServerEnd}
+use Rattle.group_calls.specs.group_servers.Starting.{HasRegionsOf, IsNamedAt, IsNamedBy}
+use Rattle.groups_run.specs.Closing.{is_broken, regions_in}
+use Rattle.group_calls.specs.Passes.{named}
+use Rattle.group_calls.specs.Servers.{Servers}
 use Rattle.groups_run.specs.Ran.{AllThere}
-use Rattle.log_groups.specs.Starting.{AreAlike, AreServersOf, HeldOrLetGo, HeldOrLetGoAt, IsAlike}
+use Rattle.groups_run.specs.Starting.{AreAlike, AreServersOf, HeldOrLetGo, HeldOrLetGoAt, IsAlike}
 use Rattle.groups_run.specs.Ended.{HaveEnded, HasEndedOf, passes_on}
 use Rattle.groups_run.specs.Ends.{HaveClosed, HaveCounts}
 use Rattle.groups_run.specs.declared.served.GroupsServed.TheVariants as served

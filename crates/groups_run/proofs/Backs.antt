@@ -2,30 +2,30 @@
 use Rattle.std.proofs.Common.{◌≡◌, ℕ, ◌+◌, ◌<◌, ◌≤◌, List, [], ◌∷◌, ◌++◌, length, map, Option, Some, None, IfSome, refl, sym, ap, subst, ◌∙◌, arith}
 use Rattle.std.proofs.lemmas.List.{map-append, length-map}
 use Rattle.disk_images.specs.declared.disk.Disk.{Ghosts as Disks}
-use Rattle.log_groups.specs.log_service.log_halves.declared.name.ServiceNaming.{Ghosts as LogGhosts}
-use Rattle.log_groups.specs.log_service.declared.seats.LogSeat.{LogSeat}
-use Rattle.log_groups.specs.log_service.Places.{ServiceId}
+use Rattle.group_calls.specs.log_service.log_halves.declared.name.ServiceNaming.{Ghosts as LogGhosts}
+use Rattle.group_calls.specs.log_service.declared.seats.LogSeat.{LogSeat}
+use Rattle.group_calls.specs.log_service.Places.{ServiceId}
 use Rattle.server_model.specs.Pass.{Pass as ThePass, IsFresh}
-use Rattle.log_groups.specs.region_lock.declared.naming.LockNaming.{Ghosts}
+use Rattle.group_calls.specs.region_lock.declared.naming.LockNaming.{Ghosts}
 use Rattle.region_versions.specs.declared.naming.VersionsNaming.{Ghosts as VersionGhosts}
-use Rattle.log_groups.specs.region_calls.declared.naming.ServerNaming.{Ghosts as NameGhosts}
-use Rattle.log_groups.specs.region_calls.declared.pass.Pass.{Pass}
-use Rattle.log_groups.specs.region_calls.declared.passes.Passes.{Passes}
-use Rattle.log_groups.specs.region_calls.Deals.{passes_out, passes_back}
-use Rattle.log_groups.specs.region_calls.Passes.{knows}
-use Rattle.log_groups.specs.script_handlers.declared.handler.Handler.{Handler}
-use Rattle.log_groups.specs.group_servers.declared.shutting.ServerEnd.{ServerEnd}
-use Rattle.log_groups.specs.group_servers.Closing.{HasEnded, HasEndedAt}
-use Rattle.log_groups.specs.group_servers.Dealing.{ArePassesAt, AreBackAt, IsBackAt, IsEvenAt, IsNextAt, IsRoomAt}
-use Rattle.log_groups.specs.group_servers.Helping.{AreSeatsAt}
-use Rattle.log_groups.specs.group_servers.Passes.{known_by}
-use Rattle.log_groups.specs.group_calls.declared.groups.GroupPass.{GroupPass}
-use Rattle.log_groups.specs.declared.helpers.GroupHelpers.{GroupHelpers}
-use Rattle.log_groups.specs.declared.passes.GroupPasses.{GroupPasses}
-use Rattle.log_groups.specs.Dealing.{AreAllBack, AreGroupPassesOf, HasBack, HasNext, HasRoom, NoneIsOut, groups_out}
-use Rattle.log_groups.specs.Helpers.{AreHelpersOf, AreTwoEach}
-use Rattle.log_groups.specs.group_calls.Passes.{known}
-use Rattle.log_groups.specs.group_calls.Servers.{Servers}
+use Rattle.group_calls.specs.region_calls.declared.naming.ServerNaming.{Ghosts as NameGhosts}
+use Rattle.group_calls.specs.region_calls.declared.pass.Pass.{Pass}
+use Rattle.group_calls.specs.region_calls.declared.passes.Passes.{Passes}
+use Rattle.group_calls.specs.region_calls.Deals.{passes_out, passes_back}
+use Rattle.group_calls.specs.region_calls.Passes.{knows}
+use Rattle.group_calls.specs.script_handlers.declared.handler.Handler.{Handler}
+use Rattle.group_calls.specs.group_servers.declared.shutting.ServerEnd.{ServerEnd}
+use Rattle.group_calls.specs.group_servers.Closing.{HasEnded, HasEndedAt}
+use Rattle.group_calls.specs.group_servers.Dealing.{ArePassesAt, AreBackAt, IsBackAt, IsEvenAt, IsNextAt, IsRoomAt}
+use Rattle.group_calls.specs.group_servers.Helping.{AreSeatsAt}
+use Rattle.group_calls.specs.group_servers.Passes.{known_by}
+use Rattle.group_calls.specs.declared.groups.GroupPass.{GroupPass}
+use Rattle.groups_run.specs.declared.helpers.GroupHelpers.{GroupHelpers}
+use Rattle.groups_run.specs.declared.passes.GroupPasses.{GroupPasses}
+use Rattle.groups_run.specs.Dealing.{AreAllBack, AreGroupPassesOf, HasBack, HasNext, HasRoom, NoneIsOut, groups_out}
+use Rattle.groups_run.specs.Helpers.{AreHelpersOf, AreTwoEach}
+use Rattle.group_calls.specs.Passes.{known}
+use Rattle.group_calls.specs.Servers.{Servers}
 use Rattle.groups_run.specs.Ended.{HasEndedOf}
 use Rattle.groups_run.specs.Handing.{IsFreshAt, AreFresh, NoneIsBack, HaveBack, known_on}
 

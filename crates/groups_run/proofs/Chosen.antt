@@ -8,15 +8,15 @@ use Rattle.script_model.specs.Calls.{Script}
 use Rattle.server_model.proofs.JournalLaws.{contains_cons}
 use Rattle.run_model.specs.Closed.{ClosedAt}
 use Rattle.run_model.proofs.Lists.{mapped, map_contains}
-use Rattle.log_groups.specs.region_calls.declared.closed.ClosedRegion.{ClosedRegion}
-use Rattle.log_groups.proofs.region_calls_laws.TakenLaws.{numbers_are}
+use Rattle.group_calls.specs.region_calls.declared.closed.ClosedRegion.{ClosedRegion}
+use Rattle.group_calls.proofs.region_calls_laws.TakenLaws.{numbers_are}
 use Rattle.script_run.specs.Ends.{closed_at}
 use Rattle.groups_model.specs.Groups.{group_of, IsGroup}
 use Rattle.groups_model.specs.Closed.{AreChosen}
 use Rattle.groups_model.proofs.Parts.{group_there}
-use Rattle.group_stores.specs.declared.lists.GroupList.{GroupList}
-use Rattle.group_stores.specs.Choosing.{AreChosen as AreChosenOf, items_at}
-use Rattle.group_stores.specs.Lists.{at_group}
+use Rattle.group_calls.specs.group_servers.declared.lists.GroupList.{GroupList}
+use Rattle.group_calls.specs.group_servers.Choosing.{AreChosen as AreChosenOf, items_at}
+use Rattle.group_calls.specs.group_servers.Lists.{at_group}
 use Rattle.groups_run.proofs.Closes.{at_map}
 
 abbrev pub items_of : Option (Option (Vec ClosedRegion)) → List ClosedRegion

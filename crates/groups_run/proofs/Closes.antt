@@ -11,19 +11,19 @@ use Rattle.server_model.specs.Closing.{Handled, AllRun, IsClosedRegion, Survives
 use Rattle.run_model.specs.Closed.{ClosedAt, ClosedOn, IsNameFor, FitsThroughout}
 use Rattle.run_model.proofs.Lists.{mapped}
 use Rattle.run_model.proofs.Moments.{fits_throughout}
-use Rattle.log_groups.specs.log_service.log_halves.declared.name.ServiceNaming.{Ghosts as LogGhosts}
-use Rattle.log_groups.specs.log_service.Moments.{GoesOnFrom}
-use Rattle.log_groups.specs.region_calls.declared.naming.ServerNaming.{Ghosts as NameGhosts}
-use Rattle.log_groups.specs.region_calls.declared.store.OpenedStore.{OpenedStore}
-use Rattle.log_groups.specs.region_calls.declared.closed.ClosedRegion.{ClosedRegion}
-use Rattle.log_groups.specs.region_calls.Closes.{HasElapsed, HasSurvived}
-use Rattle.log_groups.specs.region_calls.Store.{disk_now, disk_found, regions_of}
-use Rattle.log_groups.specs.region_calls.Wordings.{region_of}
-use Rattle.log_groups.specs.region_lock.declared.naming.LockNaming.{Ghosts as LockGhosts}
+use Rattle.group_calls.specs.log_service.log_halves.declared.name.ServiceNaming.{Ghosts as LogGhosts}
+use Rattle.group_calls.specs.log_service.Moments.{GoesOnFrom}
+use Rattle.group_calls.specs.region_calls.declared.naming.ServerNaming.{Ghosts as NameGhosts}
+use Rattle.group_calls.specs.region_calls.declared.store.OpenedStore.{OpenedStore}
+use Rattle.group_calls.specs.region_calls.declared.closed.ClosedRegion.{ClosedRegion}
+use Rattle.group_calls.specs.region_calls.Closes.{HasElapsed, HasSurvived}
+use Rattle.group_calls.specs.region_calls.Store.{disk_now, disk_found, regions_of}
+use Rattle.group_calls.specs.region_calls.Wordings.{region_of}
+use Rattle.group_calls.specs.region_lock.declared.naming.LockNaming.{Ghosts as LockGhosts}
 use Rattle.region_versions.specs.declared.naming.VersionsNaming.{Ghosts as VersionGhosts}
 use Rattle.script_run.specs.Ends.{closed_at}
-use Rattle.log_groups.specs.group_servers.Starting.{IsNamedBy}
-use Rattle.log_groups.specs.group_servers.Closing.{HasClosed}
+use Rattle.group_calls.specs.group_servers.Starting.{IsNamedBy}
+use Rattle.group_calls.specs.group_servers.Closing.{HasClosed}
 use Rattle.groups_run.specs.Found.{IsFoundSo}
 use Rattle.groups_run.proofs.Kept.{bases}
 

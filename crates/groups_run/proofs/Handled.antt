@@ -14,22 +14,22 @@ use Rattle.run_model.specs.Spent.{first_spent, first_of}
 use Rattle.run_model.specs.declared.spent.Spent.{Spent}
 use Rattle.run_model.proofs.AskedLaws.{flush_listed}
 use Rattle.run_model.proofs.SpentLaws.{first_append}
-use Rattle.log_groups.specs.log_service.Places.{ServiceId}
-use Rattle.log_groups.specs.region_lock.declared.naming.LockNaming.{Ghosts}
-use Rattle.log_groups.specs.region_calls.declared.pass.Pass.{Pass}
-use Rattle.log_groups.specs.region_calls.Passes.{knows}
-use Rattle.log_groups.specs.script_handlers.Handled.{MayCallAll}
-use Rattle.log_groups.specs.script_handlers.declared.handler.Handler.{Handler}
+use Rattle.group_calls.specs.log_service.Places.{ServiceId}
+use Rattle.group_calls.specs.region_lock.declared.naming.LockNaming.{Ghosts}
+use Rattle.group_calls.specs.region_calls.declared.pass.Pass.{Pass}
+use Rattle.group_calls.specs.region_calls.Passes.{knows}
+use Rattle.group_calls.specs.script_handlers.Handled.{MayCallAll}
+use Rattle.group_calls.specs.script_handlers.declared.handler.Handler.{Handler}
 use Rattle.script_run.specs.declared.room.CallRoom.{CallRoom}
 use Rattle.script_run.specs.Rooms.{calls_in, AreRooms, script_in}
 use Rattle.script_run.specs.Ends.{first_of_all}
 use Rattle.groups_model.specs.Groups.{IsGroup, replies_on}
 use Rattle.groups_model.specs.Closed.{GroupHandled, all_replies, handled_on}
-use Rattle.log_groups.specs.group_servers.Passes.{known_by, HasHandlerAt, IsPassAt}
-use Rattle.log_groups.specs.group_calls.declared.groups.GroupPass.{GroupPass}
-use Rattle.log_groups.specs.group_calls.Passes.{known, IsGroupPassOf}
-use Rattle.log_groups.specs.group_calls.Servers.{Servers}
-use Rattle.log_groups.specs.group_calls.Serving.{MayCallEach, most_calls}
+use Rattle.group_calls.specs.group_servers.Passes.{known_by, HasHandlerAt, IsPassAt}
+use Rattle.group_calls.specs.declared.groups.GroupPass.{GroupPass}
+use Rattle.group_calls.specs.Passes.{known, IsGroupPassOf}
+use Rattle.group_calls.specs.Servers.{Servers}
+use Rattle.group_calls.specs.Serving.{MayCallEach, most_calls}
 use Rattle.groups_run.specs.Handing.{IsFreshAt, AreFresh, IsTaken, AreTaken, AllOfServers, known_on, lines_in, spent_in}
 use Rattle.groups_run.specs.Ran.{AllThere, AreReady, HasRun, HaveRun, AreHandled}
 use Rattle.groups_run.specs.Ended.{passes_on}

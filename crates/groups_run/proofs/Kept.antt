@@ -13,22 +13,22 @@ use Rattle.run_model.specs.Closed.{IsFound}
 use Rattle.run_model.specs.Headline.{KeepsFound, KeepsThroughout, MayKeep}
 use Rattle.run_model.proofs.Lists.{mapped, range_has}
 use Rattle.run_model.proofs.Moments.{HasStood}
-use Rattle.log_groups.specs.log_service.log_halves.declared.name.ServiceNaming.{Ghosts as LogGhosts}
-use Rattle.log_groups.specs.region_calls.declared.naming.ServerNaming.{Ghosts as NameGhosts}
-use Rattle.log_groups.specs.region_calls.declared.store.OpenedStore.{OpenedStore}
-use Rattle.log_groups.specs.region_calls.declared.closed.ClosedRegion.{ClosedRegion}
-use Rattle.log_groups.specs.region_calls.Closes.{HasElapsed, HasSurvived}
-use Rattle.log_groups.specs.region_calls.Seeds.{base_of}
-use Rattle.log_groups.specs.region_calls.Store.{disk_now, disk_found, regions_of, bases_of}
-use Rattle.log_groups.specs.region_calls.Wordings.{region_of}
-use Rattle.log_groups.specs.region_lock.declared.naming.LockNaming.{Ghosts as LockGhosts}
+use Rattle.group_calls.specs.log_service.log_halves.declared.name.ServiceNaming.{Ghosts as LogGhosts}
+use Rattle.group_calls.specs.region_calls.declared.naming.ServerNaming.{Ghosts as NameGhosts}
+use Rattle.group_calls.specs.region_calls.declared.store.OpenedStore.{OpenedStore}
+use Rattle.group_calls.specs.region_calls.declared.closed.ClosedRegion.{ClosedRegion}
+use Rattle.group_calls.specs.region_calls.Closes.{HasElapsed, HasSurvived}
+use Rattle.group_calls.specs.region_calls.Seeds.{base_of}
+use Rattle.group_calls.specs.region_calls.Store.{disk_now, disk_found, regions_of, bases_of}
+use Rattle.group_calls.specs.region_calls.Wordings.{region_of}
+use Rattle.group_calls.specs.region_lock.declared.naming.LockNaming.{Ghosts as LockGhosts}
 use Rattle.region_versions.specs.declared.naming.VersionsNaming.{Ghosts as VersionGhosts}
 use Rattle.std.specs.Global.{Vec}
 use Rattle.std.specs.List.{range_with_len}
 use Rattle.script_run.proofs.AllRan.{bases_found}
 use Rattle.script_run.proofs.Elapsed.{opened_throughout, left_moments, moments}
-use Rattle.log_groups.specs.group_servers.Starting.{IsNamedBy, HasLeft, HasLetGo}
-use Rattle.log_groups.specs.group_servers.Closing.{HasClosed, EndsSo}
+use Rattle.group_calls.specs.group_servers.Starting.{IsNamedBy, HasLeft, HasLetGo}
+use Rattle.group_calls.specs.group_servers.Closing.{HasClosed, EndsSo}
 use Rattle.groups_run.specs.Found.{IsFoundSo}
 
 -- what is kept at each moment is kept now

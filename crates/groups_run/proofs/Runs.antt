@@ -5,8 +5,8 @@ use Rattle.server_model.specs.Pass.{Pass, Naming}
 use Rattle.server_model.specs.Steps.{Runs}
 use Rattle.groups_model.specs.Groups.{IsGroup, replies_on, GroupRuns}
 use Rattle.groups_model.proofs.Projected.{projected}
-use Rattle.log_groups.specs.script_handlers.Handled.{RunsBy}
-use Rattle.log_groups.specs.group_calls.Serving.{GroupDoes}
+use Rattle.group_calls.specs.script_handlers.Handled.{RunsBy}
+use Rattle.group_calls.specs.Serving.{GroupDoes}
 
 -- the passes of all groups are this handler's
 abbrev pub AreOf : ℕ → ℕ → (ℕ → Pass) → Type 0

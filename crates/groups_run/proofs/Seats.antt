@@ -3,15 +3,15 @@ use Rattle.std.proofs.Common.{◌≡◌, ◌≢◌, ℕ, zero, suc, ◌+◌, ◌
 use Rattle.std.proofs.lemmas.Bool.{eq-eqb, ne_eqb, cases_eq}
 use Rattle.std.proofs.lemmas.List.{map-append}
 use Rattle.std.specs.List.{slice_index_or}
-use Rattle.log_groups.specs.log_service.declared.seats.LogSeat.{LogSeat}
-use Rattle.log_groups.specs.log_service.Places.{ServiceId}
-use Rattle.log_groups.specs.handler_threads.Working.{HaveHelped}
-use Rattle.log_groups.specs.group_servers.Helping.{AreSeatsAt, seats_at}
-use Rattle.log_groups.specs.group_calls.declared.groups.GroupHelper.{GroupHelper}
-use Rattle.log_groups.specs.declared.helpers.GroupHelpers.{GroupHelpers}
-use Rattle.log_groups.specs.group_calls.Helpers.{IsHelperOf}
-use Rattle.log_groups.specs.Helpers.{held, AreHelpersOf, AreTwoEach}
-use Rattle.log_groups.specs.group_calls.Servers.{Servers}
+use Rattle.group_calls.specs.log_service.declared.seats.LogSeat.{LogSeat}
+use Rattle.group_calls.specs.log_service.Places.{ServiceId}
+use Rattle.group_calls.specs.handler_threads.Working.{HaveHelped}
+use Rattle.group_calls.specs.group_servers.Helping.{AreSeatsAt, seats_at}
+use Rattle.group_calls.specs.declared.groups.GroupHelper.{GroupHelper}
+use Rattle.groups_run.specs.declared.helpers.GroupHelpers.{GroupHelpers}
+use Rattle.group_calls.specs.Helpers.{IsHelperOf}
+use Rattle.groups_run.specs.Helpers.{held, AreHelpersOf, AreTwoEach}
+use Rattle.group_calls.specs.Servers.{Servers}
 use Rattle.groups_run.specs.Seating.{AllHelp, groups_of, seats_of, times}
 
 pub help_each : (s : Servers) (hs : List GroupHelper) → AllHelp s hs → (i : ℕ) (d : GroupHelper) → i < length hs → IsHelperOf s (slice_index_or hs i d)

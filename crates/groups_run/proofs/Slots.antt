@@ -10,22 +10,22 @@ use Rattle.server_model.specs.Pass.{Pass}
 use Rattle.server_model.specs.Closing.{Handled, AllRun, passes_of, replies_of}
 use Rattle.run_model.specs.Closed.{ClosedOn, IsNameFor, FitsThroughout}
 use Rattle.run_model.specs.Headline.{KeepsThroughout}
-use Rattle.log_groups.specs.log_service.log_halves.declared.name.ServiceNaming.{Ghosts as LogGhosts}
-use Rattle.log_groups.specs.log_service.Places.{ServiceId}
-use Rattle.log_groups.specs.region_calls.declared.naming.ServerNaming.{Ghosts as NameGhosts}
-use Rattle.log_groups.specs.region_calls.declared.store.OpenedStore.{OpenedStore}
-use Rattle.log_groups.specs.region_calls.declared.closed.ClosedRegion.{ClosedRegion}
-use Rattle.log_groups.specs.region_calls.Store.{disk_now, disk_found, regions_of}
-use Rattle.log_groups.specs.region_lock.declared.naming.LockNaming.{Ghosts as LockGhosts}
+use Rattle.group_calls.specs.log_service.log_halves.declared.name.ServiceNaming.{Ghosts as LogGhosts}
+use Rattle.group_calls.specs.log_service.Places.{ServiceId}
+use Rattle.group_calls.specs.region_calls.declared.naming.ServerNaming.{Ghosts as NameGhosts}
+use Rattle.group_calls.specs.region_calls.declared.store.OpenedStore.{OpenedStore}
+use Rattle.group_calls.specs.region_calls.declared.closed.ClosedRegion.{ClosedRegion}
+use Rattle.group_calls.specs.region_calls.Store.{disk_now, disk_found, regions_of}
+use Rattle.group_calls.specs.region_lock.declared.naming.LockNaming.{Ghosts as LockGhosts}
 use Rattle.region_versions.specs.declared.naming.VersionsNaming.{Ghosts as VersionGhosts}
 use Rattle.script_run.specs.Ends.{closed_at}
-use Rattle.group_stores.specs.declared.lists.GroupList.{GroupList}
-use Rattle.group_stores.specs.Lists.{AtBoth, AtEach, counted, count_of}
-use Rattle.log_groups.specs.group_servers.declared.shutting.ServerEnd.{ServerEnd}
-use Rattle.log_groups.specs.group_servers.Closing.{EndsSo, HasEnded}
-use Rattle.log_groups.specs.group_servers.Starting.{HasLetGo, HasLetGoAt, IsNamedAt, IsNamedBy}
-use Rattle.log_groups.specs.Closing.{is_broken}
-use Rattle.log_groups.specs.Starting.{HeldOrLetGo, HeldOrLetGoAt}
+use Rattle.group_calls.specs.group_servers.declared.lists.GroupList.{GroupList}
+use Rattle.group_calls.specs.group_servers.Lists.{AtBoth, AtEach, counted, count_of}
+use Rattle.group_calls.specs.group_servers.declared.shutting.ServerEnd.{ServerEnd}
+use Rattle.group_calls.specs.group_servers.Closing.{EndsSo, HasEnded}
+use Rattle.group_calls.specs.group_servers.Starting.{HasLetGo, HasLetGoAt, IsNamedAt, IsNamedBy}
+use Rattle.groups_run.specs.Closing.{is_broken}
+use Rattle.groups_run.specs.Starting.{HeldOrLetGo, HeldOrLetGoAt}
 use Rattle.groups_run.specs.Ended.{HasEndedOf}
 use Rattle.groups_run.specs.Found.{IsFoundSo, or_that, value_of}
 use Rattle.groups_run.proofs.Chosen.{items_of}

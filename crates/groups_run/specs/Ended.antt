@@ -3,17 +3,17 @@ use Rattle.std.specs.Prelude.{◌≡◌, ℕ, List, map, Option, Some, None}
 use Rattle.disk_images.specs.declared.disk.Disk.{Ghosts}
 use Rattle.script_model.specs.Calls.{Script}
 use Rattle.server_model.specs.Pass.{Pass, Naming}
-use Rattle.log_groups.specs.log_service.log_halves.declared.name.ServiceNaming.{Ghosts as LogGhosts}
-use Rattle.log_groups.specs.region_calls.declared.naming.ServerNaming.{Ghosts as NameGhosts}
-use Rattle.log_groups.specs.region_lock.declared.naming.LockNaming.{Ghosts as LockGhosts}
+use Rattle.group_calls.specs.log_service.log_halves.declared.name.ServiceNaming.{Ghosts as LogGhosts}
+use Rattle.group_calls.specs.region_calls.declared.naming.ServerNaming.{Ghosts as NameGhosts}
+use Rattle.group_calls.specs.region_lock.declared.naming.LockNaming.{Ghosts as LockGhosts}
 use Rattle.region_versions.specs.declared.naming.VersionsNaming.{Ghosts as VersionGhosts}
 use Rattle.run_model.specs.Spent.{first_spent}
 use Rattle.groups_model.specs.Closed.{GroupHandled, all_replies}
-use Rattle.group_stores.specs.declared.lists.GroupList.{GroupList}
-use Rattle.log_groups.specs.group_servers.declared.shutting.ServerEnd.{ServerEnd}
-use Rattle.log_groups.specs.group_servers.Closing.{HasEnded}
-use Rattle.log_groups.specs.Closing.{IsJoined}
-use Rattle.log_groups.specs.group_calls.Servers.{Servers}
+use Rattle.group_calls.specs.group_servers.declared.lists.GroupList.{GroupList}
+use Rattle.group_calls.specs.group_servers.declared.shutting.ServerEnd.{ServerEnd}
+use Rattle.group_calls.specs.group_servers.Closing.{HasEnded}
+use Rattle.groups_run.specs.Closing.{IsJoined}
+use Rattle.group_calls.specs.Servers.{Servers}
 use Rattle.groups_run.specs.Ends.{lines_of}
 use Rattle.groups_run.specs.Ran.{AreHandled}
 use Rattle.groups_run.specs.declared.started.RunEnd.{RunEnd}

@@ -9,14 +9,14 @@ use Rattle.run_model.specs.Closed.{ClosedAt}
 use Rattle.run_model.specs.declared.spent.Spent.{Spent}
 use Rattle.run_model.specs.Spent.{first_spent}
 use Rattle.run_model.specs.Headline.{reply_line, KeepsFound}
-use Rattle.log_groups.specs.region_calls.declared.closed.ClosedRegion.{ClosedRegion}
-use Rattle.log_groups.specs.region_calls.declared.store.OpenedStore.{OpenedStore}
-use Rattle.log_groups.specs.region_calls.Store.{disk_now}
+use Rattle.group_calls.specs.region_calls.declared.closed.ClosedRegion.{ClosedRegion}
+use Rattle.group_calls.specs.region_calls.declared.store.OpenedStore.{OpenedStore}
+use Rattle.group_calls.specs.region_calls.Store.{disk_now}
 use Rattle.script_run.specs.Ends.{closed_at}
 use Rattle.groups_model.specs.Groups.{IsGroup}
 use Rattle.groups_model.specs.Closed.{GroupHandled, all_replies, AreClosed, AreChosen}
-use Rattle.group_stores.specs.declared.lists.GroupList.{GroupList}
-use Rattle.group_stores.specs.Lists.{at_group}
+use Rattle.group_calls.specs.group_servers.declared.lists.GroupList.{GroupList}
+use Rattle.group_calls.specs.group_servers.Lists.{at_group}
 use Rattle.groups_run.specs.Found.{value_of, views}
 use Rattle.groups_run.specs.declared.served.GroupsServed.{GroupsServed}
 use Rattle.groups_run.specs.declared.served.GroupsServed.TheVariants as served

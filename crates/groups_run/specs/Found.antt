@@ -3,11 +3,11 @@ use Rattle.std.specs.Prelude.{ℕ, Option, Some, None, IfSome}
 use Rattle.log_model.specs.Files.{IsSound}
 use Rattle.disk_images.specs.Crash.{DiskView}
 use Rattle.disk_images.specs.declared.disk.Disk.{Ghosts}
-use Rattle.group_stores.specs.wal_split.Moments.{During, WasOrAlike}
-use Rattle.log_groups.specs.region_calls.declared.store.OpenedStore.{OpenedStore}
-use Rattle.log_groups.specs.region_calls.Store.{disk_now, disk_found}
-use Rattle.group_stores.specs.declared.lists.GroupList.{GroupList}
-use Rattle.group_stores.specs.Lists.{at_group}
+use Rattle.group_calls.specs.group_servers.wal_split.Moments.{During, WasOrAlike}
+use Rattle.group_calls.specs.region_calls.declared.store.OpenedStore.{OpenedStore}
+use Rattle.group_calls.specs.region_calls.Store.{disk_now, disk_found}
+use Rattle.group_calls.specs.group_servers.declared.lists.GroupList.{GroupList}
+use Rattle.group_calls.specs.group_servers.Lists.{at_group}
 
 abbrev pub or_that : {A : Type 0} → A → Option A → A
 or_that x None = x

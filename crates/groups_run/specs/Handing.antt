@@ -3,16 +3,16 @@ use Rattle.std.specs.Prelude.{◌≡◌, ℕ, ◌+◌, List, [], ◌∷◌, map,
 use Rattle.script_model.specs.Report.{ReplyLine}
 use Rattle.server_model.specs.Pass.{Pass as ThePass, IsFresh}
 use Rattle.run_model.specs.declared.spent.Spent.{Spent}
-use Rattle.log_groups.specs.region_lock.declared.naming.LockNaming.{Ghosts}
-use Rattle.log_groups.specs.region_calls.declared.pass.Pass.{Pass}
-use Rattle.log_groups.specs.region_calls.Deals.{passes_back}
-use Rattle.log_groups.specs.region_calls.Passes.{knows}
-use Rattle.log_groups.specs.script_handlers.declared.handler.Handler.{Handler}
+use Rattle.group_calls.specs.region_lock.declared.naming.LockNaming.{Ghosts}
+use Rattle.group_calls.specs.region_calls.declared.pass.Pass.{Pass}
+use Rattle.group_calls.specs.region_calls.Deals.{passes_back}
+use Rattle.group_calls.specs.region_calls.Passes.{knows}
+use Rattle.group_calls.specs.script_handlers.declared.handler.Handler.{Handler}
 use Rattle.script_run.specs.declared.room.CallRoom.{CallRoom}
-use Rattle.log_groups.specs.group_calls.declared.groups.GroupPass.{GroupPass}
-use Rattle.log_groups.specs.declared.passes.GroupPasses.{GroupPasses}
-use Rattle.log_groups.specs.group_calls.Passes.{known, IsGroupPassOf}
-use Rattle.log_groups.specs.group_calls.Servers.{Servers}
+use Rattle.group_calls.specs.declared.groups.GroupPass.{GroupPass}
+use Rattle.groups_run.specs.declared.passes.GroupPasses.{GroupPasses}
+use Rattle.group_calls.specs.Passes.{known, IsGroupPassOf}
+use Rattle.group_calls.specs.Servers.{Servers}
 
 -- where there is such a pass, it is this handler's, and no call was made with it
 abbrev pub IsFreshAt : {N : Type 0} {g : Ghosts N} → ℕ → Option (Pass N g) → Type 0

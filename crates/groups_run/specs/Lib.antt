@@ -1,7 +1,11 @@
 pub use Rattle.script_run.specs as script_run
-pub use Rattle.log_groups.specs.region_calls as region_calls
-pub use Rattle.log_groups.specs as log_groups
-pub use Rattle.log_groups.specs.group_servers as group_servers
+pub use Rattle.group_calls.specs.region_calls as region_calls
+pub use Rattle.group_calls.specs as group_calls
+pub use Rattle.group_calls.specs.group_servers as group_servers
+pub mod Helpers
+pub mod Dealing
+pub mod Starting
+pub mod Closing
 pub mod Found
 pub mod Handing
 pub mod Seating

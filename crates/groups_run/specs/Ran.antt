@@ -1,18 +1,18 @@
 -- Handlers of several servers before and after they have run.
 use Rattle.std.specs.Prelude.{◌≡◌, ◌≢◌, ℕ, ◌≤◌, List, map, None}
-use Rattle.log_groups.specs.region_lock.declared.naming.LockNaming.{Ghosts}
+use Rattle.group_calls.specs.region_lock.declared.naming.LockNaming.{Ghosts}
 use Rattle.script_model.specs.Calls.{Script, asked, asked_by}
 use Rattle.server_model.specs.Pass.{Pass as ThePass, Naming}
 use Rattle.server_model.specs.Closing.{AllRun}
-use Rattle.log_groups.specs.handler_threads.Working.{AreReady as AllReady, HaveWorked}
-use Rattle.log_groups.specs.script_handlers.Handled.{IsReady as IsReadyFor, HasRun as HasRunFor}
-use Rattle.log_groups.specs.script_handlers.declared.handler.Handler.{Handler}
+use Rattle.group_calls.specs.handler_threads.Working.{AreReady as AllReady, HaveWorked}
+use Rattle.group_calls.specs.script_handlers.Handled.{IsReady as IsReadyFor, HasRun as HasRunFor}
+use Rattle.group_calls.specs.script_handlers.declared.handler.Handler.{Handler}
 use Rattle.groups_model.specs.Groups.{IsGroup}
 use Rattle.groups_model.specs.Closed.{GroupHandled, all_replies, handled_on}
-use Rattle.log_groups.specs.group_calls.declared.groups.GroupPass.{GroupPass}
-use Rattle.log_groups.specs.group_calls.Passes.{known, IsGroupPassOf}
-use Rattle.log_groups.specs.group_calls.Servers.{Servers}
-use Rattle.log_groups.specs.group_calls.Serving.{GroupDoes, MayCallEach, most_calls}
+use Rattle.group_calls.specs.declared.groups.GroupPass.{GroupPass}
+use Rattle.group_calls.specs.Passes.{known, IsGroupPassOf}
+use Rattle.group_calls.specs.Servers.{Servers}
+use Rattle.group_calls.specs.Serving.{GroupDoes, MayCallEach, most_calls}
 
 -- each group has a server
 pub record AllThere (s : Servers) : Type 0 where

@@ -1,8 +1,8 @@
 -- Seats of the threads that help groups' logs.
 use Rattle.std.specs.Prelude.{ℕ, ◌+◌, ◌==◌, cond, List, [], ◌∷◌, map}
-use Rattle.log_groups.specs.group_calls.declared.groups.GroupHelper.{GroupHelper}
-use Rattle.log_groups.specs.group_calls.Helpers.{IsHelperOf}
-use Rattle.log_groups.specs.group_calls.Servers.{Servers}
+use Rattle.group_calls.specs.declared.groups.GroupHelper.{GroupHelper}
+use Rattle.group_calls.specs.Helpers.{IsHelperOf}
+use Rattle.group_calls.specs.Servers.{Servers}
 
 -- each is of these servers
 abbrev pub AllHelp : Servers → List GroupHelper → Type 0

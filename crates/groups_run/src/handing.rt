@@ -2,14 +2,15 @@
 
 ghost use Rattle.std.specs.Prelude.{◌≡◌, ◌≤◌, [], map, vec_len, vec_capacity};
 ghost use Rattle.script_run.specs.Ends.{first_of_all};
-ghost use Rattle.log_groups.specs.Dealing.{AreGroupPassesOf, NoneIsOut, groups_out};
-ghost use Rattle.log_groups.specs.group_calls.Servers.{Servers};
+ghost use Rattle.groups_run.specs.Dealing.{AreGroupPassesOf, NoneIsOut, groups_out};
+ghost use Rattle.group_calls.specs.Servers.{Servers};
 ghost use Rattle.groups_run.specs.Handing.{AreTaken, AllOfServers, NoneIsBack, HaveBack, lines_in, spent_in};
 
+use crate::passes::GroupPasses;
 use crate::spending::first_of;
-use log_groups::handler_threads::ServerName;
-use log_groups::script_handlers::Handler;
-use log_groups::{GroupPass, GroupPasses};
+use group_calls::GroupPass;
+use group_calls::handler_threads::ServerName;
+use group_calls::script_handlers::Handler;
 use run_model::Spent;
 use script_calls::ReplyLines;
 use script_run::CallRoom;

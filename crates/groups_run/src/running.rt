@@ -1,17 +1,17 @@
 //! All handlers of a script on several servers.
 
 ghost use Rattle.std.specs.Prelude.{◌≡◌, ◌<◌, ◌^◌};
-ghost use Rattle.log_groups.specs.group_calls.Passes.{named};
-ghost use Rattle.log_groups.specs.handler_threads.Working.{AreReady as AllReady, AreSeats, HaveHelped, HaveWorked};
-ghost use Rattle.log_groups.specs.script_handlers.Handled.{IsReady as IsReadyFor, HasRun as HasRunFor};
+ghost use Rattle.group_calls.specs.Passes.{named};
+ghost use Rattle.group_calls.specs.handler_threads.Working.{AreReady as AllReady, AreSeats, HaveHelped, HaveWorked};
+ghost use Rattle.group_calls.specs.script_handlers.Handled.{IsReady as IsReadyFor, HasRun as HasRunFor};
 ghost use Rattle.groups_run.specs.Ran.{AreReady, HaveRun};
 ghost use Rattle.groups_run.specs.Seating.{AllHelp, groups_of};
 
 use disk_images::Disk;
-use log_groups::handler_threads::{ServerName, run_all};
-use log_groups::region_calls::Gate;
-use log_groups::script_handlers::{Calling, Handler, Serves};
-use log_groups::{GroupHelper, GroupPass, Groups};
+use group_calls::handler_threads::{ServerName, run_all};
+use group_calls::region_calls::Gate;
+use group_calls::script_handlers::{Calling, Handler, Serves};
+use group_calls::{GroupHelper, GroupPass, Groups};
 use std::alloc::Global;
 use std::sync::Wait;
 use std::thread::Threads;

@@ -1,11 +1,12 @@
 //! Seats of the threads that help groups' logs are taken, and given back.
 
 ghost use Rattle.std.specs.Prelude.{◌≡◌, ◌≤◌, ◌+◌, ℕ, [], vec_capacity};
-ghost use Rattle.log_groups.specs.Helpers.{held, AreHelpersOf};
-ghost use Rattle.log_groups.specs.group_calls.Servers.{Servers};
+ghost use Rattle.groups_run.specs.Helpers.{held, AreHelpersOf};
+ghost use Rattle.group_calls.specs.Servers.{Servers};
 ghost use Rattle.groups_run.specs.Seating.{AllHelp, seats_of};
 
-use log_groups::{GroupHelper, GroupHelpers};
+use crate::helpers::GroupHelpers;
+use group_calls::GroupHelper;
 
 /// Takes the seats, at most eight. There is room for them, and it takes no memory.
 pub fn take_seats(helpers: &mut GroupHelpers, seats: &mut Vec<GroupHelper>)

@@ -1,7 +1,7 @@
 //! What a run on several servers leaves.
 
-use group_stores::GroupList;
-use log_groups::region_calls::ClosedRegion;
+use group_calls::group_servers::GroupList;
+use group_calls::region_calls::ClosedRegion;
 use run_model::Spent;
 use script_calls::ReplyLines;
 

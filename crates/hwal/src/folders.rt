@@ -3,7 +3,7 @@
 ghost use Rattle.groups_command.specs.Disks.{AreInARow};
 
 use disk_folder::{Access, FolderDisk};
-use groups_command::group_stores::GroupList;
+use groups_command::group_servers::GroupList;
 use std::alloc::Global;
 
 fn folder<'a, R>(rt: &'a R, alloc: Global, name: &'static str) -> FolderDisk<'a, R> {

@@ -3,7 +3,7 @@
 
 use crate::bench::expect;
 use disk_fakes::{SafeDisk, SafeSink, SafeSource};
-use groups_command::group_stores::GroupList;
+use groups_command::group_servers::GroupList;
 use groups_command::{GroupsOutcome, GroupsStatus, run_groups};
 use load_run::FreeGate;
 use std::alloc::Global;

@@ -3,7 +3,7 @@
 use crate::bench::{Given, HeldDisk, give, watched};
 use crate::gates::Hold;
 use disk_fakes::{MemDisk, MemSink};
-use groups_command::group_stores::GroupList;
+use groups_command::group_servers::GroupList;
 use groups_command::{GroupsOutcome, GroupsStatus, run_groups};
 use std::alloc::Global;
 use std::str;

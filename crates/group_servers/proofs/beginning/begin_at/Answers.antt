@@ -1,5 +1,5 @@
 use Rattle.group_servers.specs.Beginning.{IsOpenedFrom}
-use Rattle.group_stores.specs.Recovering.{IsRecovered}
+use Rattle.group_servers.specs.Recovering.{IsRecovered}
 use Rattle.group_servers.proofs.Begins.{both_none}
 use Rattle.group_servers.proofs.beginning.begin_at.Goals as goal
 

@@ -1,8 +1,8 @@
 use Rattle.std.proofs.Common.{◌≡◌, map, length, vec_len, vec_capacity}
 use Rattle.std.specs.Vec.Iter.{into_iter_items}
 use Rattle.script_run.specs.Ends.{first_of_all}
-use Rattle.log_groups.specs.Dealing.{AreGroupPassesOf, groups_out}
-use Rattle.log_groups.specs.group_calls.Servers.{Servers}
+use Rattle.groups_run.specs.Dealing.{AreGroupPassesOf, groups_out}
+use Rattle.group_calls.specs.Servers.{Servers}
 use Rattle.groups_run.specs.Handing.{AllOfServers, HaveBack, lines_in, spent_in}
 use Rattle.groups_run.proofs.handing.give_back.Given as goal
 

@@ -1,7 +1,7 @@
 use Rattle.std.proofs.Common.{◌≡◌, ◌+◌, ◌++◌, [], ◌∷◌, List, length, None, sym, ap, ◌∙◌, subst, refl, arith, length-append}
-use Rattle.log_groups.specs.Dealing.{groups_out}
-use Rattle.log_groups.specs.group_calls.declared.groups.GroupPass.{GroupPass}
-use Rattle.log_groups.specs.script_handlers.declared.handler.Handler.{Handler}
+use Rattle.groups_run.specs.Dealing.{groups_out}
+use Rattle.group_calls.specs.declared.groups.GroupPass.{GroupPass}
+use Rattle.group_calls.specs.script_handlers.declared.handler.Handler.{Handler}
 use Rattle.groups_run.specs.Handing.{AllOfServers, AreTaken}
 use Rattle.groups_run.proofs.Backs.{next_fresh, none_next, none_out}
 use Rattle.groups_run.proofs.Handled.{of_push, taken_push}

@@ -1,6 +1,6 @@
 use Rattle.std.proofs.Common.{◌≡◌, length, vec_len, vec_capacity}
-use Rattle.log_groups.specs.Dealing.{AreGroupPassesOf, groups_out}
-use Rattle.log_groups.specs.group_calls.Servers.{Servers}
+use Rattle.groups_run.specs.Dealing.{AreGroupPassesOf, groups_out}
+use Rattle.group_calls.specs.Servers.{Servers}
 use Rattle.groups_run.specs.Handing.{AllOfServers, AreTaken, NoneIsBack}
 use Rattle.groups_run.proofs.handing.take_passes.Given as goal
 

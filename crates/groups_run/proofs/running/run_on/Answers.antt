@@ -5,8 +5,8 @@ use Rattle.std.proofs.Common.{◌≡◌, ℕ, List, ◌++◌, length, sym, ap, s
 use Rattle.std.proofs.Crossing.{crosses}
 use Rattle.std.proofs.Math.ListN.{take, drop}
 use Rattle.std.proofs.Math.Seq.{take-append_seam}
-use Rattle.log_groups.proofs.group_calls_laws.Crossing.{group_pass_send, group_helper_send, groups_sync}
-use Rattle.log_groups.specs.group_calls.declared.groups.GroupHelper.{GroupHelper}
+use Rattle.group_calls.proofs.Crossing.{group_pass_send, group_helper_send, groups_sync}
+use Rattle.group_calls.specs.declared.groups.GroupHelper.{GroupHelper}
 use Rattle.groups_run.specs.Seating.{AllHelp, groups_of}
 use Rattle.groups_run.proofs.Seats.{all_helped, help_each}
 use Rattle.groups_run.proofs.running.run_on.Goals as goal

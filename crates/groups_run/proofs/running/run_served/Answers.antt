@@ -1,7 +1,7 @@
 use denote.Param.Send.{sendable}
 use Rattle.std.proofs.Crossing.{crosses}
-use Rattle.log_groups.proofs.script_handlers_laws.calling.Calling.TheSendSync as calling
-use Rattle.log_groups.proofs.script_handlers_laws.handler.Handler.TheSendSync as handler
+use Rattle.group_calls.proofs.script_handlers_laws.calling.Calling.TheSendSync as calling
+use Rattle.group_calls.proofs.script_handlers_laws.handler.Handler.TheSendSync as handler
 use Rattle.groups_run.proofs.running.run_served.Goals as goal
 
 pub run_all-requires-send-J-Handler : goal.run_all-requires-send-J-Handler

@@ -1,6 +1,6 @@
 use Rattle.std.proofs.Common.{ap, subst, arith}
 use Rattle.std.specs.Vec.Iter.{into_iter_items}
-use Rattle.log_groups.specs.Helpers.{held}
+use Rattle.groups_run.specs.Helpers.{held}
 use Rattle.groups_run.specs.Seating.{AllHelp, seats_of}
 use Rattle.groups_run.proofs.Seats.{given_more, room_for}
 use Rattle.groups_run.proofs.seating.give_seats.Goals as goal

@@ -1,7 +1,7 @@
 use Rattle.std.proofs.Common.{◌≡◌, ◌+◌, ℕ}
 use Rattle.std.specs.Vec.Iter.{into_iter_items}
-use Rattle.log_groups.specs.Helpers.{held, AreHelpersOf}
-use Rattle.log_groups.specs.group_calls.Servers.{Servers}
+use Rattle.groups_run.specs.Helpers.{held, AreHelpersOf}
+use Rattle.group_calls.specs.Servers.{Servers}
 use Rattle.groups_run.specs.Seating.{AllHelp, seats_of}
 use Rattle.groups_run.proofs.seating.give_seats.Given as goal
 

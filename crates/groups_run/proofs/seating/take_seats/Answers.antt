@@ -1,5 +1,5 @@
 use Rattle.std.proofs.Common.{◌≡◌, ◌++◌, ◌∷◌, [], length, vec_len, sym, subst, ap, arith, ◌∙◌, refl}
-use Rattle.log_groups.specs.Helpers.{held}
+use Rattle.groups_run.specs.Helpers.{held}
 use Rattle.groups_run.specs.Seating.{AllHelp, seats_of}
 use Rattle.groups_run.proofs.Seats.{help_push, taken_more}
 use Rattle.groups_run.proofs.seating.take_seats.Goals as goal

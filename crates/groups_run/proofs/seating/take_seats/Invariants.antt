@@ -1,6 +1,6 @@
 use Rattle.std.proofs.Common.{◌≡◌, ◌+◌, ◌≤◌, ℕ, length, vec_len, vec_capacity}
-use Rattle.log_groups.specs.Helpers.{held, AreHelpersOf}
-use Rattle.log_groups.specs.group_calls.Servers.{Servers}
+use Rattle.groups_run.specs.Helpers.{held, AreHelpersOf}
+use Rattle.group_calls.specs.Servers.{Servers}
 use Rattle.groups_run.specs.Seating.{AllHelp, seats_of}
 use Rattle.groups_run.proofs.seating.take_seats.Given as goal
 

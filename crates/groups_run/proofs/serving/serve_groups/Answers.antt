@@ -2,10 +2,10 @@ use Rattle.std.proofs.Common.{◌≡◌, ℕ, refl, sym, ap, subst, ◌∙◌, a
 use Rattle.script_model.specs.Calls.{IsScript}
 use Rattle.script_run.specs.Rooms.{script_in}
 use Rattle.run_model.specs.Closed.{IsNameFor}
-use Rattle.log_groups.specs.region_calls.Store.{disk_now, regions_of}
-use Rattle.group_stores.specs.Lists.{AtEach}
-use Rattle.log_groups.specs.group_calls.Passes.{named}
-use Rattle.log_groups.specs.group_calls.Servers.{Servers}
+use Rattle.group_calls.specs.region_calls.Store.{disk_now, regions_of}
+use Rattle.group_calls.specs.group_servers.Lists.{AtEach}
+use Rattle.group_calls.specs.Passes.{named}
+use Rattle.group_calls.specs.Servers.{Servers}
 use Rattle.groups_run.specs.Ended.{HaveEnded}
 use Rattle.groups_run.specs.Ends.{HaveClosed}
 use Rattle.groups_run.specs.Found.{found_views, views}

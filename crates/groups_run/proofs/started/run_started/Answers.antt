@@ -1,9 +1,9 @@
 use Rattle.std.proofs.Common.{◌≡◌, ℕ, ◌+◌, ◌≤◌, Option, Some, None, IfSome, length, sym, subst, ap, ◌∙◌, arith}
-use Rattle.log_groups.specs.Helpers.{held}
-use Rattle.log_groups.specs.group_calls.Passes.{named}
-use Rattle.log_groups.specs.group_calls.Servers.{Servers}
+use Rattle.groups_run.specs.Helpers.{held}
+use Rattle.group_calls.specs.Passes.{named}
+use Rattle.group_calls.specs.Servers.{Servers}
 use Rattle.server_model.specs.Pass.{Naming}
-use Rattle.log_groups.specs.group_servers.Closing.{HasEnded}
+use Rattle.group_calls.specs.group_servers.Closing.{HasEnded}
 use Rattle.groups_run.specs.Ended.{passes_on}
 use Rattle.groups_run.specs.Handing.{known_on}
 use Rattle.groups_run.specs.Seating.{seats_of, times}
