@@ -6,4 +6,5 @@ pub mod There
 pub mod Elsewhere
 pub mod Handlers
 pub mod Doing
+pub mod Gets
 pub mod Crossing

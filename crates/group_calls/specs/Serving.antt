@@ -1,9 +1,8 @@
 -- What a script's handlers do on several servers.
-use Rattle.std.specs.Prelude.{ℕ, ◌≤◌, max, List, [], ◌∷◌, ◌++◌}
-use Rattle.region_model.specs.Calls.{Call, Answer, Newest}
+use Rattle.std.specs.Prelude.{ℕ, ◌≤◌, max}
+use Rattle.region_model.specs.Calls.{Call, Answer}
 use Rattle.region_model.specs.Journal.{Caller}
 use Rattle.server_model.specs.Pass.{Pass, Naming}
-use Rattle.server_model.specs.Steps.{Scans}
 use Rattle.groups_model.specs.Groups.{GroupStep}
 use Rattle.script_handlers.specs.Calling.{MayCall}
 
@@ -20,7 +19,3 @@ pub record MayCallEach (names : ℕ → Naming) (h n : ℕ) (call : Call) : Type
 abbrev pub GroupDoes : (groups : ℕ) → (ℕ → Naming) → (time : ℕ) → Caller → Call → Answer → (old new : ℕ → Pass) → Type 0
 GroupDoes groups names time caller call answer old new =
     GroupStep groups names time old (record { handler = caller.handler; number = caller.call; call = call; answer = answer }) new
-
--- a get of so many versions of a row, on the server of this group
-abbrev pub GetsOn : (ℕ → Naming) → (versions r : ℕ) → (row : List ℕ) → Answer → (old new : ℕ → Pass) → ℕ → Type 0
-GetsOn names versions r row answer old new k = Scans (names k) (Newest versions) r row (row ++ 0 ∷ []) answer (old k) (new k)

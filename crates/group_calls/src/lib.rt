@@ -3,7 +3,6 @@
 #![tactic(auto)]
 
 mod calls;
-mod getting;
 mod groups;
 mod serving;
 

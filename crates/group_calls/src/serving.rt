@@ -2,13 +2,13 @@
 
 ghost use Rattle.std.specs.Prelude.{◌≡◌};
 
-use crate::getting::get_row;
 use crate::groups::{GroupHelper, GroupPass, Groups};
 use disk_images::Disk;
 use group_servers::handler_threads::ServerName;
 use group_servers::region_calls::{Gate, Helped};
+use kv_cell::NoMemory;
 use script_calls::{Answer, Call};
-use script_handlers::{Serves, lent, of_flush, of_put, of_roll, of_scan};
+use script_handlers::{Serves, lent, of_flush, of_get, of_put, of_roll, of_scan, row_behind};
 use std::alloc::Global;
 use std::sync::Wait;
 
@@ -78,7 +78,17 @@ impl<'a, D: Disk, N1: ServerName, N2: ServerName, N3: ServerName, N4: ServerName
                 region,
                 row,
                 versions,
-            } => get_row(alloc, self, pass, region, &row, versions),
+            } => {
+                let row = row.as_slice();
+                match row_behind(alloc, row) {
+                    Ok(behind) => {
+                        let end = behind.as_slice();
+                        let cells = self.scan(alloc, pass, region, row, end);
+                        of_get(alloc, versions, cells)
+                    }
+                    Err(NoMemory) => Answer::GetMemory,
+                }
+            }
             Call::Flush { region, family } => {
                 of_flush(self.flush(rt, alloc, pass, region, number, lent(&family)))
             }

@@ -1,13 +1,16 @@
-use Rattle.std.proofs.Common.{ℕ, ◌++◌, ◌∷◌, [], List, Contains, option_map, refl, sym, ap, ap₂, ◌∙◌, subst}
-use Rattle.region_model.specs.Calls.{Put, Scan, Raw, Newest, Flush, Roll}
+use Rattle.std.proofs.Common.{◌≡◌, ℕ, ◌++◌, ◌∷◌, [], List, Contains, option_map, refl, sym, ap, ap₂, ◌∙◌, subst}
+use Rattle.region_model.specs.Calls.{Answer, Put, Scan, Raw, Newest, Flush, Roll}
 use Rattle.group_servers.specs.region_calls.Answers.{put_answer, scan_answer, flush_answer, roll_answer}
 use Rattle.script_calls.specs.Answers.{answer_of}
 use Rattle.script_calls.specs.Calls.{call_of, is_sync}
 use Rattle.groups_model.specs.Groups.{group_of}
 use Rattle.server_model.specs.Pass.{Naming}
+use Rattle.server_model.proofs.GetLaws.{scans_nothing}
+use Rattle.script_handlers.proofs.GetLaws.{scan_rises}
 use Rattle.group_calls.specs.Passes.{known, named}
 use Rattle.group_calls.specs.Servers.{Servers, AreServers}
 use Rattle.group_calls.proofs.Doing.{among, calls_next, group_within, keeps_calls, keeps_handler, listed, one_of_four, same_handler, serves}
+use Rattle.group_calls.proofs.Gets.{row_got}
 use Rattle.group_calls.proofs.serving.GroupsServes.make.Goals as goal
 
 pub put-requires-clause-region : goal.put-requires-clause-region
@@ -60,27 +63,50 @@ returns-in-Scan-clause-calls g c =
     let names : ℕ → Naming = named g.N1.ServerNaming.name g.N2.ServerNaming.name g.N3.ServerNaming.name g.N4.ServerNaming.name in
     keeps_calls c.args.self.now.count names c.args.time c.args.number (call_of c.args.call) (answer_of c.of_scan.result) (known c.args.pass.now) (known c.scan.new.pass) (returns-in-Scan-clause-does g c) c.requires.number
 
-pub get_row-requires-clause-region : goal.get_row-requires-clause-region
-get_row-requires-clause-region g c =
+pub scan-cells-requires-clause-region : goal.scan-cells-requires-clause-region
+scan-cells-requires-clause-region g c =
     let names : ℕ → Naming = named g.N1.ServerNaming.name g.N2.ServerNaming.name g.N3.ServerNaming.name g.N4.ServerNaming.name in
     among names (known c.args.pass.now 1).handler c.args.number c.args.call (Scan (Newest c.in-Get.versions) c.in-Get.region c.in-Get.row (c.in-Get.row ++ 0 ∷ [])) (ap call_of c.in-Get.is) c.requires.call (group_of c.args.self.now.count c.in-Get.region)
 
-pub returns-in-Get-clause-does : goal.returns-in-Get-clause-does
-returns-in-Get-clause-does g c =
+pub of_get-requires : goal.of_get-requires
+of_get-requires g c =
+    let k = group_of c.args.self.now.count c.in-Get.region in
+    let name : Naming = named g.N1.ServerNaming.name g.N2.ServerNaming.name g.N3.ServerNaming.name g.N4.ServerNaming.name k in
+    record {
+      order = scan_rises name c.in-Get.region c.as_slice-row.result.now c.as_slice-end.result.now (known c.args.pass.now k) (known c.scan-cells.new.pass k)
+          c.scan-cells.result c.scan-cells.ensures.scans;
+    }
+
+pub returns-in-Ok-clause-does : goal.returns-in-Ok-clause-does
+returns-in-Ok-clause-does g c =
     let names : ℕ → Naming = named g.N1.ServerNaming.name g.N2.ServerNaming.name g.N3.ServerNaming.name g.N4.ServerNaming.name in
     let are = subst (λ (s : Servers). AreServers s.count s.second s.third s.fourth) c.self.view_is c.self.invariant in
+    let k = group_of c.args.self.now.count c.in-Get.region in
+    let get : Answer = answer_of c.of_get.result in
+    let row : c.as_slice-row.result.now ≡ c.in-Get.row = c.as_slice-row.ensures in
+    let end : c.as_slice-end.result.now ≡ c.in-Get.row ++ 0 ∷ [] = c.as_slice-end.ensures.value ∙ c.in-Ok.ensures ∙ ap (λ (r : List ℕ). r ++ 0 ∷ []) row in
+    let got = row_got (names k) c.in-Get.region c.in-Get.row c.as_slice-row.result.now c.as_slice-end.result.now (known c.args.pass.now k) (known c.scan-cells.new.pass k)
+    c.in-Get.versions c.scan-cells.result get row end c.scan-cells.ensures.scans c.of_get.ensures.gets in
     serves c.args.self.now are c.args.pass.now c.requires.of names c.args.time c.args.number c.args.call (Scan (Newest c.in-Get.versions) c.in-Get.region c.in-Get.row (c.in-Get.row ++ 0 ∷ [])) (ap call_of c.in-Get.is)
-    (answer_of c.get_row.result) (answer_of c.get_row.result) refl (known c.get_row.new.pass) (group_of c.args.self.now.count c.in-Get.region) refl c.get_row.ensures.gets c.get_row.ensures.elsewhere
+    get get refl (known c.scan-cells.new.pass) k refl got c.scan-cells.ensures.elsewhere
 
-pub returns-in-Get-clause-handler : goal.returns-in-Get-clause-handler
-returns-in-Get-clause-handler g c =
+pub returns-in-Ok-clause-handler : goal.returns-in-Ok-clause-handler
+returns-in-Ok-clause-handler g c =
     let names : ℕ → Naming = named g.N1.ServerNaming.name g.N2.ServerNaming.name g.N3.ServerNaming.name g.N4.ServerNaming.name in
-    keeps_handler c.args.self.now.count names c.args.time c.args.number (call_of c.args.call) (answer_of c.get_row.result) (known c.args.pass.now) (known c.get_row.new.pass) (returns-in-Get-clause-does g c) 1
+    keeps_handler c.args.self.now.count names c.args.time c.args.number (call_of c.args.call) (answer_of c.of_get.result) (known c.args.pass.now) (known c.scan-cells.new.pass) (returns-in-Ok-clause-does g c) 1
 
-pub returns-in-Get-clause-calls : goal.returns-in-Get-clause-calls
-returns-in-Get-clause-calls g c =
+pub returns-in-Ok-clause-calls : goal.returns-in-Ok-clause-calls
+returns-in-Ok-clause-calls g c =
     let names : ℕ → Naming = named g.N1.ServerNaming.name g.N2.ServerNaming.name g.N3.ServerNaming.name g.N4.ServerNaming.name in
-    keeps_calls c.args.self.now.count names c.args.time c.args.number (call_of c.args.call) (answer_of c.get_row.result) (known c.args.pass.now) (known c.get_row.new.pass) (returns-in-Get-clause-does g c) c.requires.number
+    keeps_calls c.args.self.now.count names c.args.time c.args.number (call_of c.args.call) (answer_of c.of_get.result) (known c.args.pass.now) (known c.scan-cells.new.pass) (returns-in-Ok-clause-does g c) c.requires.number
+
+pub returns-in-Err-clause-does : goal.returns-in-Err-clause-does
+returns-in-Err-clause-does g c =
+    let names : ℕ → Naming = named g.N1.ServerNaming.name g.N2.ServerNaming.name g.N3.ServerNaming.name g.N4.ServerNaming.name in
+    let are = subst (λ (s : Servers). AreServers s.count s.second s.third s.fourth) c.self.view_is c.self.invariant in
+    let k = group_of c.args.self.now.count c.in-Get.region in
+    serves c.args.self.now are c.args.pass.now c.requires.of names c.args.time c.args.number c.args.call (Scan (Newest c.in-Get.versions) c.in-Get.region c.in-Get.row (c.in-Get.row ++ 0 ∷ [])) (ap call_of c.in-Get.is)
+    _ _ refl (known c.args.pass.now) k refl (scans_nothing (names k) (Newest c.in-Get.versions) c.in-Get.region c.in-Get.row (c.in-Get.row ++ 0 ∷ []) (known c.args.pass.now k)) (λ j other. refl)
 
 pub flush-requires-clause-region : goal.flush-requires-clause-region
 flush-requires-clause-region g c =
