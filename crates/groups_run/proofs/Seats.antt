@@ -2,6 +2,8 @@
 use Rattle.std.proofs.Common.{◌≡◌, ◌≢◌, ℕ, zero, suc, ◌+◌, ◌<◌, ◌≤◌, ◌==◌, true, false, cond, List, [], ◌∷◌, ◌++◌, length, map, Option, Some, None, IfSome, refl, sym, ap, subst, ◌∙◌, arith, inl, inr}
 use Rattle.std.proofs.lemmas.Bool.{eq-eqb, ne_eqb, cases_eq}
 use Rattle.std.proofs.lemmas.List.{map-append}
+use Rattle.std.proofs.Math.ListN.{take, drop}
+use Rattle.std.proofs.Math.Seq.{take-append_seam}
 use Rattle.std.specs.List.{slice_index_or}
 use Rattle.group_calls.specs.log_service.declared.seats.LogSeat.{LogSeat}
 use Rattle.group_calls.specs.log_service.Places.{ServiceId}
@@ -29,6 +31,16 @@ all_helped is_seat job s is (o ∷ os) (x ∷ xs) h =
     let first = h.each 0 o (omega arith) in
     let rest = all_helped is_seat job s is os xs record { len = omega (arith, h.len); each = λ i d lt. h.each (suc i) d (omega (arith, lt)) } in
     ((is x first.seat, rest.0), λ i. first.log i ∷ rest.1 i)
+
+-- the seats of a list, once those of its slice have helped
+pub slice_helped : {J : Type 0} (is_seat : J → GroupHelper → Type 0) (job : J) (s : Servers) → ((h : GroupHelper) → is_seat job h → IsHelperOf s h)
+    → (n : ℕ) (list slice news : List GroupHelper) → slice ≡ list → length slice ≡ n → HaveHelped is_seat (λ (h : GroupHelper). h.group) job slice news
+    → AllHelp s (take n (news ++ drop (length news) list)) × (groups_of (take n (news ++ drop (length news) list)) ≡ groups_of list)
+slice_helped is_seat job s is n list slice news same len helped =
+    let all = all_helped is_seat job s is slice news helped in
+    let back : take n (news ++ drop (length news) list) ≡ news =
+    subst (λ (m : ℕ). take m (news ++ drop (length news) list) ≡ news) (helped.len ∙ len) (take-append_seam news (drop (length news) list)) in
+    (subst (AllHelp s) (sym back) all.0, ap groups_of back ∙ all.1 ∙ ap groups_of same)
 
 -- one more of these servers
 pub help_push : (s : Servers) (hs : List GroupHelper) (h : GroupHelper) → AllHelp s hs → IsHelperOf s h → AllHelp s (hs ++ h ∷ [])

@@ -12,7 +12,7 @@ ghost use Rattle.groups_run.specs.Ran.{AllThere};
 
 use crate::closing::{GroupsClosed, close_groups};
 use crate::handing::{give_back, take_passes};
-use crate::running::run_on;
+use crate::running::run_served;
 use crate::seating::{give_seats, take_seats};
 use crate::starting::GroupsStarted;
 use disk_images::Disk;
@@ -109,7 +109,15 @@ pub fn run_started<
     } = room;
     take_passes(rooms, &mut passes, &mut handlers);
     take_seats(&mut helpers, &mut seats);
-    run_on(rt, alloc, &groups, gate, time, &mut seats, &mut handlers);
+    run_served(
+        rt,
+        alloc,
+        &groups,
+        gate,
+        time,
+        seats.as_mut_slice(),
+        &mut handlers,
+    );
     give_seats(seats, &mut helpers);
     let spent = give_back(handlers, &mut passes, &mut replies);
     let closed = close_groups(groups, rt, alloc, passes, helpers);

@@ -1,3 +1,9 @@
+use denote.Exit.{no}
+use mir.Syntax.{named as named_lifetime}
+use denote.Param.Send.{sendable, param_sync, arg_sync}
+use Rattle.std.proofs.Crossing.{crosses}
+use Rattle.group_calls.proofs.Crossing.{group_pass_send, group_helper_send, groups_sync}
+use Rattle.groups_run.specs.Seating.{AllHelp}
 use Rattle.std.proofs.Common.{◌≡◌, ℕ, ◌+◌, ◌≤◌, Option, Some, None, IfSome, length, sym, subst, ap, ◌∙◌, arith}
 use Rattle.groups_run.specs.Helpers.{held}
 use Rattle.group_calls.specs.Passes.{named}
@@ -9,17 +15,33 @@ use Rattle.groups_run.specs.Handing.{known_on}
 use Rattle.groups_run.specs.Seating.{seats_of, times}
 use Rattle.groups_run.proofs.Backs.{all_back, ended_of, same_back}
 use Rattle.groups_run.proofs.Handled.{all_of, all_ready, are_handled, handled, taken_length}
-use Rattle.groups_run.proofs.Seats.{at_most_two, two_each}
+use Rattle.groups_run.proofs.Seats.{at_most_two, help_each, slice_helped, two_each}
 use Rattle.groups_run.proofs.started.run_started.Goals as goal
 
 pub take_passes-requires-clause-of : goal.take_passes-requires-clause-of
 take_passes-requires-clause-of g c = (c.args.started.groups, c.requires.passes.0)
 
-pub run_on-requires-clause-seats : goal.run_on-requires-clause-seats
-run_on-requires-clause-seats g c κs within = (c.take_seats.ensures.of c.args.started.groups c.requires.helpers.0).1
+pub run_served-requires-send-S-Pass : goal.run_served-requires-send-S-Pass
+run_served-requires-send-S-Pass g c κs within = search (group_pass_send, sendable, crosses) fits 5000 depth 30
 
-pub run_on-requires-clause-ready : goal.run_on-requires-clause-ready
-run_on-requires-clause-ready g c κs within =
+pub run_served-requires-send-S-Seat : goal.run_served-requires-send-S-Seat
+run_served-requires-send-S-Seat g c κs within = search (group_helper_send, sendable, crosses) fits 5000 depth 30
+
+pub run_served-requires-sync-S : goal.run_served-requires-sync-S
+run_served-requires-sync-S g c κs within =
+    let bounds = c.type_bounds in
+    param_sync 0 _ (arg_sync _ no _ (
+    groups_sync (record { mir = named_lifetime 0; lft = _ }) _ _ _ _ _ _ _ g.N1.ServerNaming _ _ _ g.N2.ServerNaming _ _ _ g.N3.ServerNaming _ _ _ g.N4.ServerNaming _ _ _
+    bounds.send-D bounds.send-N1 bounds.send-N2 bounds.send-N3 bounds.send-N4 bounds.sync-R
+    ))
+
+pub run_served-requires-clause-seats : goal.run_served-requires-clause-seats
+run_served-requires-clause-seats g c κs within =
+    let s : Servers = c.args.started.groups in
+    help_each s c.as_mut_slice.result.now (subst (AllHelp s) (sym c.as_mut_slice.ensures.value) (c.take_seats.ensures.of s c.requires.helpers.0).1)
+
+pub run_served-requires-clause-ready : goal.run_served-requires-clause-ready
+run_served-requires-clause-ready g c κs within =
     let s : Servers = c.args.started.groups in
     let names : ℕ → Naming = named g.N1.ServerNaming.name g.N2.ServerNaming.name g.N3.ServerNaming.name g.N4.ServerNaming.name in
     all_ready names s c.args.time g.N1.ServerNaming.name.regions c.args.rooms.items c.take_passes.new.handlers.items c.requires.script c.requires.fits c.requires.rooms c.take_passes.ensures.taken
@@ -28,11 +50,14 @@ run_on-requires-clause-ready g c κs within =
 pub give_seats-requires-clause-of : goal.give_seats-requires-clause-of
 give_seats-requires-clause-of g c =
     let s : Servers = c.args.started.groups in
-    (s, (c.take_seats.ensures.of s c.requires.helpers.0).0, c.run_on.ensures.seats)
+    let helped = slice_helped _ _ s (λ h is. is) c.take_seats.new.seats.len c.take_seats.new.seats.items c.as_mut_slice.result.now c.run_served.new.seats c.as_mut_slice.ensures.value c.as_mut_slice.ensures.len c.run_served.ensures.seats in
+    (s, (c.take_seats.ensures.of s c.requires.helpers.0).0, helped.0)
 
 pub give_seats-requires-clause-room : goal.give_seats-requires-clause-room
 give_seats-requires-clause-room g c k =
-    let same : seats_of k c.run_on.new.seats.items ≡ seats_of k c.take_seats.new.seats.items = ap (times k) c.run_on.ensures.groups in
+    let s : Servers = c.args.started.groups in
+    let helped = slice_helped _ _ s (λ h is. is) c.take_seats.new.seats.len c.take_seats.new.seats.items c.as_mut_slice.result.now c.run_served.new.seats c.as_mut_slice.ensures.value c.as_mut_slice.ensures.len c.run_served.ensures.seats in
+    let same = ap (times k) helped.1 in
     let taken = c.take_seats.ensures.taken k in
     let most = at_most_two c.args.started.helpers c.requires.helpers.1 k in
     omega (arith, same, taken, most)
@@ -40,35 +65,36 @@ give_seats-requires-clause-room g c k =
 pub give_back-spent-requires-clause-none : goal.give_back-spent-requires-clause-none
 give_back-spent-requires-clause-none g c =
     let taken = taken_length 1 c.args.rooms.items c.take_passes.new.handlers.items c.take_passes.ensures.taken in
-    (c.requires.replies.0, omega (arith, c.run_on.ensures.run.len, taken, c.requires.replies.1, c.run_on.new.handlers.ok, c.args.rooms.ok))
+    (c.requires.replies.0, omega (arith, c.run_served.ensures.run.len, taken, c.requires.replies.1, c.run_served.new.handlers.ok, c.args.rooms.ok))
 
 pub give_back-spent-requires-clause-of : goal.give_back-spent-requires-clause-of
 give_back-spent-requires-clause-of g c =
     let s : Servers = c.args.started.groups in
     let names : ℕ → Naming = named g.N1.ServerNaming.name g.N2.ServerNaming.name g.N3.ServerNaming.name g.N4.ServerNaming.name in
-    (s, (c.take_passes.ensures.of s c.requires.passes.0).0, all_of names c.args.time s c.take_passes.new.handlers.items c.run_on.new.handlers.items c.run_on.ensures.run)
+    (s, (c.take_passes.ensures.of s c.requires.passes.0).0, all_of names c.args.time s c.take_passes.new.handlers.items c.run_served.new.handlers.items c.run_served.ensures.run)
 
 pub give_back-spent-requires-clause-passes : goal.give_back-spent-requires-clause-passes
 give_back-spent-requires-clause-passes g c =
     let taken = taken_length 1 c.args.rooms.items c.take_passes.new.handlers.items c.take_passes.ensures.taken in
-    (c.take_passes.ensures.out, c.take_passes.ensures.back, omega (arith, c.run_on.ensures.run.len, taken, c.requires.few, c.run_on.new.handlers.ok, c.args.rooms.ok))
+    (c.take_passes.ensures.out, c.take_passes.ensures.back, omega (arith, c.run_served.ensures.run.len, taken, c.requires.few, c.run_served.new.handlers.ok, c.args.rooms.ok))
 
 pub close_groups-closed-requires-clause-back : goal.close_groups-closed-requires-clause-back
 close_groups-closed-requires-clause-back g c =
     let s : Servers = c.args.started.groups in
     let names : ℕ → Naming = named g.N1.ServerNaming.name g.N2.ServerNaming.name g.N3.ServerNaming.name g.N4.ServerNaming.name in
-    let all = all_of names c.args.time s c.take_passes.new.handlers.items c.run_on.new.handlers.items c.run_on.ensures.run in
+    let all = all_of names c.args.time s c.take_passes.new.handlers.items c.run_served.new.handlers.items c.run_served.ensures.run in
     let passes = c.give_back-spent.ensures.of s (c.take_passes.ensures.of s c.requires.passes.0).0 all in
     let taken = taken_length 1 c.args.rooms.items c.take_passes.new.handlers.items c.take_passes.ensures.taken in
     let seats = c.take_seats.ensures.of s c.requires.helpers.0 in
+    let helped = slice_helped _ _ s (λ h is. is) c.take_seats.new.seats.len c.take_seats.new.seats.items c.as_mut_slice.result.now c.run_served.new.seats c.as_mut_slice.ensures.value c.as_mut_slice.ensures.len c.run_served.ensures.seats in
     let same : (k : ℕ) → held c.give_seats.new.helpers k ≡ held c.args.started.helpers k = λ k.
-    (let over : seats_of k c.run_on.new.seats.items ≡ seats_of k c.take_seats.new.seats.items = ap (times k) c.run_on.ensures.groups in
+    (let over = ap (times k) helped.1 in
     let given = c.give_seats.ensures.given k in
     let was = c.take_seats.ensures.taken k in
     omega (arith, over, given, was)) in
-    let helpers = c.give_seats.ensures.of s seats.0 c.run_on.ensures.seats in
-    all_back s g.N1.LockNaming.handlers g.N2.LockNaming.handlers g.N3.LockNaming.handlers g.N4.LockNaming.handlers c.give_back-spent.new.passes c.run_on.new.handlers.items c.give_seats.new.helpers passes
-    c.give_back-spent.ensures.back c.give_back-spent.ensures.out (omega (arith, c.run_on.ensures.run.len, taken, c.requires.few, c.args.rooms.ok)) helpers
+    let helpers = c.give_seats.ensures.of s seats.0 helped.0 in
+    all_back s g.N1.LockNaming.handlers g.N2.LockNaming.handlers g.N3.LockNaming.handlers g.N4.LockNaming.handlers c.give_back-spent.new.passes c.run_served.new.handlers.items c.give_seats.new.helpers passes
+    c.give_back-spent.ensures.back c.give_back-spent.ensures.out (omega (arith, c.run_served.ensures.run.len, taken, c.requires.few, c.args.rooms.ok)) helpers
     (two_each s c.args.started.helpers c.give_seats.new.helpers c.requires.helpers.0 helpers same c.requires.helpers.1)
 
 always : {A : Type 0} (P : Type 0) (o : Option A) → P → IfSome o (λ _. P)
@@ -90,9 +116,9 @@ returns g c =
     let names : ℕ → Naming = named g.N1.ServerNaming.name g.N2.ServerNaming.name g.N3.ServerNaming.name g.N4.ServerNaming.name in
     let back = close_groups-closed-requires-clause-back g c.before in
     let olds = c.take_passes.new.handlers.items in
-    let news = c.run_on.new.handlers.items in
+    let news = c.run_served.new.handlers.items in
     let all = (c.take_passes.ensures.of s c.requires.passes.0).1 in
-    let h = handled names s c.args.time g.N1.ServerNaming.name.regions c.args.rooms.items olds news c.requires.servers c.take_passes.ensures.taken all c.run_on.ensures.run in
+    let h = handled names s c.args.time g.N1.ServerNaming.name.regions c.args.rooms.items olds news c.requires.servers c.take_passes.ensures.taken all c.run_served.ensures.run in
     let e = c.close_groups-closed.ensures in
     let passes = c.give_back-spent.new.passes in
     let have = c.give_back-spent.ensures.back in
