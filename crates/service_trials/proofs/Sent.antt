@@ -31,7 +31,7 @@ member_send =
       as_row_send (passes.the_field items.the_row) pass_send,
       (
         search (log_seat_send, sendable, crosses) fits 5000 depth 30,
-        (search (as_row_send, sendable, crosses) fits 5000 depth 30, (search (as_row_send, sendable, crosses) fits 5000 depth 30, (search (as_row_send, sendable, crosses) fits 5000 depth 30, tt))),
+        (search (as_row_send, sendable, crosses) fits 5000 depth 30, (search (as_row_send, sendable, crosses) fits 5000 depth 30, (search (as_row_send, sendable, crosses) fits 5000 depth 30, (search (as_row_send, sendable, crosses) fits 5000 depth 30, tt)))),
       ),
     )
 

@@ -1,1 +1,2 @@
+pub mod AllShown
 pub mod Crew

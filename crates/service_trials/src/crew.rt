@@ -1,175 +1,159 @@
-//! Sixteen threads that push, help and wait, each for a region of its own.
+//! Sixteen members take their steps, each in a thread of its own.
 
-ghost use Rattle.std.specs.Prelude.{◌≡◌, ◌≤◌, ◌+◌, length, IsTrue, IsFalse, All};
-ghost use Rattle.append_ring.specs.Parts.{last_pushed};
-ghost use Rattle.append_ring.specs.Rules.{Follows, next_or};
-ghost use Rattle.log_service.specs.Items.{region_of, number_of, IsWholeItem};
+ghost use Rattle.std.specs.Prelude.{◌≡◌, ◌≤◌, ◌<◌, length, All};
 ghost use Rattle.log_service.specs.Places.{IsSeatOf};
 ghost use Rattle.service_trials.specs.Crew.{IsOf};
 
-use crate::entries::truck;
 use crate::held::HeldDisk;
 use crate::member::Member;
-use crate::puts::wait_own;
-use append_ring::RingKey;
-use log_service::{Helped, Item, LogSeat, LogService, ServiceNaming, Waited};
+use crate::puts::{ask, put};
+use crate::steps::{BUSY, OTHER, Step, Trial, Turn};
+use crate::watch::Watch;
+use log_service::{ConsumerTurn, LogSeat, LogService, ServiceNaming, SyncTurn, Waited};
 use std::alloc::Global;
 use std::sync::Wait;
-use std::thread::{self, Threads, for_each_mut};
+use std::thread::{Threads, for_each_mut};
 
-/// How many edits each thread puts.
-pub(crate) const PUTS: u64 = 1_000;
+fn moved(turn: ConsumerTurn) -> u64 {
+    match turn {
+        ConsumerTurn::Moved(count) => count,
+        _ => OTHER,
+    }
+}
 
-/// How many edits each of sixteen threads pushes before any of them waits: then the ring, of 1,024 items, is full.
-pub(crate) const FIRST_PUTS: u64 = 64;
+fn synced(turn: SyncTurn) -> u64 {
+    match turn {
+        SyncTurn::Synced(count) => count,
+        SyncTurn::Busy => BUSY,
+        _ => OTHER,
+    }
+}
 
-/// Up to which edit a thread waits for each one, and for how many at a time behind it.
-const SINGLE_PUTS: u64 = 500;
-
-const BURST: u64 = 250;
-
-/// Helps the log once. Where another thread does it, it sleeps until a turn of the device has ended.
-fn help<N: ServiceNaming, R: Wait>(rt: &R, service: &LogService<HeldDisk, N>, seat: &mut LogSeat)
-    requires { IsSeatOf service.now seat.old }
+/// Takes a turn. What it is answered.
+fn take_turn<N: ServiceNaming, R: Wait>(
+    rt: &R,
+    alloc: Global,
+    service: &LogService<HeldDisk, N>,
+    seat: &mut LogSeat,
+    turn: Turn,
+    region: u32,
+    number: u64,
+) -> u64
+    requires seat { IsSeatOf service.now seat.old }
+    requires region { (0 < region) × (region ≤ service.now.regions) }
     ensures { IsSeatOf service.now seat.new }
 {
-    let turns = service.turns();
-    match service.help(rt, seat) {
-        Helped::Something => {}
-        Helped::Busy => service.rest(rt, turns),
-        Helped::Nothing => thread::yield_now(),
+    match turn {
+        Turn::Move => moved(service.consumer_turn(rt, seat)),
+        Turn::Sync => synced(service.sync_turn(rt, seat)),
+        Turn::Roll => match service.roll(rt, alloc, seat) {
+            Ok(rolled) if rolled.closed == 1 => rolled.entries,
+            _ => OTHER,
+        },
+        Turn::Flush => service
+            .flush(rt, alloc, seat, region, number, None)
+            .unwrap_or(OTHER),
+        Turn::Wait => (service.wait_synced(rt, seat, region, number) == Waited::Synced) as u64,
     }
 }
 
-/// Pushes an item. Where the ring is full it helps the log and tries again, and adds one to `full`. False where the log is broken.
-fn push<N: ServiceNaming, R: Wait>(
-    rt: &R,
-    service: &LogService<HeldDisk, N>,
-    pass: &mut RingKey<Item>,
-    seat: &mut LogSeat,
-    full: &mut u64,
-    item: Item,
-) -> bool
-    requires ring { pass.old.pass.table_id ≡ service.now.ring }
-    requires region { region_of item ≡ pass.old.region }
-    requires whole { IsWholeItem item }
-    requires follows { Follows number_of (last_pushed number_of pass.old) item }
-    requires seat { IsSeatOf service.now seat.old }
-    ensures pass { (pass.new.pass.table_id ≡ pass.old.pass.table_id) × (pass.new.region ≡ pass.old.region) }
-    ensures pushed { IsTrue result → last_pushed number_of pass.new ≡ next_or number_of (last_pushed number_of pass.old) (number_of item) }
-    ensures refused { IsFalse result → last_pushed number_of pass.new ≡ last_pushed number_of pass.old }
-    ensures seat { IsSeatOf service.now seat.new }
-{
-    let mut item = item;
-    for _try in rt.forever() {
-        match service.push(rt, pass, item) {
-            Ok(()) => return true,
-            Err(refused) => item = refused.item,
-        }
-        *full = full.wrapping_add(1);
-        if service.broken(seat) {
-            return false;
-        }
-        help(rt, service, seat);
-    }
-    unreachable!()
-}
-
-/// Pushes the next edit of a member, which is that of this number. Whether it was pushed.
-fn put<N: ServiceNaming, R: Wait>(
+/// Takes a member's turn. What it is answered.
+fn take<N: ServiceNaming, R: Wait>(
     rt: &R,
     alloc: Global,
     service: &LogService<HeldDisk, N>,
     member: &mut Member,
-    number: u64,
-) -> bool
-    requires of { IsOf service.now member.old }
-    requires next { member.old.pushed + 1 ≡ number }
-    requires number { number ≤ 1000 }
-    ensures of { IsOf service.now member.new }
-    ensures pushed { IsTrue result → member.new.pushed ≡ number }
-{
-    let Some(truck) = truck(alloc, member.pass.region, number) else {
-        return false;
-    };
-    let Member {
-        pass,
-        seat,
-        full,
-        ..
-    } = member;
-    if !push(rt, service, pass, seat, full, Item::Append(truck)) {
-        return false;
-    }
-    member.pushed = number;
-    true
-}
-
-/// Asks that the edits that a member pushed be durable, and waits for it. Whether they are.
-fn settle<N: ServiceNaming, R: Wait>(
-    rt: &R,
-    service: &LogService<HeldDisk, N>,
-    member: &mut Member,
-) -> bool
+    turn: Turn,
+) -> u64
     requires { IsOf service.now member.old }
-    ensures of { IsOf service.now member.new }
-    ensures pushed { member.new.pushed ≡ member.old.pushed }
+    ensures { IsOf service.now member.new }
 {
     let region = member.pass.region;
     let number = member.pushed;
-    let Member {
-        pass,
-        seat,
-        full,
-        ..
-    } = member;
-    if !push(rt, service, pass, seat, full, Item::Sync { region, number }) {
-        return false;
+    let Member { seat, .. } = member;
+    let answer = take_turn(rt, alloc, service, seat, turn, region, number);
+    if answer == 1 && matches!(turn, Turn::Wait) {
+        member.durable = number;
     }
-    if wait_own(rt, service, member) != Waited::Synced {
-        return false;
-    }
-    member.durable = number;
-    true
+    answer
 }
 
-/// Whether a thread waits behind the edit of this number.
-fn waits_behind(number: u64) -> bool {
-    number > FIRST_PUTS && (number <= SINGLE_PUTS || number % BURST == 0)
-}
-
-/// Puts a member's next edits up to a number, and waits for them. It ends early where the log is broken or memory is refused.
-fn put_up_to<N: ServiceNaming, R: Wait>(
+/// Takes a member's step. What it is answered.
+fn take_step<N: ServiceNaming, R: Wait>(
     rt: &R,
     alloc: Global,
     service: &LogService<HeldDisk, N>,
+    watch: &Watch,
     member: &mut Member,
-    last: u64,
-)
-    requires of { IsOf service.now member.old }
-    requires last { last ≤ 1000 }
+    step: Step,
+) -> u64
+    requires { IsOf service.now member.old }
     ensures { IsOf service.now member.new }
 {
-    for before in member.pushed..last {
-        if !put(rt, alloc, service, member, before + 1) {
-            return;
+    match step {
+        Step::Put(way) => put(rt, alloc, service, watch, member, way) as u64,
+        Step::Ask(way) => ask(rt, service, watch, member, way) as u64,
+        Step::Take(turn) => take(rt, alloc, service, member, turn),
+        Step::PutAnd(way, turn) => {
+            if put(rt, alloc, service, watch, member, way) && ask(rt, service, watch, member, way) {
+                take(rt, alloc, service, member, turn)
+            } else {
+                OTHER
+            }
         }
-        if waits_behind(before + 1) && !settle(rt, service, member) {
-            return;
+        Step::Give(sign) => watch.give(rt, sign),
+    }
+}
+
+/// Takes a member's step so many times, and counts how often it is answered so.
+fn take_times<N: ServiceNaming, R: Wait>(
+    rt: &R,
+    alloc: Global,
+    service: &LogService<HeldDisk, N>,
+    watch: &Watch,
+    member: &mut Member,
+    step: Step,
+    times: u64,
+    wanted: u64,
+)
+    requires { IsOf service.now member.old }
+    ensures { IsOf service.now member.new }
+{
+    for _ in 0..times {
+        if take_step(rt, alloc, service, watch, member, step) == wanted {
+            member.right = member.right.wrapping_add(1);
         }
     }
 }
 
-/// Has each member put up to a number, in a thread of its own.
-pub(crate) fn put_each<N: ServiceNaming + Send + Sync, R: Wait + Threads + Sync>(
+/// Takes all steps of a member.
+fn take_all<N: ServiceNaming, R: Wait>(
     rt: &R,
     alloc: Global,
     service: &LogService<HeldDisk, N>,
-    crew: &mut Vec<Member>,
-    last: u64,
+    watch: &Watch,
+    member: &mut Member,
+    trial: Trial,
 )
-    requires of { All (IsOf service.now) crew.old.items }
-    requires last { last ≤ 1000 }
+    requires { IsOf service.now member.old }
+    ensures { IsOf service.now member.new }
+{
+    for row in trial.rows(member.pass.region) {
+        let (step, times, wanted) = *row;
+        take_times(rt, alloc, service, watch, member, step, times, wanted);
+    }
+}
+
+/// Has each member take its steps in a thread of its own.
+pub(crate) fn run_each<N: ServiceNaming + Send + Sync, R: Wait + Threads + Sync>(
+    rt: &R,
+    alloc: Global,
+    service: &LogService<HeldDisk, N>,
+    watch: &Watch,
+    crew: &mut Vec<Member>,
+    trial: Trial,
+)
+    requires { All (IsOf service.now) crew.old.items }
     ensures count { length crew.new.items ≡ length crew.old.items }
     ensures of { All (IsOf service.now) crew.new.items }
 {
@@ -178,8 +162,8 @@ pub(crate) fn put_each<N: ServiceNaming + Send + Sync, R: Wait + Threads + Sync>
         crew.as_mut_slice(),
         16,
         &|_, member: &mut Member|
-            requires { IsOf service.now member.now × (last ≤ 1000) }
+            requires { IsOf service.now member.now }
             ensures { IsOf service.entry.now member.exit.now }
-        { put_up_to(rt, alloc, service, member, last) },
+        { take_all(rt, alloc, service, watch, member, trial) },
     );
 }

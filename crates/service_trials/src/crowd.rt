@@ -48,49 +48,36 @@ pub(crate) fn hand_out<N: ServiceNaming>(
             pushed: 0,
             durable: 0,
             full: 0,
+            right: 0,
         });
     }
 }
 
-/// Takes out the last member.
-pub(crate) fn take_last<N: ServiceNaming>(
-    service: &LogService<HeldDisk, N>,
-    crew: &mut Vec<Member>,
-) -> Member
-    requires some { 0 < length crew.old.items }
-    requires of { All (IsOf service.now) crew.old.items }
-    ensures of { All (IsOf service.now) crew.new.items × IsOf service.now result }
-    ensures count { length crew.new.items + 1 ≡ length crew.old.items }
-    ensures room { vec_capacity crew.new ≡ vec_capacity crew.old }
-{
-    let _ = service;
-    let Some(member) = crew.pop() else {
-        unreachable!()
-    };
-    member
-}
-
-/// Puts a member behind the others.
-pub(crate) fn give_back<N: ServiceNaming>(
-    service: &LogService<HeldDisk, N>,
-    crew: &mut Vec<Member>,
-    member: Member,
-)
-    requires room { length crew.old.items < vec_capacity crew.old }
-    requires of { All (IsOf service.now) crew.old.items × IsOf service.now member }
-    ensures of { All (IsOf service.now) crew.new.items }
-    ensures count { length crew.new.items ≡ length crew.old.items + 1 }
-    ensures room { vec_capacity crew.new ≡ vec_capacity crew.old }
-{
-    let _ = service;
-    crew.push_reserved(member);
-}
-
-/// What the members told: how many edits are durable, and how often the ring was found full.
+/// What the members told: how many edits are durable, how often the ring was found full, and how many steps were answered as they have to
+/// be.
 #[derive(Clone, Copy)]
 pub(crate) struct Told {
     pub(crate) durable: u64,
     pub(crate) full: u64,
+    pub(crate) right: u64,
+}
+
+impl Told {
+    pub(crate) fn nothing() -> Told {
+        Told {
+            durable: 0,
+            full: 0,
+            right: 0,
+        }
+    }
+
+    fn and(self, other: Told) -> Told {
+        Told {
+            durable: self.durable.wrapping_add(other.durable),
+            full: self.full.wrapping_add(other.full),
+            right: self.right.wrapping_add(other.right),
+        }
+    }
 }
 
 /// Takes back what a member has, which is of the region behind this one. What it told.
@@ -114,11 +101,16 @@ fn one_back<N: ServiceNaming, R: Wait>(
         pushed: _,
         durable,
         full,
+        right,
     } = member;
     sure_same(rt, pass.region, before + 1);
     passes.put_back(pass);
     seats.put_back(seat);
-    Told { durable, full }
+    Told {
+        durable,
+        full,
+        right,
+    }
 }
 
 /// Takes all back, in the order of the regions. What they told, summed up.
@@ -133,15 +125,11 @@ pub(crate) fn take_back<N: ServiceNaming, R: Wait>(
     requires crew { (length crew.items ≡ 16) × All (IsOf service.now) crew.items }
     ensures { AreIn service.now 16 passes.new seats.new.consumers seats.new.devices }
 {
-    let mut all = Told {
-        durable: 0,
-        full: 0,
-    };
+    let mut all = Told::nothing();
     let mut before: u32 = 0;
     for member in crew {
         let own = one_back(rt, service, member, passes, seats, before);
-        all.durable = all.durable.wrapping_add(own.durable);
-        all.full = all.full.wrapping_add(own.full);
+        all = all.and(own);
         before += 1;
     }
     all

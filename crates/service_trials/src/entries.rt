@@ -5,19 +5,12 @@ ghost use Rattle.log_trucks.specs.Held.{held_of};
 ghost use Rattle.log_service.specs.Trucks.{IsSpelled};
 ghost use Rattle.seq_accounting.specs.Accounts.{AreFamiliesOf};
 
+use crate::cells::batch_of;
 use entry_frame::encode_entry;
-use kv_cell::{Batch, Cell};
+use kv_cell::Batch;
 use log_trucks::Truck;
 use seq_accounting::FamilyMarks;
 use std::alloc::Global;
-
-/// A put of row `r`, column `f:q`, with the edit's number as timestamp.
-fn one_put(alloc: Global, number: u64) -> Option<Batch> {
-    let cell = Cell::new(alloc, b"r", b"f", b"q", number, 4, b"v").ok()?;
-    let mut cells = Vec::new(alloc);
-    cells.push(cell).ok()?;
-    Batch::new(cells).ok()
-}
 
 /// The families of a batch's cells.
 fn marks_of(alloc: Global, batch: &Batch) -> Option<FamilyMarks>
@@ -57,7 +50,7 @@ pub(crate) fn truck(alloc: Global, region: u32, number: u64) -> Option<Box<Truck
     ensures alone { IfSome result (λ t. t.value.behind ≡ []) }
     ensures spelled { IfSome result (λ t. IsSpelled (held_of t.value)) }
 {
-    let batch = one_put(alloc, number)?;
+    let batch = batch_of(alloc, b"r")?;
     let load = load(alloc, region, number, &batch)?;
     let truck = Box::new(alloc, load).ok()?;
     Some(truck)

@@ -1,10 +1,13 @@
-//! Trials of the log service on a disk in memory that tells what it holds: moves beside another thread's commit, a roll behind chains and behind
-//! a full ring, a thread that waits for the log, sixteen threads that put, and a fault of each disk call with what a crash leaves then. A
-//! library of tests alone, at the top, so that no crate waits for it.
+//! Trials of the log service and of a running server over a disk in memory. Of the service: moves beside another thread's commit, a roll
+//! behind chains and behind a full ring, a thread that waits for the log, sixteen threads that put, and a fault of each disk call with what a
+//! crash leaves then. Of a server: scans that are read a page at a time beside later puts, and the point that a reader is shown. Of a region's
+//! versions: what is told, and what is found while others are shown. A library of tests alone, at the top, so that no crate waits for it.
 #![tactic(auto)]
 
 #[cfg(test)]
-mod beside;
+mod asking;
+#[cfg(test)]
+mod cells;
 #[cfg(test)]
 mod crew;
 #[cfg(test)]
@@ -19,21 +22,27 @@ mod faults;
 mod held;
 #[cfg(test)]
 mod image;
+#[cfg(test)]
+mod learning;
 mod member;
 #[cfg(test)]
-mod overlap;
+mod name;
 #[cfg(test)]
 mod puts;
 #[cfg(test)]
-mod queues;
-#[cfg(test)]
 mod regions;
 #[cfg(test)]
-mod rolls;
+mod serving;
 #[cfg(test)]
-mod threads;
+mod sharing;
 #[cfg(test)]
-mod waits;
+mod showing;
+#[cfg(test)]
+mod steps;
+#[cfg(test)]
+mod telling;
+#[cfg(test)]
+mod viewing;
 #[cfg(test)]
 mod watch;
 

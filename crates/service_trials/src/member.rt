@@ -3,7 +3,8 @@
 use append_ring::RingKey;
 use log_service::{Item, LogSeat};
 
-/// What a thread has, how many edits it pushed, how many of them are durable, and how often it found the ring full.
+/// What a thread has, how many edits it pushed, up to which one a wait called them durable, how often it found the ring full, and how many
+/// of its steps were answered as they have to be.
 #[derive(Drop)]
 pub struct Member {
     pub pass: RingKey<Item>,
@@ -11,4 +12,5 @@ pub struct Member {
     pub pushed: u64,
     pub durable: u64,
     pub full: u64,
+    pub right: u64,
 }

@@ -1,13 +1,13 @@
 //! The regions of a service of sixteen, and its rings.
 
-ghost use Rattle.std.specs.Prelude.{◌≡◌, replicate, IfOk};
+ghost use Rattle.std.specs.Prelude.{◌≡◌, replicate};
 ghost use Rattle.crossbeam_queue.specs.Passes.{view};
 ghost use Rattle.log_service.specs.Begun.{AreNewParts};
 
 use log_ledger::RegionBase;
 use log_service::Rings;
 use std::alloc::Global;
-use std::test::Fail as TestFail;
+use std::process::Abort;
 
 /// Regions 1 to 16, of which nothing is stored.
 pub(crate) const REGIONS: [RegionBase; 16] = [
@@ -94,14 +94,14 @@ pub(crate) const REGIONS: [RegionBase; 16] = [
 ];
 
 /// The rings of a service of sixteen regions.
-pub(crate) fn sixteen_rings(alloc: Global) -> Result<Rings, TestFail>
-    ensures items { IfOk result (λ r. (r.items.ring.capacity ≡ 1024)
-        × AreNewParts r.items.ring.id (replicate 16 0) r.items.consumer.pass.table_id (view r.items.consumer.pass) r.items.passes) }
-    ensures chains { IfOk result (λ r. (r.chains.ring.capacity ≡ 2)
-        × AreNewParts r.chains.ring.id (replicate 16 0) r.chains.consumer.pass.table_id (view r.chains.consumer.pass) r.chains.passes) }
+pub(crate) fn sixteen_rings<R: Abort>(rt: &R, alloc: Global) -> Rings
+    ensures items { (result.items.ring.capacity ≡ 1024)
+        × AreNewParts result.items.ring.id (replicate 16 0) result.items.consumer.pass.table_id (view result.items.consumer.pass) result.items.passes }
+    ensures chains { (result.chains.ring.capacity ≡ 2)
+        × AreNewParts result.chains.ring.id (replicate 16 0) result.chains.consumer.pass.table_id (view result.chains.consumer.pass) result.chains.passes }
 {
     match Rings::new(alloc, &[0; 16]) {
-        Ok(rings) => Ok(rings),
-        Err(_) => Err(TestFail::new("memory is ample")),
+        Ok(rings) => rings,
+        Err(_) => panic!(rt; "memory is ample"),
     }
 }

@@ -1,30 +1,34 @@
-//! What two threads tell one another, of which one commits and is held back in its sync.
+//! What threads tell one another, and the syncs of their disk, which can be held back.
 
-ghost use Rattle.service_trials.specs.Crew.{IsOf};
-
-use crate::held::HeldDisk;
-use crate::member::Member;
-use crate::puts::sync_once;
-use log_service::{LogService, ServiceNaming, SyncTurn};
 use std::sync::atomic::{AtomicU64, Ordering};
 use std::sync::{Arc, Wait};
 use std::thread;
 use std::time::Duration;
 
-/// How often a thread looks at most for another one's sync.
+/// How often a thread looks at most for a sync.
 const LOOKS: u64 = 50_000_000;
 
-/// How many milliseconds a thread waits at most for the answer of one that waits for the log.
-const PATIENCE: u64 = 20_000;
+/// Something that a thread tells, or waits for.
+#[derive(Clone, Copy)]
+pub(crate) enum Sign {
+    /// Holds back each sync from now on. It is answered with 1, as the next two are.
+    Hold,
+    /// Lets each sync go on.
+    Release,
+    /// Comes.
+    Come,
+    /// Waits until so many syncs were begun. It is answered with how many were.
+    Syncs(u64),
+    /// Waits until so many came, for so many milliseconds at most. It is answered with how many have.
+    Came(u64, u64),
+}
 
-/// How many syncs were begun, whether syncs are held back, whether the committing thread is back from its turn, and whether the one that
-/// waits for the log was answered.
+/// How many syncs were begun, whether syncs are held back, and how often one came.
 #[derive(Drop)]
 pub(crate) struct Watch {
     seen: Arc<AtomicU64>,
     held: Arc<AtomicU64>,
-    back: AtomicU64,
-    answered: AtomicU64,
+    came: AtomicU64,
 }
 
 impl Watch {
@@ -32,86 +36,51 @@ impl Watch {
         Watch {
             seen,
             held,
-            back: AtomicU64::new(0),
-            answered: AtomicU64::new(0),
+            came: AtomicU64::new(0),
         }
     }
 
-    /// How many syncs were begun.
-    pub(crate) fn begun(&self) -> u64 {
-        self.seen.load(Ordering::SeqCst)
+    /// Sleeps for a millisecond, unless someone comes.
+    pub(crate) fn pause<R: Wait>(&self, rt: &R) {
+        let count = (self.came.load(Ordering::SeqCst) & 0xffff_ffff) as u32;
+        self.came.park_timeout(rt, count, Duration::from_millis(1));
     }
 
-    /// Holds back each sync from now on. How many were begun before.
-    pub(crate) fn hold(&self) -> u64 {
-        self.held.store(1, Ordering::SeqCst);
-        self.begun()
-    }
-
-    /// Lets each sync go on.
-    pub(crate) fn release(&self) {
-        self.held.store(0, Ordering::SeqCst);
-    }
-
-    /// Whether the committing thread is still in its turn, held back in the first sync after so many.
-    pub(crate) fn is_held(&self, before: u64) -> bool {
-        self.back.load(Ordering::SeqCst) == 0 && self.begun() == before.wrapping_add(1)
-    }
-
-    /// Waits until more than so many syncs were begun.
-    pub(crate) fn wait_begun(&self, before: u64) {
+    fn wait_begun(&self, wanted: u64) -> u64 {
         for _ in 0..LOOKS {
-            if self.begun() > before {
-                return;
+            let begun = self.seen.load(Ordering::SeqCst);
+            if begun >= wanted {
+                return begun;
             }
             thread::yield_now();
         }
+        0
     }
 
-    /// Tells that who waits for the log was answered.
-    pub(crate) fn tell_answer(&self) {
-        self.answered.store(1, Ordering::SeqCst);
-        self.answered.wake_all();
-    }
-
-    /// Sleeps for a millisecond, unless who waits for the log was answered.
-    pub(crate) fn pause<R: Wait>(&self, rt: &R) {
-        self.answered.park_timeout(rt, 0, Duration::from_millis(1));
-    }
-
-    /// Whether who waits for the log is answered within so many milliseconds.
-    fn is_answered_in<R: Wait>(&self, rt: &R, looks: u64) -> bool {
+    fn wait_came<R: Wait>(&self, rt: &R, wanted: u64, looks: u64) -> u64 {
         for _ in 0..looks {
-            if self.answered.load(Ordering::SeqCst) == 1 {
-                return true;
+            if self.came.load(Ordering::SeqCst) >= wanted {
+                break;
             }
             self.pause(rt);
         }
-        false
+        self.came.load(Ordering::SeqCst)
     }
 
-    /// Gives who waits for the log some time to fall asleep.
-    pub(crate) fn give_time<R: Wait>(&self, rt: &R) {
-        let _early = self.is_answered_in(rt, 20);
+    fn come(&self) {
+        self.came.fetch_add(1, Ordering::SeqCst);
+        self.came.wake_all();
     }
 
-    /// Whether who waits for the log is answered before patience ends.
-    pub(crate) fn is_answered<R: Wait>(&self, rt: &R) -> bool {
-        self.is_answered_in(rt, PATIENCE)
+    /// Tells a sign, or waits for it.
+    pub(crate) fn give<R: Wait>(&self, rt: &R, sign: Sign) -> u64 {
+        match sign {
+            Sign::Hold => self.held.store(1, Ordering::SeqCst),
+            Sign::Release => self.held.store(0, Ordering::SeqCst),
+            Sign::Come => self.come(),
+            Sign::Syncs(wanted) => return self.wait_begun(wanted),
+            Sign::Came(wanted, looks) => return self.wait_came(rt, wanted, looks),
+        }
+        1
     }
-}
-
-/// Takes a sync turn, and tells when it is back from it.
-pub(crate) fn commit_watched<N: ServiceNaming, R: Wait>(
-    rt: &R,
-    service: &LogService<HeldDisk, N>,
-    member: &mut Member,
-    watch: &Watch,
-) -> SyncTurn
-    requires { IsOf service.now member.old }
-    ensures { IsOf service.now member.new }
-{
-    let turn = sync_once(rt, service, member);
-    watch.back.store(1, Ordering::SeqCst);
-    turn
 }

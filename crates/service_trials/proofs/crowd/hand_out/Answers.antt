@@ -33,7 +33,7 @@ loop-given-preserved g c =
     let at : n + 1 - 1 ≡ n = omega arith in
     let none = (λ i. end_of number_of (base_of (new.2 i).lasts (new.1 i)) (new.2 i).pushed) ∙ zeros 16 (n + 1 - 1) in
     let seat = seat_out place n c.loop-given.seats.consumers c.next-in-loop-given.new.self.consumers c.loop-given.seats.devices c.next-in-loop-given.new.self.devices c.in-Some-next.seat inv.out.seats c.in-Some-next.ensures in
-    let member : Member = record { pass = pass; seat = c.in-Some-next.seat; pushed = 0; durable = 0; full = 0 } in
+    let member : Member = record { pass = pass; seat = c.in-Some-next.seat; pushed = 0; durable = 0; full = 0; right = 0 } in
     let ready : IsOf place member = record {
       ring = new.0;
       region = (omega (arith, new.1), omega (arith, new.1, low, c.requires.regions), omega (arith, new.1, low));

@@ -10,18 +10,18 @@ use Rattle.service_trials.proofs.held.on_disk.Goals as goal
 pub start-requires-clause-regions : goal.start-requires-clause-regions
 start-requires-clause-regions g c = are_regions 16 (omega arith)
 
-pub over_held-ended-requires-clause-items : goal.over_held-ended-requires-clause-items
-over_held-ended-requires-clause-items g c κs within = (c.requires.items.0, record { is = refl; parts = c.requires.items.1 })
+pub over_held-requires-clause-items : goal.over_held-requires-clause-items
+over_held-requires-clause-items g c κs within = (c.sixteen_rings-rings.ensures.items.0, record { is = refl; parts = c.sixteen_rings-rings.ensures.items.1 })
 
-pub over_held-ended-requires-clause-chains : goal.over_held-ended-requires-clause-chains
-over_held-ended-requires-clause-chains g c κs within = (c.requires.chains.0, record { is = refl; parts = c.requires.chains.1 })
+pub over_held-requires-clause-chains : goal.over_held-requires-clause-chains
+over_held-requires-clause-chains g c κs within = (c.sixteen_rings-rings.ensures.chains.0, record { is = refl; parts = c.sixteen_rings-rings.ensures.chains.1 })
 
 pub start-requires-clause-opened : goal.start-requires-clause-opened
 start-requires-clause-opened g c told =
     ∣ (λ r. 0, opened_empty (view_of (watched c.args.disk)) (regions_from 0 16) c.requires.empty c.requires.none_gone c.requires.quiet (λ m has. (nothing_stored 0 16 m has).0)) ∣₁
 
-pub over_held-ended-requires-clause-device : goal.over_held-ended-requires-clause-device
-over_held-ended-requires-clause-device g c κs within =
+pub over_held-requires-clause-device : goal.over_held-requires-clause-device
+over_held-requires-clause-device g c κs within =
     let d = c.in-Ok.device in
     record {
       unbroken = c.in-Ok.ensures.unbroken;
@@ -34,8 +34,8 @@ over_held-ended-requires-clause-device g c κs within =
       stored = c.in-Ok.ensures.numbers.1;
     }
 
-pub over_held-ended-requires-clause-whole : goal.over_held-ended-requires-clause-whole
-over_held-ended-requires-clause-whole g c κs within =
+pub over_held-requires-clause-whole : goal.over_held-requires-clause-whole
+over_held-requires-clause-whole g c κs within =
     let d = c.in-Ok.device in
     let v = view_of (watched c.args.disk) in
     let opened = opened_empty v (regions_from 0 16) c.requires.empty c.requires.none_gone c.requires.quiet (λ m has. (nothing_stored 0 16 m has).0) in

@@ -1,5 +1,0 @@
-use Rattle.service_trials.specs.Crew.{IsOf}
-use Rattle.service_trials.proofs.queues.put_last.Given as goal
-
-abbrev pub invariant-loop : goal.invariant-loop
-invariant-loop g l = IsOf l.service l.member
