@@ -3,19 +3,25 @@
 use disk_images::{Failed, NamesError};
 use kv_cell::NoMemory;
 use std::alloc::{AllocError, AllocFailed};
-use std::io;
-use thiserror::Error;
+use std::{fmt, io};
 
-#[derive(Clone, Copy, Debug, Error)]
+#[derive(Clone, Copy)]
 pub enum RowsError {
-    #[error("out of memory")]
     Memory,
-    #[error("the disk in memory failed while it was filled or read")]
     Disk,
-    #[error("no file here is a row")]
     NoRows,
-    #[error("the folder cannot be read, or the output cannot be written")]
     Outside,
+}
+
+impl fmt::Display for RowsError {
+    fn fmt<W: fmt::Write>(&self, f: &mut fmt::Formatter<W>) -> fmt::Result {
+        f.write_str(match self {
+            RowsError::Memory => "out of memory",
+            RowsError::Disk => "the disk in memory failed while it was filled or read",
+            RowsError::NoRows => "no file here is a row",
+            RowsError::Outside => "the folder cannot be read, or the output cannot be written",
+        })
+    }
 }
 
 impl From<AllocError> for RowsError {

@@ -2,8 +2,8 @@
 
 use crate::book::{BaseFault, Book, Entry};
 use crate::error::RowsError;
-use crate::step_run::{StepEnd, run_step};
-use row_files::{Difference, Row, RowFault, Step, StoredFile};
+use crate::step_run::run_step;
+use row_files::{Difference, Row, RowFault, StoredFile};
 use std::alloc::{AllocError, Global};
 use std::sync::Wait;
 use std::thread::Threads;
@@ -14,53 +14,55 @@ pub fn told_of<R: Threads + Wait + Sync + AllocGlobal>(
     book: &Book,
     entry: &Entry,
 ) -> Result<Vec<Difference>, RowsError> {
-    let alloc = rt.alloc();
-    let row = match &entry.row {
-        Ok(row) => row,
-        Err(fault) => return Ok(wrong_form(alloc, *fault)?),
-    };
-    match book.bases(alloc, row)? {
-        Ok(bases) => Ok(run_steps(rt, row, files_below(rt, &bases)?)?.told),
-        Err(fault) => Ok(wrong_base(alloc, row, fault)?),
+    let mut told = Vec::new(rt.alloc());
+    match &entry.row {
+        Ok(row) => tell_row(rt, book, row, &mut told)?,
+        Err(fault) => tell_form(rt.alloc(), &mut told, *fault)?,
+    }
+    Ok(told)
+}
+
+fn tell_row<R: Threads + Wait + Sync + AllocGlobal>(
+    rt: &R,
+    book: &Book,
+    row: &Row,
+    told: &mut Vec<Difference>,
+) -> Result<(), RowsError> {
+    match book.bases(rt.alloc(), row)? {
+        Ok(bases) => {
+            let below = files_below(rt, &bases)?;
+            let _ = run_steps(rt, row, below, told)?;
+            Ok(())
+        }
+        Err(fault) => Ok(tell_base(rt.alloc(), told, row, fault)?),
     }
 }
 
-/// The files that the rows below leave, the nearest of which is the first.
+/// The files that the rows below leave, the nearest of which is the first. In what these rows differ isn't told.
 fn files_below<R: Threads + Wait + Sync + AllocGlobal>(
     rt: &R,
     bases: &[&Row],
 ) -> Result<Vec<StoredFile>, RowsError> {
     let mut files = Vec::new(rt.alloc());
+    let mut untold = Vec::new(rt.alloc());
     for row in bases.iter().rev() {
-        files = run_steps(rt, row, files)?.files;
+        files = run_steps(rt, row, files, &mut untold)?;
     }
     Ok(files)
 }
 
-/// Runs a row's steps on a disk with these files and those of the row.
+/// Runs a row's steps on a disk with these files and those of the row, each step on the disk that those before it left.
 fn run_steps<R: Threads + Wait + Sync + AllocGlobal>(
     rt: &R,
     row: &Row,
     below: Vec<StoredFile>,
-) -> Result<StepEnd, RowsError> {
-    let files = with_files(below, &row.files)?;
-    let mut end = StepEnd::before(rt.alloc(), files);
+    told: &mut Vec<Difference>,
+) -> Result<Vec<StoredFile>, RowsError> {
+    let mut files = with_files(below, &row.files)?;
     for step in &row.steps {
-        add_step(rt, step, &mut end)?;
+        files = run_step(rt, step, &files, told)?;
     }
-    Ok(end)
-}
-
-/// Runs a step on the disk that those before it left.
-fn add_step<R: Threads + Wait + Sync + AllocGlobal>(
-    rt: &R,
-    step: &Step,
-    end: &mut StepEnd,
-) -> Result<(), RowsError> {
-    let mut next = run_step(rt, step, &end.files)?;
-    end.told.append(&mut next.told)?;
-    end.files = next.files;
-    Ok(())
+    Ok(files)
 }
 
 /// These files, with others in the place of those with the same names.
@@ -73,24 +75,30 @@ fn with_files(below: Vec<StoredFile>, above: &[StoredFile]) -> Result<Vec<Stored
     Ok(files)
 }
 
-fn wrong_form(alloc: Global, fault: RowFault) -> Result<Vec<Difference>, AllocError> {
-    let reason = fault.fault;
+fn tell_form(
+    alloc: Global,
+    told: &mut Vec<Difference>,
+    fault: RowFault,
+) -> Result<(), AllocError> {
+    let (line, reason) = (fault.line, fault.fault);
     let what = format!(in alloc; "form: {reason}")?;
-    only(alloc, fault.line, what)
+    told.push(Difference { line, what })?;
+    Ok(())
 }
 
-fn wrong_base(alloc: Global, row: &Row, fault: BaseFault) -> Result<Vec<Difference>, AllocError> {
+fn tell_base(
+    alloc: Global,
+    told: &mut Vec<Difference>,
+    row: &Row,
+    fault: BaseFault,
+) -> Result<(), AllocError> {
     let why = match fault {
         BaseFault::Missing => "from: there is no row of this name",
         BaseFault::Wrong => "from: a row below is not read",
         BaseFault::Circle => "from: the rows stand on one another in a circle",
     };
     let line = row.base.as_ref().map_or(0, |base| base.line);
-    only(alloc, line, String::from_str(alloc, why)?)
-}
-
-fn only(alloc: Global, line: u64, what: String) -> Result<Vec<Difference>, AllocError> {
-    let mut told = Vec::new(alloc);
+    let what = String::from_str(alloc, why)?;
     told.push(Difference { line, what })?;
-    Ok(told)
+    Ok(())
 }

@@ -4,40 +4,27 @@ use crate::disk::{disk_with, files_of};
 use crate::error::RowsError;
 use disk_fakes::{Fail, MemDisk, MemSink, MemSource};
 use load_run::{FreeGate, Outcome, run};
-use row_files::{Difference, FallibleCall, Found, PlannedFail, Step, StoredFile, differences};
+use row_files::{
+    Difference, FallibleCall, Found, PlannedFail, Step, StoredFile, add_differences,
+};
 use std::alloc::{AllocError, Global};
 use std::sync::Wait;
 use std::thread::Threads;
 
-/// In what a step differed, and the files that it left.
-#[derive(Drop)]
-pub struct StepEnd {
-    pub told: Vec<Difference>,
-    pub files: Vec<StoredFile>,
-}
-
-impl StepEnd {
-    /// Before the first step there is nothing to tell.
-    pub fn before(alloc: Global, files: Vec<StoredFile>) -> StepEnd {
-        StepEnd {
-            told: Vec::new(alloc),
-            files,
-        }
-    }
-}
-
-/// Runs a step on a disk with these files.
+/// Runs a step on a disk with these files, and tells in what it differed. Gives the files that it left.
 pub fn run_step<R: Threads + Wait + Sync + AllocGlobal>(
     rt: &R,
     step: &Step,
     files: &[StoredFile],
-) -> Result<StepEnd, RowsError> {
+    told: &mut Vec<Difference>,
+) -> Result<Vec<StoredFile>, RowsError> {
     let alloc = rt.alloc();
     let fails = fails_behind(alloc, step, files)?;
     let mut out = sink_of(alloc, step)?;
     let outcome = call(rt, step, disk_with(alloc, files, &fails)?, &mut out)?;
-    let found = found_in(alloc, &outcome, out.as_slice())?;
-    judged(alloc, step, &fails, &outcome.disk, found)
+    let left = judged(alloc, told, step, &outcome, out.as_slice())?;
+    add_unreached(alloc, told, step, &fails, &outcome.disk)?;
+    Ok(left)
 }
 
 /// The calls of the disk that are to fail, behind those that place these files.
@@ -72,28 +59,22 @@ fn sink_of(alloc: Global, step: &Step) -> Result<MemSink, RowsError> {
     Ok(MemSink::new(alloc, &fails)?)
 }
 
-fn found_in(alloc: Global, outcome: &Outcome<MemDisk>, printed: &[u8]) -> Result<Found, RowsError> {
-    let files = files_of(alloc, &outcome.disk)?;
-    let output = printed.to_vec(alloc)?;
-    Ok(Found {
-        status: outcome.status.number(),
-        output,
-        files,
-    })
-}
-
-/// What is told of a step that left this, and its files.
+/// Tells in what a step differed that printed and left this. Gives its files.
 fn judged(
     alloc: Global,
+    told: &mut Vec<Difference>,
     step: &Step,
-    fails: &[Fail],
-    disk: &MemDisk,
-    found: Found,
-) -> Result<StepEnd, RowsError> {
-    let mut told = differences(alloc, step, &found)?;
-    add_unreached(alloc, &mut told, step, fails, disk)?;
-    let Found { files, .. } = found;
-    Ok(StepEnd { told, files })
+    outcome: &Outcome<MemDisk>,
+    output: &[u8],
+) -> Result<Vec<StoredFile>, RowsError> {
+    let files = files_of(alloc, &outcome.disk)?;
+    let found = Found {
+        status: outcome.status.number(),
+        output,
+        files: &files,
+    };
+    add_differences(alloc, told, step, found)?;
+    Ok(files)
 }
 
 /// The calls of the disk that are to fail, numbered behind those that placed the files.
