@@ -29,23 +29,25 @@ pub(crate) const TWO_REGIONS: [RegionBase; 2] = [
     },
 ];
 
+/// What a start answers. Neither the device nor the refusal is ever dropped, so that no exit of a trial writes out how: no trial
+/// shows that.
+pub(crate) type Started =
+    Result<&'static mut Bench<MemDisk>, &'static mut DeviceRefusal<MemDisk>>;
+
 /// A device with regions 1 and 2 on an empty disk whose calls of these kinds and numbers fail, or why there is none.
-pub(crate) fn start(
-    alloc: Global,
-    fails: &[Fail],
-) -> Result<Result<Bench<MemDisk>, DeviceRefusal<MemDisk>>, TestFail> {
+pub(crate) fn start(alloc: Global, fails: &[Fail]) -> Result<Started, TestFail> {
     let disk = MemDisk::new(alloc, fails)?;
-    Ok(Bench::start(alloc, disk, &TWO_REGIONS))
+    match Bench::start(alloc, disk, &TWO_REGIONS) {
+        Ok(bench) => Ok(Ok(Box::leak(Box::new(alloc, bench)?))),
+        Err(refusal) => Ok(Err(Box::leak(Box::new(alloc, refusal)?))),
+    }
 }
 
 /// A device with regions 1 and 2 on an empty disk.
-pub(crate) fn two_regions(alloc: Global) -> Result<Bench<MemDisk>, TestFail> {
+pub(crate) fn two_regions(alloc: Global) -> Result<&'static mut Bench<MemDisk>, TestFail> {
     match start(alloc, &[])? {
         Ok(bench) => Ok(bench),
-        Err(refusal) => {
-            let why = refusal.why;
-            Err(why)?
-        }
+        Err(_) => Err(TestFail::new("the device does not start")),
     }
 }
 
@@ -120,24 +122,16 @@ pub(crate) fn stage_put(
     }
 }
 
-/// Flushes a region that the device has.
+/// Flushes a region that the device has, or one family of it, whose name is one byte.
 pub(crate) fn flush(
     alloc: Global,
     bench: &mut Bench<MemDisk>,
     region: u32,
+    family: Option<u8>,
 ) -> Result<Result<u64, DeviceFlush>, TestFail> {
     next_number(bench, region)?;
-    Ok(bench.flush(alloc, region, None))
-}
-
-/// Flushes one family, whose name is one byte, of a region that the device has.
-pub(crate) fn flush_of(
-    alloc: Global,
-    bench: &mut Bench<MemDisk>,
-    region: u32,
-    family: u8,
-) -> Result<Result<u64, DeviceFlush>, TestFail> {
-    next_number(bench, region)?;
-    let family = [family];
-    Ok(bench.flush(alloc, region, Some(&family)))
+    match family {
+        None => Ok(bench.flush(alloc, region, None)),
+        Some(byte) => Ok(bench.flush(alloc, region, Some(&[byte]))),
+    }
 }

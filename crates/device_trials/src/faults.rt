@@ -2,8 +2,10 @@
 
 use crate::bench::Bench;
 use crate::entries::{start, two_regions};
+use crate::files::hold;
 use crate::image::{Mark, are_images};
 use crate::script::{ANSWERS, Answer, SCRIPT, Step, numbers, take};
+use crate::stops::KINDS;
 use disk_fakes::{CallKind, Fail, MemDisk};
 use log_device::{DeviceRefusal, DeviceWhy};
 use std::alloc::Global;
@@ -51,24 +53,12 @@ const CALLS: [(CallKind, u64, usize); 38] = [
     (CallKind::Rename, 1, 11),
 ];
 
-const KINDS: [CallKind; 9] = [
-    CallKind::Names,
-    CallKind::Size,
-    CallKind::Read,
-    CallKind::Create,
-    CallKind::WriteAt,
-    CallKind::Sync,
-    CallKind::Rename,
-    CallKind::Remove,
-    CallKind::Settle,
-];
-
 /// Each call of a device that makes disk calls, and one that stages.
 const AFTER: [Step; 6] = [
     Step::Sync,
     Step::Roll,
-    Step::Flush(1),
-    Step::FlushOf(1, b'f'),
+    Step::Flush(1, None),
+    Step::Flush(1, Some(b'f')),
     Step::Archive,
     Step::Put(1),
 ];
@@ -76,174 +66,142 @@ const AFTER: [Step; 6] = [
 /// How many calls were made.
 fn all_calls(disk: &MemDisk) -> u64 {
     let mut sum: u64 = 0;
-    for kind in KINDS {
-        sum = sum.saturating_add(disk.calls(kind));
+    for kind in &KINDS {
+        sum = sum.saturating_add(disk.calls(*kind));
     }
     sum
 }
 
-/// What stands now, where this many edits were staged.
-fn mark(bench: &Bench<MemDisk>, staged: usize) -> Mark {
+/// Behind the start, and behind each step of the script that came off. What isn't made yet stands at no moment.
+type Marks = [Mark; 12];
+
+const NO_MARKS: Marks = [Mark {
+    clock: u64::MAX,
+    staged: 0,
+    synced: 0,
+}; 12];
+
+/// What stands now, where this many edits were staged. They are synced in the order in which they were staged.
+fn mark(bench: &Bench<MemDisk>, staged: u64) -> Mark {
     Mark {
         clock: bench.device.disk().clock(),
         staged,
-        synced: [bench.device.synced(1), bench.device.synced(2)],
+        synced: bench.device.synced(1).saturating_add(bench.device.synced(2)),
     }
 }
 
 /// Takes the device through the script up to the step in which its disk fails, and gives that step's number, 0 where none
-/// is.
+/// is, and the moment before it. Each step before is to answer, and to leave the numbers, that stand in the table.
 fn run(
     alloc: Global,
     bench: &mut Bench<MemDisk>,
-    marks: &mut Vec<Mark>,
-) -> Result<usize, TestFail> {
-    let mut staged: usize = 0;
-    marks.push(mark(bench, staged))?;
-    for (i, step) in SCRIPT.iter().enumerate() {
-        match take(alloc, bench, *step)? {
-            Answer::WriteFault => return Ok(i + 1),
-            Answer::Staged(_) => staged = staged.saturating_add(1),
-            _ => {}
+    marks: &mut Marks,
+) -> Result<(usize, u64), TestFail> {
+    let mut staged: u64 = 0;
+    marks[0] = mark(bench, staged);
+    for i in 0..11 {
+        let before = bench.device.disk().clock();
+        let answer = take(alloc, bench, SCRIPT[i])?;
+        if answer == Answer::WriteFault {
+            return Ok((i + 1, before));
         }
-        marks.push(mark(bench, staged))?;
+        let (wanted, after) = ANSWERS[i];
+        let is_wanted = answer == wanted && numbers(bench) == after;
+        hold(is_wanted, "a step has another answer or other numbers")?;
+        if let Answer::Staged(_) = answer {
+            staged = staged.saturating_add(1);
+        }
+        marks[i + 1] = mark(bench, staged);
     }
-    Ok(0)
+    Ok((0, 0))
 }
 
-/// Whether each call of a device that is broken is refused.
-fn refuses_all(alloc: Global, bench: &mut Bench<MemDisk>) -> Result<bool, TestFail> {
-    for step in AFTER {
+/// Each call of a device that is broken is to be refused.
+fn refuses_all(alloc: Global, bench: &mut Bench<MemDisk>) -> Result<(), TestFail> {
+    for step in &AFTER {
         let want = match step {
             Step::Put(_) => Answer::Full,
             _ => Answer::WriteFault,
         };
-        if take(alloc, bench, step)? != want {
-            return Ok(false);
-        }
+        let answer = take(alloc, bench, *step)?;
+        hold(answer == want, "a broken device goes on")?;
     }
-    Ok(true)
+    Ok(())
 }
 
-/// Whether the device is broken, and no further call changes anything.
-fn stays_broken(alloc: Global, bench: &mut Bench<MemDisk>) -> Result<bool, TestFail> {
+/// The device is to be broken, and no further call is to change anything.
+fn stays_broken(alloc: Global, bench: &mut Bench<MemDisk>) -> Result<(), TestFail> {
     let broken = bench.device.broken();
-    let before = numbers(bench);
-    let calls = all_calls(bench.device.disk());
-    let refused = refuses_all(alloc, bench)?;
-    Ok(
-        broken
-            && refused
-            && bench.device.broken()
-            && all_calls(bench.device.disk()) == calls
-            && numbers(bench) == before,
+    let before = (all_calls(bench.device.disk()), numbers(bench));
+    refuses_all(alloc, bench)?;
+    let after = (all_calls(bench.device.disk()), numbers(bench));
+    hold(
+        broken && bench.device.broken() && after == before,
+        "a broken device is changed",
     )
 }
 
-/// Whether a script whose step of this number has a disk call that fails ends as it has to. What a crash leaves at a moment
-/// before that step is what it leaves of a script without a fault, as the disk calls are the same up to there.
-fn is_faulty(alloc: Global, fail: Fail, step: usize) -> Result<bool, TestFail> {
-    match start(alloc, &[fail])? {
-        Err(refusal) => is_refused(alloc, &refusal, step),
-        Ok(bench) => {
-            let mut bench = bench;
-            let mut marks = Vec::new(alloc);
-            stops_at(alloc, &mut bench, &mut marks, step)
-        }
-    }
-}
-
-/// Whether a start that is refused leaves what it has to.
+/// A start whose disk fails is to be refused, and to leave what it has to.
 fn is_refused(
     alloc: Global,
     refusal: &DeviceRefusal<MemDisk>,
     step: usize,
-) -> Result<bool, TestFail> {
-    let images = are_images(alloc, &refusal.disk, &[], 0)?;
-    Ok(step == 0 && refusal.why == DeviceWhy::DiskFault && images)
+) -> Result<(), TestFail> {
+    let is_fault = step == 0 && refusal.why == DeviceWhy::DiskFault;
+    hold(is_fault, "a start is refused for another cause")?;
+    are_images(alloc, &refusal.disk, &NO_MARKS, 0)
 }
 
-/// Whether the script on a device whose disk fails in this step ends there, and leaves what it has to.
-fn stops_at(
-    alloc: Global,
-    bench: &mut Bench<MemDisk>,
-    marks: &mut Vec<Mark>,
-    step: usize,
-) -> Result<bool, TestFail> {
-    let stopped = run(alloc, bench, marks)? == step;
-    let broken = stays_broken(alloc, bench)?;
-    let first = match marks.last() {
-        Some(mark) => mark.clock,
-        None => 0,
-    };
-    let images = are_images(alloc, bench.device.disk(), marks.as_slice(), first)?;
-    Ok(stopped && broken && images)
+/// The script on a device whose disk fails in this step is to end there, and to leave what it has to. What a crash leaves at a
+/// moment before that step is what it leaves of a script without a fault, as the disk calls are the same up to there.
+fn stops_at(alloc: Global, bench: &mut Bench<MemDisk>, step: usize) -> Result<(), TestFail> {
+    let mut marks = NO_MARKS;
+    let (stopped, moment) = run(alloc, bench, &mut marks)?;
+    hold(stopped == step, "another step meets the fault")?;
+    stays_broken(alloc, bench)?;
+    are_images(alloc, bench.device.disk(), &marks, moment)
+}
+
+#[test]
+fn each_disk_call_fails(rt: HostRuntime) -> Result<(), TestFail> {
+    for (call, nth, step) in &CALLS {
+        let fail = Fail {
+            call: *call,
+            nth: *nth,
+        };
+        match start(rt.alloc(), &[fail])? {
+            Err(refusal) => is_refused(rt.alloc(), refusal, *step)?,
+            Ok(bench) => stops_at(rt.alloc(), bench, *step)?,
+        }
+    }
+    Ok(())
 }
 
 /// How many calls of this kind the script makes.
 fn last_nth(kind: CallKind) -> u64 {
     let mut last = 0;
-    for (call, nth, _) in CALLS {
-        if call == kind {
-            last = nth;
+    for (call, nth, _) in &CALLS {
+        if *call == kind {
+            last = *nth;
         }
     }
     last
 }
 
-#[test]
-fn each_disk_call_fails(rt: HostRuntime) -> Result<(), TestFail> {
-    let alloc = rt.alloc();
-    for (call, nth, step) in CALLS {
-        assert!(rt; is_faulty(alloc, Fail { call, nth }, step)?, "{step} {nth}");
-    }
-    Ok(())
-}
-
 /// Whether the script made so many calls of each kind.
 fn made_calls(disk: &MemDisk) -> bool {
     let mut all = true;
-    for kind in KINDS {
-        all = all && disk.calls(kind) == last_nth(kind);
+    for kind in &KINDS {
+        all = all && disk.calls(*kind) == last_nth(*kind);
     }
     all
 }
 
-/// Whether the script without a fault comes to its end, and leaves what it has to.
-fn ends_whole(
-    alloc: Global,
-    bench: &mut Bench<MemDisk>,
-    marks: &mut Vec<Mark>,
-) -> Result<bool, TestFail> {
-    let ended = run(alloc, bench, marks)? == 0;
-    let images = are_images(alloc, bench.device.disk(), marks.as_slice(), 0)?;
-    Ok(ended && images && made_calls(bench.device.disk()))
-}
-
 #[test]
 fn stopped_at_each_moment(rt: HostRuntime) -> Result<(), TestFail> {
-    let alloc = rt.alloc();
-    let mut bench = two_regions(alloc)?;
-    let mut marks = Vec::new(alloc);
-    assert!(rt; ends_whole(alloc, &mut bench, &mut marks)?);
-    Ok(())
-}
-
-/// The first step that the device answers otherwise than it has to, or behind which it has other numbers.
-fn first_wrong(alloc: Global, bench: &mut Bench<MemDisk>) -> Result<Option<usize>, TestFail> {
-    for i in 0..11 {
-        let (answer, after) = ANSWERS[i];
-        if take(alloc, bench, SCRIPT[i])? != answer || numbers(bench) != after {
-            return Ok(Some(i));
-        }
-    }
-    Ok(None)
-}
-
-#[test]
-fn numbers_rise_step_by_step(rt: HostRuntime) -> Result<(), TestFail> {
-    let alloc = rt.alloc();
-    let mut bench = two_regions(alloc)?;
-    assert!(rt; first_wrong(alloc, &mut bench)?.is_none());
-    Ok(())
+    let bench = two_regions(rt.alloc())?;
+    let mut marks = NO_MARKS;
+    let (stopped, _) = run(rt.alloc(), bench, &mut marks)?;
+    assert!(rt; stopped == 0 && made_calls(bench.device.disk()));
+    are_images(rt.alloc(), bench.device.disk(), &marks, 0)
 }

@@ -1,8 +1,9 @@
 //! A disk with two logs: the first is closed and an old log by now, the second goes on. It is never dropped, nor are the texts: no trial
 //! shows how.
 
+use crate::files::{self, add};
 use disk_fakes::MemDisk;
-use disk_images::{Disk, Name, NameKind};
+use disk_images::{Name, NameKind};
 use std::alloc::Global;
 use std::test::Fail;
 
@@ -51,36 +52,27 @@ fn new_text(alloc: Global) -> Result<&'static mut Vec<u8>, Fail> {
     Ok(Box::leak(Box::new(alloc, text)?))
 }
 
-/// Makes a log or an old log with these bytes.
-fn add(disk: &mut MemDisk, kind: NameKind, number: u64, bytes: &[u8]) -> Result<(), Fail> {
-    let name = Name {
+/// The name of a log or an old log.
+fn named(kind: NameKind, number: u64) -> Name {
+    Name {
         kind,
         region: 0,
         number,
-    };
-    disk.settle()?;
-    if bytes.is_empty() || disk.bytes(name).is_some() {
-        return Err(Fail::new("no such file can be made"));
     }
-    disk.create(name)?;
-    disk.write_at(name, 0, bytes)?;
-    disk.sync(name)?;
-    Ok(())
 }
 
 /// A disk with both logs.
 pub(crate) fn disk_of(alloc: Global, logs: Logs) -> Result<&'static mut MemDisk, Fail> {
-    let disk = MemDisk::new(alloc, &[])?;
-    let disk: &'static mut MemDisk = Box::leak(Box::new(alloc, disk)?);
+    let disk = files::disk_of(alloc, &[], &[])?;
     let old = new_text(alloc)?;
     write_entries(old, 1, 1, logs.in_first)?;
     old.extend_from_slice(&[0xA5, 2, 0, 0, 0, 8])?;
     old.extend_from_slice(&logs.in_first.to_be_bytes())?;
     old.push(0)?;
-    add(disk, NameKind::Old, 1, old.as_slice())?;
+    add(disk, named(NameKind::Old, 1), old.as_slice())?;
     let log = new_text(alloc)?;
     write_entries(log, 2, logs.in_first.saturating_add(1), logs.all)?;
     log.push(0)?;
-    add(disk, NameKind::Log, 2, log.as_slice())?;
+    add(disk, named(NameKind::Log, 2), log.as_slice())?;
     Ok(disk)
 }

@@ -1,9 +1,9 @@
 //! A script of calls that a device is taken through.
 
 use crate::bench::Bench;
-use crate::entries::{self, stage_put};
+use crate::entries::{flush, stage_put};
 use disk_fakes::MemDisk;
-use log_device::{DeviceFlush, RollRefusal, Rolled};
+use log_device::{DeviceFlush, RollRefusal, Rolled, WriteFault};
 use std::alloc::Global;
 use std::test::*;
 
@@ -15,8 +15,7 @@ pub(crate) enum Step {
     Sync,
     Roll,
     /// Of a region, or of one family of it.
-    Flush(u32),
-    FlushOf(u32, u8),
+    Flush(u32, Option<u8>),
     Archive,
 }
 
@@ -42,33 +41,28 @@ pub(crate) const SCRIPT: [Step; 11] = [
     Step::Put(2),
     Step::Sync,
     Step::Roll,
-    Step::Flush(1),
+    Step::Flush(1, None),
     Step::Put(1),
     Step::Put(2),
-    Step::Flush(2),
+    Step::Flush(2, None),
     Step::Archive,
 ];
-
-/// The edits in the order in which they are staged: region and number.
-pub(crate) const EDITS: [(u32, u64); 5] = [(1, 1), (1, 2), (2, 1), (1, 3), (2, 2)];
 
 /// Takes one step.
 pub(crate) fn take(alloc: Global, bench: &mut Bench<MemDisk>, step: Step) -> Result<Answer, Fail> {
     match step {
         Step::Put(region) => stage(alloc, bench, region),
-        Step::Sync => Ok(match bench.sync() {
-            Ok(count) => Answer::Done(count),
-            Err(_) => Answer::WriteFault,
-        }),
+        Step::Sync => Ok(counted(bench.sync())),
         Step::Roll => Ok(roll(alloc, bench)),
-        Step::Flush(region) => Ok(flushed(entries::flush(alloc, bench, region)?)),
-        Step::FlushOf(region, family) => {
-            Ok(flushed(entries::flush_of(alloc, bench, region, family)?))
-        }
-        Step::Archive => Ok(match bench.archive() {
-            Ok(count) => Answer::Done(count),
-            Err(_) => Answer::WriteFault,
-        }),
+        Step::Flush(region, family) => Ok(flushed(flush(alloc, bench, region, family)?)),
+        Step::Archive => Ok(counted(bench.archive())),
+    }
+}
+
+fn counted(res: Result<u64, WriteFault>) -> Answer {
+    match res {
+        Ok(count) => Answer::Done(count),
+        Err(WriteFault) => Answer::WriteFault,
     }
 }
 

@@ -2,7 +2,7 @@
 
 use crate::bench::Bench;
 use crate::entries::two_regions;
-use crate::image::crash_at;
+use crate::files::crash_at;
 use crate::script::{SCRIPT, take};
 use disk_fakes::MemDisk;
 use log_tail::{Position, Tail};
@@ -36,18 +36,20 @@ const SHIPPED: [(u32, u64, u64, u64); 5] = [
     (2, 2, 2, 2),
 ];
 
-/// Ships what stands behind the recorded position in the logs of a disk.
-fn ship<R: Threads + Wait + Sync + AllocGlobal>(
+/// Ships what stands behind the recorded position in the logs that a crash at this moment leaves.
+fn ship_at<R: Threads + Wait + Sync + AllocGlobal>(
     rt: &R,
-    disk: &mut MemDisk,
+    disk: &MemDisk,
     peer: &mut MemPeer,
+    moment: u64,
 ) -> Result<(), Fail> {
     let first = Position {
         file: 1,
         entries: 0,
     };
+    let image = crash_at(rt.alloc(), disk, moment, 0)?;
     let mut tail = Tail::at(peer.recorded().unwrap_or(first));
-    ship_all(rt, rt.alloc(), &mut tail, disk, peer)?;
+    ship_all(rt, rt.alloc(), &mut tail, image, peer)?;
     Ok(())
 }
 
@@ -59,6 +61,11 @@ fn ship_now<R: Threads + Wait + Sync + AllocGlobal>(
 ) -> Result<(), Fail> {
     let disk = bench.device.disk();
     ship_at(rt, disk, peer, disk.clock())
+}
+
+/// A peer to which nothing was shipped. It is never dropped.
+fn new_peer(alloc: Global) -> Result<&'static mut MemPeer, Fail> {
+    Ok(Box::leak(Box::new(alloc, MemPeer::new(alloc))?))
 }
 
 /// Whether so many of the script's edits were shipped, each once and in order, and this position is recorded.
@@ -93,35 +100,15 @@ fn ship_steps<R: Threads + Wait + Sync + AllocGlobal>(
     Ok(all && is_shipped(peer, BEHIND[10]))
 }
 
-/// The same with a device and a peer that begin here.
-fn ship_behind<R: Threads + Wait + Sync + AllocGlobal>(
-    rt: &R,
-    first: usize,
-    second: usize,
-) -> Result<bool, Fail> {
-    let alloc = rt.alloc();
-    let mut bench = two_regions(alloc)?;
-    let mut peer = MemPeer::new(alloc);
-    ship_steps(rt, &mut bench, &mut peer, first, second)
-}
-
 #[test]
 fn shipped_behind_each_two_steps(rt: HostRuntime) -> Result<(), Fail> {
     for pair in 0..121 {
-        assert!(rt; ship_behind(&rt, pair / 11, pair % 11)?, "{pair}");
+        let bench = two_regions(rt.alloc())?;
+        let peer = new_peer(rt.alloc())?;
+        let is_shipped = ship_steps(&rt, bench, peer, pair / 11, pair % 11)?;
+        assert!(rt; is_shipped, "{pair}");
     }
     Ok(())
-}
-
-/// Ships what a crash at this moment leaves.
-fn ship_at<R: Threads + Wait + Sync + AllocGlobal>(
-    rt: &R,
-    disk: &MemDisk,
-    peer: &mut MemPeer,
-    moment: u64,
-) -> Result<(), Fail> {
-    let mut image = crash_at(rt.alloc(), disk, moment, 0)?;
-    ship(rt, &mut image, peer)
 }
 
 /// Takes a device through the script.
@@ -132,24 +119,15 @@ fn take_all(alloc: Global, bench: &mut Bench<MemDisk>) -> Result<(), Fail> {
     Ok(())
 }
 
-/// Ships at each moment of a disk. Whether all was shipped.
-fn ship_moments<R: Threads + Wait + Sync + AllocGlobal>(
-    rt: &R,
-    disk: &MemDisk,
-    peer: &mut MemPeer,
-) -> Result<bool, Fail> {
-    for moment in 0..disk.clock().saturating_add(1) {
-        ship_at(rt, disk, peer, moment)?;
-    }
-    Ok(is_shipped(peer, BEHIND[10]))
-}
-
 #[test]
 fn shipped_at_each_moment(rt: HostRuntime) -> Result<(), Fail> {
-    let alloc = rt.alloc();
-    let mut bench = two_regions(alloc)?;
-    take_all(alloc, &mut bench)?;
-    let mut peer = MemPeer::new(alloc);
-    assert!(rt; ship_moments(&rt, bench.device.disk(), &mut peer)?);
+    let bench = two_regions(rt.alloc())?;
+    take_all(rt.alloc(), bench)?;
+    let peer = new_peer(rt.alloc())?;
+    let disk = bench.device.disk();
+    for moment in 0..disk.clock().saturating_add(1) {
+        ship_at(&rt, disk, peer, moment)?;
+    }
+    assert!(rt; is_shipped(peer, BEHIND[10]));
     Ok(())
 }

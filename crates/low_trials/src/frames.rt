@@ -7,14 +7,8 @@ use entry_frame::{Entry, Feed, FeedRefusal, FileKey};
 use std::alloc::Global;
 use std::test::*;
 
-/// The first log with one put into region 1 with number 1 at time 1000: row `r`, column `f:q`, timestamp 1, value `v`.
-const ONE_PUT: [u8; 71] = [
-    b'H', b'W', b'L', b'1', 0, 0, 0, 2, 0, 0, 0, 0, 0, 0, 0, 1, 0xA5, 1, 0, 0, 0, 0x30, 0, 0, 0, 1,
-    0, 0, 0, 0, 0, 0, 0, 1, 0, 0, 0, 0, 0, 0, 3, 0xE8, 0, 0, 0, 1, 0, 0, 0, 0x0F, 0, 0, 0, 1, 0, 1,
-    b'r', 1, b'f', b'q', 0, 0, 0, 0, 0, 0, 0, 1, 4, b'v', 0,
-];
-
-/// The same with an end frame behind it.
+/// The first log with one put into region 1 with number 1 at time 1000: row `r`, column `f:q`, timestamp 1, value `v`; and an end
+/// frame behind it, from 70 on.
 const ENDED: [u8; 85] = [
     b'H', b'W', b'L', b'1', 0, 0, 0, 2, 0, 0, 0, 0, 0, 0, 0, 1, 0xA5, 1, 0, 0, 0, 0x30, 0, 0, 0, 1,
     0, 0, 0, 0, 0, 0, 0, 1, 0, 0, 0, 0, 0, 0, 3, 0xE8, 0, 0, 0, 1, 0, 0, 0, 0x0F, 0, 0, 0, 1, 0, 1,
@@ -22,23 +16,11 @@ const ENDED: [u8; 85] = [
     1, 0,
 ];
 
-/// The put with the tags `ab`, of table `t`; with the tags alone; and of the table alone.
+/// The put with the tags `ab`, of table `t`, and a closed gate.
 const TAGGED: [u8; 77] = [
     b'H', b'W', b'L', b'1', 0, 0, 0, 2, 0, 0, 0, 0, 0, 0, 0, 1, 0xA5, 3, 0, 0, 0, 0x36, 0, 0, 0, 1,
     0, 0, 0, 0, 0, 0, 0, 1, 0, 0, 0, 0, 0, 0, 3, 0xE8, 1, b't', 0, 0, 0, 1, 0, 0, 0, 0x0F, 0, 0, 0,
     1, 0, 1, b'r', 1, b'f', b'q', 0, 0, 0, 0, 0, 0, 0, 1, 4, b'v', 0, 2, b'a', b'b', 0,
-];
-
-const TAGS_ALONE: [u8; 76] = [
-    b'H', b'W', b'L', b'1', 0, 0, 0, 2, 0, 0, 0, 0, 0, 0, 0, 1, 0xA5, 3, 0, 0, 0, 0x35, 0, 0, 0, 1,
-    0, 0, 0, 0, 0, 0, 0, 1, 0, 0, 0, 0, 0, 0, 3, 0xE8, 0, 0, 0, 0, 1, 0, 0, 0, 0x0F, 0, 0, 0, 1, 0,
-    1, b'r', 1, b'f', b'q', 0, 0, 0, 0, 0, 0, 0, 1, 4, b'v', 0, 2, b'a', b'b', 0,
-];
-
-const TABLE_ALONE: [u8; 75] = [
-    b'H', b'W', b'L', b'1', 0, 0, 0, 2, 0, 0, 0, 0, 0, 0, 0, 1, 0xA5, 3, 0, 0, 0, 0x34, 0, 0, 0, 1,
-    0, 0, 0, 0, 0, 0, 0, 1, 0, 0, 0, 0, 0, 0, 3, 0xE8, 1, b't', 0, 0, 0, 1, 0, 0, 0, 0x0F, 0, 0, 0,
-    1, 0, 1, b'r', 1, b'f', b'q', 0, 0, 0, 0, 0, 0, 0, 1, 4, b'v', 0, 0, 0,
 ];
 
 const LOG_1: FileKey = FileKey {
@@ -112,48 +94,47 @@ fn reads(alloc: Global, bytes: &[u8], cuts: u128, frame: &[u8], want: (u64, Opti
     }
 }
 
-/// Whether the file, in this version, has one entry of this frame and this end, in up to three pieces that are cut anywhere, and
-/// byte by byte.
-fn has_one(alloc: Global, version: u8, file: &[u8], frame: &[u8], end: Option<u64>) -> bool {
-    let mut bytes = [0; 85];
-    let len = file.len().min(85);
-    bytes[..len].copy_from_slice(&file[..len]);
-    bytes[7] = version;
+/// Whether these bytes have one entry of this frame and this end, in up to three pieces that are cut anywhere, and byte by byte.
+fn has_one(alloc: Global, bytes: &[u8], frame: &[u8], end: Option<u64>) -> bool
+    requires short { length bytes.now < 100 }
+{
     for case in 0..10_001 {
-        if !reads(alloc, &bytes[..len], cuts_of(case), frame, (1, end)) {
+        if !reads(alloc, bytes, cuts_of(case), frame, (1, end)) {
             return false;
         }
     }
     true
 }
 
-/// A version, a file, where the frame ends that begins at 17, and the file's end.
-const LOGS: [(u8, &[u8], usize, Option<u64>); 7] = [
-    (1, &ONE_PUT, 70, None),
-    (2, &ONE_PUT, 70, None),
-    (2, &TAGGED, 76, None),
-    (2, &TAGS_ALONE, 75, None),
-    (2, &TABLE_ALONE, 74, None),
-    (1, &ENDED, 70, Some(1)),
-    (2, &ENDED, 70, Some(1)),
-];
+/// The same of the log with the end frame in a version, whole and without that frame.
+fn has_one_of(alloc: Global, version: u8) -> bool {
+    let mut bytes = ENDED;
+    bytes[7] = version;
+    has_one(alloc, &bytes, &ENDED[17..70], Some(1))
+        && has_one(alloc, &bytes[..71], &ENDED[17..70], None)
+}
 
 #[test]
 fn one_entry_is_read_however_its_log_is_cut(rt: HostRuntime) {
-    for (version, file, last, end) in LOGS {
-        let frame = &file[17..last.min(file.len()).max(17)];
-        assert!(rt; has_one(rt.alloc(), version, file, frame, end), "{last}");
+    assert!(rt; has_one_of(rt.alloc(), 1));
+    assert!(rt; has_one_of(rt.alloc(), 2));
+    assert!(rt; has_one(rt.alloc(), &TAGGED, &TAGGED[17..76], None));
+}
+
+/// Whether these bytes have no entry and no end, in pieces that are cut anywhere among the first seventeen.
+fn has_none(alloc: Global, bytes: &[u8]) -> bool
+    requires short { length bytes.now < 100 }
+{
+    for bits in 0..65_536_u32 {
+        if !reads(alloc, bytes, u128::from(bits) << 1, b"", (0, None)) {
+            return false;
+        }
     }
+    true
 }
 
 #[test]
 fn header_and_gate_have_no_entry_however_they_are_cut(rt: HostRuntime) {
-    let mut file = *b"HWL1\0\0\0\x02\0\0\0\0\0\0\0\x01\0";
-    for gate in [0, 0xA5] {
-        file[16] = gate;
-        for bits in 0..65_536_u32 {
-            let cuts = u128::from(bits) << 1;
-            assert!(rt; reads(rt.alloc(), &file, cuts, b"", (0, None)));
-        }
-    }
+    assert!(rt; has_none(rt.alloc(), &ENDED[..17]));
+    assert!(rt; has_none(rt.alloc(), b"HWL1\0\0\0\x02\0\0\0\0\0\0\0\x01\0"));
 }

@@ -1,18 +1,24 @@
-//! Trials of the low crates, of what rows can't show: cells and logs in pieces, chains of trucks, store files that are damaged, a
-//! region's parts, the ring and the berth between threads, the greatest load, and replies that no run of the program shows. A
-//! library of tests alone, on which nothing stands.
+//! Trials of the low crates and of the disks, of what rows can't show: cells and logs in pieces, chains of trucks, store files that are
+//! damaged, a region's parts; the disks, sources and sinks in memory, what a crash of them may leave, and a sync that is held back; the
+//! real folder and the streams. A library of tests alone, on which nothing stands.
 #![tactic(auto)]
 
 #[cfg(test)]
-mod berth;
+mod calls;
 #[cfg(test)]
 mod cells;
 #[cfg(test)]
 mod chains;
 #[cfg(test)]
-mod counters;
+mod disks;
 #[cfg(test)]
 mod edits;
+#[cfg(test)]
+mod faults;
+#[cfg(test)]
+mod files;
+#[cfg(test)]
+mod folders;
 #[cfg(test)]
 mod frames;
 #[cfg(test)]
@@ -22,12 +28,12 @@ mod one_file;
 #[cfg(test)]
 mod reading;
 #[cfg(test)]
-mod reports;
-#[cfg(test)]
-mod ring;
-#[cfg(test)]
 mod sharing;
 #[cfg(test)]
-mod stamps;
+mod spellings;
 #[cfg(test)]
-mod words;
+mod steps;
+#[cfg(test)]
+mod streams;
+#[cfg(test)]
+mod watching;

@@ -1,12 +1,12 @@
 //! Numbers that are drawn in order and completed in any.
 
-ghost use Rattle.std.specs.Prelude.{◌≡◌, ◌<◌, ◌≤◌, ◌∷◌, [], MatchOption};
+ghost use Rattle.std.specs.Prelude.{◌≡◌, ◌<◌, ◌≤◌, ◌∷◌, [], IfOk, MatchOption};
 ghost use Rattle.std.specs.VecDeque.{deque_capacity, deque_len};
 ghost use Rattle.write_queue.specs.Numbers.{Numbers};
 ghost use Rattle.write_queue.specs.Flights.{AreOut};
 
+use std::alloc::Global;
 use std::collections::VecDeque;
-use std::process::Abort;
 use std::test::Fail;
 use write_queue::{WriteEntry, WriteQueue};
 
@@ -51,28 +51,39 @@ fn begin_all(queue: &mut WriteQueue, out: &mut VecDeque<WriteEntry>)
     }
 }
 
-fn complete_all(rt: &impl Abort, queue: &mut WriteQueue, mut out: VecDeque<WriteEntry>)
+// whether all are completed, each giving the point that is looked up
+fn complete_all(queue: &mut WriteQueue, mut out: VecDeque<WriteEntry>) -> bool
     requires { AreOut queue.old.numbers out.items }
 {
     let mut done = [false; COUNT];
     let mut x = 1;
+    let mut all = true;
     while let Some(entry) = pick(&mut out, x) {
         if let Some(mark) = done.get_mut(entry.number().saturating_sub(1) as usize) {
             *mark = true;
         }
-        assert_eq!(rt; queue.complete(entry), point_of(&done) as u64);
+        all = queue.complete(entry) == point_of(&done) as u64 && all;
         x = next(x);
     }
     out.destroy_empty();
-    assert_eq!(rt; queue.read_point(), 200);
+    all && queue.read_point() == 200
+}
+
+// a queue with room for them; it is never dropped
+fn new_queue(alloc: Global) -> Result<&'static mut WriteQueue, Fail>
+    ensures numbers { IfOk result (λ queue. queue.now.numbers ≡ record { last = 0; done = [] }) }
+    ensures room { IfOk result (λ queue. COUNT ≤ queue.now.room) }
+{
+    let mut queue = WriteQueue::new(alloc, 0)?;
+    queue.reserve(COUNT)?;
+    Ok(Box::leak(Box::new(alloc, queue)?))
 }
 
 #[test]
 fn two_hundred_in_the_order_of_the_generator(rt: HostRuntime) -> Result<(), Fail> {
-    let mut queue = WriteQueue::new(rt.alloc(), 0)?;
-    queue.reserve(COUNT)?;
+    let queue = new_queue(rt.alloc())?;
     let mut out = VecDeque::with_capacity(rt.alloc(), COUNT)?;
-    begin_all(&mut queue, &mut out);
-    complete_all(&rt, &mut queue, out);
+    begin_all(queue, &mut out);
+    assert!(rt; complete_all(queue, out));
     Ok(())
 }

@@ -6,19 +6,22 @@ ghost use Rattle.disk_images.specs.Calls.{Rose};
 use disk_images::{Disk, Failed, Name, NameList, NamesError};
 use std::alloc::Global;
 
-/// One file, the size that it tells where that isn't its length, and how many calls looked at it. Other calls fail.
-#[derive(Drop)]
+/// The first bytes of one file, as many as stand in it, the size that it tells where that isn't their number, and how many calls
+/// looked at it. Other calls fail.
+#[derive(Clone, Copy)]
 pub(crate) struct OneFile {
-    bytes: Vec<u8>,
+    bytes: [u8; 107],
+    len: usize,
     pub(crate) size: Option<u64>,
     pub(crate) calls: u64,
     faults: u64,
 }
 
 impl OneFile {
-    pub(crate) fn of(bytes: Vec<u8>) -> OneFile {
+    pub(crate) fn of(bytes: [u8; 107], len: usize) -> OneFile {
         OneFile {
             bytes,
+            len,
             size: None,
             calls: 0,
             faults: 0,
@@ -51,14 +54,14 @@ impl Disk for OneFile {
 
     fn size(&mut self, _name: Name) -> Result<Option<u64>, Failed> {
         self.calls = self.calls.saturating_add(1);
-        Ok(Some(self.size.unwrap_or(self.bytes.len() as u64)))
+        Ok(Some(self.size.unwrap_or(self.len as u64)))
     }
 
     fn read(&mut self, _name: Name, at: u64, into: &mut [u8]) -> Result<usize, Failed> {
         self.calls = self.calls.saturating_add(1);
-        let at = (at as usize).min(self.bytes.len());
-        let n = into.len().min(self.bytes.len() - at);
-        into[..n].copy_from_slice(&self.bytes[at..at + n]);
+        let bytes = self.bytes.get(at as usize..self.len).unwrap_or(&[]);
+        let n = into.len().min(bytes.len());
+        into[..n].copy_from_slice(&bytes[..n]);
         Ok(n)
     }
 

@@ -3,7 +3,7 @@ use Rattle.write_queue.specs.Flights.{AreOut}
 use Rattle.low_trials.proofs.numbers.complete_all.Given as goal
 
 abbrev pub invariant-loop-entry : goal.invariant-loop-entry
-invariant-loop-entry g l = AreOut l.queue.numbers l.out.items
+invariant-loop-entry l = AreOut l.queue.numbers l.out.items
 
 abbrev pub decreases-loop-entry : goal.decreases-loop-entry
-decreases-loop-entry g l = deque_len l.out
+decreases-loop-entry l = deque_len l.out

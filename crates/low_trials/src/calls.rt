@@ -1,12 +1,13 @@
 // A run of disk calls that has each kind several times.
 
-ghost use Rattle.std.specs.Prelude.{◌<◌, length, OnOk};
+ghost use Rattle.std.specs.Prelude.{◌<◌, length, IfOk, OnOk};
 ghost use Rattle.log_model.specs.Files.{IsName};
 ghost use Rattle.disk_fakes.specs.Views.{view_of};
 
-use disk_fakes::MemDisk;
+use disk_fakes::{Fail, MemDisk};
 use disk_images::{Disk, Failed, Name, NameKind};
 use std::alloc::Global;
+use std::test::Fail as TestFail;
 
 // The three files of the run. The tables call them a, b and c.
 pub const A: Name = Name {
@@ -26,6 +27,13 @@ pub const C: Name = Name {
     region: 0,
     number: 1,
 };
+
+/// An empty disk whose calls of these kinds and numbers fail. It is never dropped: no trial shows how.
+pub fn disk_of(alloc: Global, fails: &[Fail]) -> Result<&'static mut MemDisk, TestFail>
+    ensures { IfOk result (λ disk. (m : _) → ¬ (view_of disk.now).gone m) }
+{
+    Ok(Box::leak(Box::new(alloc, MemDisk::new(alloc, fails)?)?))
+}
 
 fn names(disk: &mut MemDisk, alloc: Global) -> Result<(), Failed>
     ensures { (m : _) → ¬ (view_of disk.old).gone m → ¬ (view_of disk.new).gone m }
@@ -133,16 +141,31 @@ fn sync_both(disk: &mut MemDisk) -> Result<(), Failed>
     sync(disk, A)
 }
 
-/// The first one gets another name, and the second one goes: the moments 9 to 13.
+/// Both files are made durable: the moments 1 to 8.
+fn make_both(disk: &mut MemDisk, alloc: Global) -> Result<(), Failed>
+    requires { (m : _) → ¬ (view_of disk.old).gone m }
+    ensures { (m : _) → ¬ (view_of disk.new).gone m }
+{
+    make_first(disk, alloc)?;
+    make_second(disk)?;
+    sync_both(disk)
+}
+
+/// The first one gets another name: the moments 9 to 11.
 fn move_first(disk: &mut MemDisk, alloc: Global) -> Result<(), Failed>
     requires { (m : _) → ¬ (view_of disk.old).gone m }
-    ensures { OnOk result ((m : _) → ¬ (view_of disk.new).gone m) }
 {
     rename(disk, A, C)?;
     names(disk, alloc)?;
     read(disk, C)?;
     write(disk, C, 1, b"ef")?;
-    sync(disk, C)?;
+    sync(disk, C)
+}
+
+/// The second one goes, and both are settled: the moments 12 and 13.
+fn remove_second(disk: &mut MemDisk) -> Result<(), Failed>
+    ensures { OnOk result ((m : _) → ¬ (view_of disk.new).gone m) }
+{
     remove(disk, B)?;
     disk.size(B)?;
     disk.settle()
@@ -165,14 +188,20 @@ fn remove_both(disk: &mut MemDisk) -> Result<(), Failed> {
     disk.settle()
 }
 
+/// What comes behind the first two files: the moments 9 to 20.
+fn move_all(disk: &mut MemDisk, alloc: Global) -> Result<(), Failed>
+    requires { (m : _) → ¬ (view_of disk.old).gone m }
+{
+    move_first(disk, alloc)?;
+    remove_second(disk)?;
+    move_unsynced(disk)?;
+    remove_both(disk)
+}
+
 /// The whole run. It ends with the first call that fails.
 pub fn make_calls(disk: &mut MemDisk, alloc: Global) -> Result<(), Failed>
     requires { (m : _) → ¬ (view_of disk.old).gone m }
 {
-    make_first(disk, alloc)?;
-    make_second(disk)?;
-    sync_both(disk)?;
-    move_first(disk, alloc)?;
-    move_unsynced(disk)?;
-    remove_both(disk)
+    make_both(disk, alloc)?;
+    move_all(disk, alloc)
 }

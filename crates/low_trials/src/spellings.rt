@@ -5,7 +5,7 @@ use disk_folder::name_of;
 use std::test::*;
 
 /// A text, and the file that it names.
-const SPELLINGS: [(&str, Option<Its>); 14] = [
+const SPELLINGS: &[(&str, Option<Its>)] = &[
     ("log-1", Some(Log(1))),
     ("old-20", Some(Old(20))),
     ("store-3-12", Some(Store(3, 12))),
@@ -36,7 +36,7 @@ fn names(text: &str, file: Option<Its>) -> bool {
 
 #[test]
 fn spellings(rt: HostRuntime) {
-    for (text, file) in &SPELLINGS {
+    for (text, file) in SPELLINGS {
         assert!(rt; names(text, *file), "at {text}");
     }
 }

@@ -8,7 +8,7 @@ use std::sync::atomic::{AtomicU64, Ordering};
 use std::test::Fail;
 use std::thread;
 
-/// Makes a file durable on a disk that is watched, and then sets the word `done`.
+/// Makes a file durable on a disk that is watched, and then sets the word `done`. The disk is never dropped: no trial shows how.
 fn make_file(alloc: Global, seen: Arc<AtomicU64>, held: Arc<AtomicU64>, done: &AtomicU64) {
     let Ok(mem) = MemDisk::new(alloc, &[]) else {
         return;
@@ -18,8 +18,10 @@ fn make_file(alloc: Global, seen: Arc<AtomicU64>, held: Arc<AtomicU64>, done: &A
         region: 0,
         number: 1,
     };
-    let mut disk = WatchDisk::new(mem, seen, held);
-    if create_durably(&mut disk, name, b"hello").is_ok() {
+    let Ok(disk) = Box::new(alloc, WatchDisk::new(mem, seen, held)) else {
+        return;
+    };
+    if create_durably(Box::leak(disk), name, b"hello").is_ok() {
         done.store(1, Ordering::SeqCst);
     }
 }
@@ -44,17 +46,22 @@ fn hold(seen: &AtomicU64, held: &AtomicU64, done: &AtomicU64) -> (bool, bool) {
     (began, passed)
 }
 
+/// A word that is never dropped.
+fn word(alloc: Global, value: u64) -> Result<&'static Arc<AtomicU64>, Fail> {
+    let word = Arc::new(alloc, AtomicU64::new(value))?;
+    Ok(Box::leak(Box::new(alloc, word)?))
+}
+
 #[test]
 fn sync_is_held_back(rt: HostRuntime) -> Result<(), Fail> {
     let alloc = rt.alloc();
-    let seen = Arc::new(alloc, AtomicU64::new(0))?;
-    let held = Arc::new(alloc, AtomicU64::new(1))?;
+    let (seen, held) = (word(alloc, 0)?, word(alloc, 1)?);
     let done = AtomicU64::new(0);
-    let (its_seen, its_held) = (Arc::try_clone(&seen)?, Arc::try_clone(&held)?);
+    let (its_seen, its_held) = (Arc::try_clone(seen)?, Arc::try_clone(held)?);
     let ((), (began, passed)) = thread::join(
         &rt,
         || make_file(alloc, its_seen, its_held, &done),
-        || hold(&seen, &held, &done),
+        || hold(seen, held, &done),
     );
     let made = done.load(Ordering::SeqCst) == 1;
     assert!(rt; began && !passed && made, "{began} {passed} {made}");

@@ -55,7 +55,7 @@ fn one_program_writes(rt: HostRuntime) {
 }
 
 /// What is done in turn on the one disk and on the other.
-const APART: [(Step, Step); 6] = [
+const APART: &[(Step, Step)] = &[
     (Create(Log(1)), Create(Log(1))),
     (Write(Log(1), 0, b"one"), Write(Log(1), 0, b"two")),
     (Create(Old(2)), Lacks(Old(2))),
@@ -107,12 +107,12 @@ fn is_made_readable(rt: &HostRuntime) -> bool {
         && is_set_readable(rt)
 }
 
-const READ_ALONE: [(Step, bool); 1] = [(Has(Log(1), 0, b"here"), true)];
+const READ_ALONE: &[(Step, bool)] = &[(Has(Log(1), 0, b"here"), true)];
 
 #[test]
 fn reading_asks_for_no_write(rt: HostRuntime) {
     clear(&rt);
     assert!(rt; is_made_readable(&rt));
-    assert_none(&rt, first_wrong_of(&rt, Access::Writing, &READ_ALONE));
+    assert_none(&rt, first_wrong_of(&rt, Access::Writing, READ_ALONE));
     clear(&rt);
 }

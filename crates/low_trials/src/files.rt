@@ -12,7 +12,7 @@ use std::fs;
 use std::test::*;
 
 /// Each call, each failing too.
-const CALLS: [(Step, bool); 24] = [
+const CALLS: &[(Step, bool)] = &[
     (Settle, true),
     (Lacks(Log(1)), true),
     (Create(Edits(64, 5)), true),
@@ -42,12 +42,12 @@ const CALLS: [(Step, bool); 24] = [
 #[test]
 fn files_read_as_written(rt: HostRuntime) {
     clear(&rt);
-    assert_none(&rt, first_wrong_of(&rt, Access::Writing, &CALLS));
+    assert_none(&rt, first_wrong_of(&rt, Access::Writing, CALLS));
     clear(&rt);
 }
 
 /// Files made in one order are listed in another one.
-const IN_ORDER: [(Step, bool); 8] = [
+const IN_ORDER: &[(Step, bool)] = &[
     (Lists(&[]), true),
     (Create(Store(11, 2)), true),
     (Create(Log(10)), true),
@@ -71,12 +71,12 @@ const IN_ORDER: [(Step, bool); 8] = [
 #[test]
 fn names_are_in_order(rt: HostRuntime) {
     clear(&rt);
-    assert_none(&rt, first_wrong_of(&rt, Access::Writing, &IN_ORDER));
+    assert_none(&rt, first_wrong_of(&rt, Access::Writing, IN_ORDER));
     clear(&rt);
 }
 
 /// What is written about the end of a piece, and what stands at the end of the file.
-const END_OF_A_PIECE: [(Step, bool); 2] = [
+const END_OF_A_PIECE: &[(Step, bool)] = &[
     (Write(Log(1), 65_535, b"end of a piece"), true),
     (Has(Log(1), 69_998, b"\x07\x07"), true),
 ];
@@ -85,7 +85,7 @@ const END_OF_A_PIECE: [(Step, bool); 2] = [
 fn writes_large(disk: &mut Folder<'_>, alloc: Global, bytes: &[u8]) -> bool {
     done(disk, alloc, Create(Log(1)))
         && writes(disk, Log(1), 0, bytes)
-        && first_wrong(disk, alloc, &END_OF_A_PIECE).is_none()
+        && first_wrong(disk, alloc, END_OF_A_PIECE).is_none()
 }
 
 /// It is read whole.
@@ -105,8 +105,8 @@ fn keeps_large(rt: &HostRuntime, bytes: &mut [u8]) -> bool {
 #[test]
 fn large_files_are_read_in_pieces(rt: HostRuntime) -> Result<(), Fail> {
     clear(&rt);
-    let mut bytes = vec![in rt.alloc(); 7; 70_000]?;
-    assert!(rt; keeps_large(&rt, &mut bytes));
+    let bytes: &'static mut [u8] = vec![in rt.alloc(); 7; 70_000]?.leak();
+    assert!(rt; keeps_large(&rt, bytes));
     clear(&rt);
     Ok(())
 }
@@ -148,7 +148,7 @@ fn more_files_than_stay_open(rt: HostRuntime) {
 }
 
 /// Files whose names are no store's.
-const OTHERS: [&str; 7] = [
+const OTHERS: &[&str] = &[
     "hwal-store/log-01",
     "hwal-store/log-",
     "hwal-store/log-1 ",
@@ -160,7 +160,7 @@ const OTHERS: [&str; 7] = [
 
 /// Makes them.
 fn makes_others(rt: &HostRuntime) -> bool {
-    for name in &OTHERS {
+    for name in OTHERS {
         if fs::write(rt, *name, b"").is_err() {
             return false;
         }
@@ -176,7 +176,7 @@ fn makes_one_and_others(rt: &HostRuntime) -> bool {
         && fs::write(rt, "hwal-store/edits-64-5", b"here").is_ok()
 }
 
-const ONE_IS_SEEN: [(Step, bool); 3] = [
+const ONE_IS_SEEN: &[(Step, bool)] = &[
     (Lists(&[Edits(64, 5)]), true),
     (Lacks(Log(1)), true),
     (Has(Edits(64, 5), 1, b"ere"), true),
@@ -186,6 +186,6 @@ const ONE_IS_SEEN: [(Step, bool); 3] = [
 fn other_files_are_not_seen(rt: HostRuntime) {
     clear(&rt);
     assert!(rt; makes_one_and_others(&rt));
-    assert_none(&rt, first_wrong_of(&rt, Access::Reading, &ONE_IS_SEEN));
+    assert_none(&rt, first_wrong_of(&rt, Access::Reading, ONE_IS_SEEN));
     clear(&rt);
 }

@@ -2,16 +2,15 @@
 
 ghost use Rattle.disk_fakes.specs.Views.{view_of};
 
-use crate::calls::{A, B, C, make_calls};
+use crate::calls::{A, B, C, disk_of, make_calls};
 use disk_fakes::{CallKind, Fail, MemDisk};
 use disk_images::Name;
 use std::alloc::Global;
-use std::process::Abort;
 use std::test::Fail as TestFail;
 
 // What a crash at each moment may leave, as folders parted by |. A folder has the files that are there, each with its
 // name and its bytes: ? is any byte, + is any byte or none.
-const IMAGES: [&str; 21] = [
+const IMAGES: &[&str] = &[
     "",
     "|a:",
     "|a:++++",
@@ -38,7 +37,7 @@ const IMAGES: [&str; 21] = [
 // The calls of the run: the place, the kind, which of this kind it is, and the clock and the folders that may be read
 // where it failed. A failed create, rename or remove was made or not, and a failed write leaves any bytes; it makes a
 // moment, and other failed calls make none.
-const CALLS: [(u64, CallKind, u64, u64, &str); 26] = [
+const CALLS: &[(u64, CallKind, u64, u64, &str)] = &[
     (1, CallKind::Names, 1, 0, ""),
     (2, CallKind::Size, 1, 0, ""),
     (3, CallKind::Create, 1, 0, "|a:"),
@@ -67,7 +66,7 @@ const CALLS: [(u64, CallKind, u64, u64, &str); 26] = [
     (26, CallKind::Settle, 3, 19, ""),
 ];
 
-const KINDS: [CallKind; 9] = [
+const KINDS: &[CallKind] = &[
     CallKind::Names,
     CallKind::Size,
     CallKind::Read,
@@ -119,29 +118,37 @@ fn reads_as(disk: &MemDisk, folders: &str) -> bool {
     false
 }
 
-/// Whether a crash at this moment, by this choice, leaves one of the folders.
-fn is_image(disk: &MemDisk, alloc: Global, moment: u64, choice: u64, folders: &str) -> bool {
+/// What a crash at this moment leaves, by this choice. It is never dropped: no trial shows how.
+fn image_of(
+    disk: &MemDisk,
+    alloc: Global,
+    moment: u64,
+    choice: u64,
+) -> Option<&'static mut MemDisk> {
     if moment > disk.clock() {
-        return false;
+        return None;
     }
-    match disk.crash(alloc, moment, choice) {
-        Ok(image) => reads_as(&image, folders),
-        Err(_) => false,
+    let image = disk.crash(alloc, moment, choice).ok()?;
+    Some(Box::leak(Box::new(alloc, image).ok()?))
+}
+
+/// Whether a crash at this moment leaves one of the folders, by each of four choices.
+fn are_images(disk: &MemDisk, alloc: Global, moment: u64, folders: &str) -> bool {
+    for choice in 0..4 {
+        match image_of(disk, alloc, moment, choice) {
+            Some(image) if reads_as(image, folders) => {}
+            _ => return false,
+        }
     }
+    true
 }
 
 /// Whether a crash at each moment so far leaves one of its folders.
 fn leaves_images(disk: &MemDisk, alloc: Global) -> bool {
     let mut all = true;
-    for (moment, folders) in IMAGES.into_iter().enumerate() {
+    for (moment, folders) in IMAGES.iter().enumerate() {
         let moment = moment as u64;
-        if moment <= disk.clock() {
-            all = all
-                && is_image(disk, alloc, moment, 0, folders)
-                && is_image(disk, alloc, moment, 1, folders)
-                && is_image(disk, alloc, moment, 2, folders)
-                && is_image(disk, alloc, moment, 3, folders);
-        }
+        all = all && (moment > disk.clock() || are_images(disk, alloc, moment, folders));
     }
     all
 }
@@ -150,7 +157,7 @@ fn leaves_images(disk: &MemDisk, alloc: Global) -> bool {
 fn all_calls(disk: &MemDisk) -> u64 {
     let mut sum: u64 = 0;
     for kind in KINDS {
-        sum = sum.saturating_add(disk.calls(kind));
+        sum = sum.saturating_add(disk.calls(*kind));
     }
     sum
 }
@@ -184,18 +191,16 @@ fn ends_with(
 fn each_call_fails_in_turn(rt: HostRuntime) -> Result<(), TestFail> {
     let alloc = rt.alloc();
     for (place, call, nth, clock, folders) in CALLS {
-        let mut disk = MemDisk::new(alloc, &[Fail { call, nth }])?;
-        assert!(rt;
-            ends_with(&mut disk, alloc, place, call, nth, clock, folders),
-            "{place}"
-        );
+        let (call, nth) = (*call, *nth);
+        let disk = disk_of(alloc, &[Fail { call, nth }])?;
+        assert!(rt; ends_with(disk, alloc, *place, call, nth, *clock, folders), "{place}");
     }
     Ok(())
 }
 
 // What a crash leaves by one choice: 0 all that was done, 1 nothing that may be lost, 2 each write torn, of which every second
 // byte has each bit turned over: 0x9D is the letter b so, 0x9B the letter d.
-const EXACT: [(u64, u64, Name, Option<&[u8]>); 17] = [
+const EXACT: &[(u64, u64, Name, Option<&[u8]>)] = &[
     (0, 0, A, None),
     (1, 0, A, Some(b"")),
     (1, 1, A, None),
@@ -225,12 +230,9 @@ fn leaves(
     name: Name,
     bytes: Option<&[u8]>,
 ) -> bool {
-    if moment > disk.clock() {
-        return false;
-    }
-    match disk.crash(alloc, moment, choice) {
-        Ok(image) => image.bytes(name) == bytes,
-        Err(_) => false,
+    match image_of(disk, alloc, moment, choice) {
+        Some(image) => image.bytes(name) == bytes,
+        None => false,
     }
 }
 
@@ -246,22 +248,15 @@ fn is_cut_short(disk: &MemDisk, alloc: Global) -> bool {
     is_cut
 }
 
-/// Asserts what a crash leaves by each choice that is looked at.
-fn assert_exact<R: Abort>(rt: &R, disk: &MemDisk, alloc: Global) {
-    for (moment, choice, name, bytes) in EXACT {
-        assert!(rt;
-            leaves(disk, alloc, moment, choice, name, bytes),
-            "moment {moment} choice {choice}"
-        );
-    }
-}
-
 #[test]
 fn no_call_fails(rt: HostRuntime) -> Result<(), TestFail> {
     let alloc = rt.alloc();
-    let mut disk = MemDisk::new(alloc, &[])?;
-    let made = make_calls(&mut disk, alloc).is_ok();
-    assert!(rt; made && is_left(&disk, alloc, 26, 20, "") && is_cut_short(&disk, alloc));
-    assert_exact(&rt, &disk, alloc);
+    let disk = disk_of(alloc, &[])?;
+    let made = make_calls(disk, alloc).is_ok();
+    assert!(rt; made && is_left(disk, alloc, 26, 20, "") && is_cut_short(disk, alloc));
+    for (moment, choice, name, bytes) in EXACT {
+        let is_so = leaves(disk, alloc, *moment, *choice, *name, *bytes);
+        assert!(rt; is_so, "moment {moment} choice {choice}");
+    }
     Ok(())
 }

@@ -51,7 +51,7 @@ pub(crate) fn is_kept(region: &Replayed, kept: Kept) -> bool {
 }
 
 /// Whether each of the 64 regions has the edits that are wanted.
-fn have_edits(replayed: &[Replayed], regions: &[Kept]) -> bool {
+pub(crate) fn have_edits(replayed: &[Replayed], regions: &[Kept]) -> bool {
     for (i, region) in replayed.iter().enumerate() {
         if !has_edits(region, kept_at(regions, i).edits) {
             return false;
