@@ -100,8 +100,8 @@ returns-in-Ok-clause-calls g c =
     let names : ℕ → Naming = named g.N1.ServerNaming.name g.N2.ServerNaming.name g.N3.ServerNaming.name g.N4.ServerNaming.name in
     keeps_calls c.args.self.now.count names c.args.time c.args.number (call_of c.args.call) (answer_of c.of_get.result) (known c.args.pass.now) (known c.scan-cells.new.pass) (returns-in-Ok-clause-does g c) c.requires.number
 
-pub returns-in-Err-clause-does : goal.returns-in-Err-clause-does
-returns-in-Err-clause-does g c =
+pub returns-in-Get-clause-does : goal.returns-in-Get-clause-does
+returns-in-Get-clause-does g c =
     let names : ℕ → Naming = named g.N1.ServerNaming.name g.N2.ServerNaming.name g.N3.ServerNaming.name g.N4.ServerNaming.name in
     let are = subst (λ (s : Servers). AreServers s.count s.second s.third s.fourth) c.self.view_is c.self.invariant in
     let k = group_of c.args.self.now.count c.in-Get.region in
@@ -154,19 +154,19 @@ returns-in-Flush-clause-calls g c =
 pub roll-requires-clause-handler : goal.roll-requires-clause-handler
 roll-requires-clause-handler g c = c.requires.call.numbered
 
-pub returns-in-Roll-clause-does : goal.returns-in-Roll-clause-does
-returns-in-Roll-clause-does g c =
+pub returns-clause-does : goal.returns-clause-does
+returns-clause-does g c =
     let names : ℕ → Naming = named g.N1.ServerNaming.name g.N2.ServerNaming.name g.N3.ServerNaming.name g.N4.ServerNaming.name in
     let are = subst (λ (s : Servers). AreServers s.count s.second s.third s.fourth) c.self.view_is c.self.invariant in
     serves c.args.self.now are c.args.pass.now c.requires.of names c.args.time c.args.number c.args.call Roll (ap call_of c.in-Roll.is)
     (answer_of c.of_roll.result) (roll_answer c.roll.result) c.of_roll.ensures.answer (known c.roll.new.pass) (group_of c.args.self.now.count (known c.args.pass.now 1).handler) refl c.roll.ensures.rolls c.roll.ensures.elsewhere
 
-pub returns-in-Roll-clause-handler : goal.returns-in-Roll-clause-handler
-returns-in-Roll-clause-handler g c =
+pub returns-clause-handler : goal.returns-clause-handler
+returns-clause-handler g c =
     let names : ℕ → Naming = named g.N1.ServerNaming.name g.N2.ServerNaming.name g.N3.ServerNaming.name g.N4.ServerNaming.name in
-    keeps_handler c.args.self.now.count names c.args.time c.args.number (call_of c.args.call) (answer_of c.of_roll.result) (known c.args.pass.now) (known c.roll.new.pass) (returns-in-Roll-clause-does g c) 1
+    keeps_handler c.args.self.now.count names c.args.time c.args.number (call_of c.args.call) (answer_of c.of_roll.result) (known c.args.pass.now) (known c.roll.new.pass) (returns-clause-does g c) 1
 
-pub returns-in-Roll-clause-calls : goal.returns-in-Roll-clause-calls
-returns-in-Roll-clause-calls g c =
+pub returns-clause-calls : goal.returns-clause-calls
+returns-clause-calls g c =
     let names : ℕ → Naming = named g.N1.ServerNaming.name g.N2.ServerNaming.name g.N3.ServerNaming.name g.N4.ServerNaming.name in
-    keeps_calls c.args.self.now.count names c.args.time c.args.number (call_of c.args.call) (answer_of c.of_roll.result) (known c.args.pass.now) (known c.roll.new.pass) (returns-in-Roll-clause-does g c) c.requires.number
+    keeps_calls c.args.self.now.count names c.args.time c.args.number (call_of c.args.call) (answer_of c.of_roll.result) (known c.args.pass.now) (known c.roll.new.pass) (returns-clause-does g c) c.requires.number
