@@ -1,20 +1,14 @@
 //! Trials of whole calls on disks in memory: faults of each disk call, crashes and stops at each moment, handlers that are held, and many
-//! scripts whose reports are judged. What fixed scripts print stands in the rows. A library of tests alone, at the top, so that no crate
-//! waits for it.
+//! scripts all of whose puts are found again. What fixed scripts print stands in the rows. A library of tests alone, at the top, so that no
+//! crate waits for it.
 #![tactic(auto)]
 
 #[cfg(test)]
 mod bench;
 #[cfg(test)]
-mod checked;
-#[cfg(test)]
-mod faults;
-#[cfg(test)]
 mod gates;
 #[cfg(test)]
 mod held;
-#[cfg(test)]
-mod journals;
 #[cfg(test)]
 mod log_stops;
 #[cfg(test)]

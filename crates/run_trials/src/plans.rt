@@ -5,7 +5,7 @@ use std::fmt::Write;
 use std::test::Fail as TestFail;
 
 #[derive(Clone, Copy, PartialEq, Eq)]
-pub(crate) enum Kind {
+enum Kind {
     SyncPut,
     AsyncPut,
     Scan,
@@ -19,25 +19,11 @@ pub(crate) enum Kind {
 /// 1, of g, which no cell has, where it is 2, and else of all.
 #[derive(Clone, Copy)]
 pub(crate) struct Step {
-    pub(crate) handler: u64,
-    pub(crate) call: u64,
-    pub(crate) region: u64,
-    pub(crate) row: u64,
-    pub(crate) kind: Kind,
-}
-
-impl Step {
-    pub(crate) fn is_put(&self) -> bool {
-        self.kind == Kind::SyncPut || self.kind == Kind::AsyncPut
-    }
-
-    /// Whether this scan or get is of the row.
-    pub(crate) fn is_of_row(&self, row: u64) -> bool {
-        if self.kind == Kind::Get {
-            return row == self.row;
-        }
-        self.row == 0 || row == 1 || row == 2
-    }
+    handler: u64,
+    call: u64,
+    region: u64,
+    row: u64,
+    kind: Kind,
 }
 
 /// How a script is made: how many handlers on how many regions, and how many calls each.
@@ -50,7 +36,7 @@ pub(crate) struct Plan {
 }
 
 /// The rows of cells.
-pub(crate) const ROWS: u64 = 4;
+const ROWS: u64 = 4;
 
 /// The next of numbers that follow one another by a rule, and look like none: from 0 to 2^31-1.
 fn next(state: &mut u64) -> u64 {
@@ -140,6 +126,18 @@ fn write_steps(text: &mut String, steps: &[Step]) -> Result<(), AllocError> {
         write_step(text, *step)?;
     }
     Ok(())
+}
+
+/// How many calls are puts into a region.
+pub(crate) fn count_puts(steps: &[Step], region: u64) -> u64 {
+    let mut count: u64 = 0;
+    for step in steps {
+        let is_put = matches!(step.kind, Kind::SyncPut | Kind::AsyncPut);
+        if is_put && step.region == region {
+            count = count.wrapping_add(1);
+        }
+    }
+    count
 }
 
 /// The text of a script.

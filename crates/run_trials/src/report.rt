@@ -52,3 +52,14 @@ pub(crate) fn has_recovered(text: &str, region: u64, count: u64) -> bool {
     }
     count == 0
 }
+
+/// How many calls are answered.
+pub(crate) fn count_replies(report: &str) -> usize {
+    let mut count: usize = 0;
+    for line in report.lines() {
+        if line.starts_with("reply ") {
+            count = count.wrapping_add(1);
+        }
+    }
+    count
+}
