@@ -16,18 +16,6 @@ use std::thread::Threads;
 /// The disk of each call, so that a call is built once.
 pub(crate) type HeldDisk = WatchDisk<MemDisk>;
 
-pub(crate) const LOG_1: Name = Name {
-    kind: NameKind::Log,
-    region: 0,
-    number: 1,
-};
-
-pub(crate) const EDITS_1_2: Name = Name {
-    kind: NameKind::Edits,
-    region: 1,
-    number: 2,
-};
-
 /// What is left of a call: its status, the disk, and what it printed.
 #[derive(Clone, Copy)]
 pub(crate) struct Ended {

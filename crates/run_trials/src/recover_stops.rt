@@ -1,11 +1,23 @@
 //! A second opening, behind one that was stopped, is stopped at each moment.
 
-use crate::bench::{EDITS_1_2, LOG_1, add_file, crash_at, empty_disk, expect, recover};
+use crate::bench::{add_file, crash_at, empty_disk, expect, recover};
 use disk_fakes::MemDisk;
-use disk_images::Disk;
+use disk_images::{Disk, Name, NameKind};
 use load_run::Status;
 use std::alloc::Global;
 use std::test::Fail as TestFail;
+
+const LOG_1: Name = Name {
+    kind: NameKind::Log,
+    region: 0,
+    number: 1,
+};
+
+const EDITS_1_2: Name = Name {
+    kind: NameKind::Edits,
+    region: 1,
+    number: 2,
+};
 
 /// A log of version 1, which is read and written no more, with an entry of region 1 and one of region 2, both of number 1: a put of one
 /// cell.
@@ -18,7 +30,7 @@ const LOG_OF_BOTH: &[u8] = &[
 ];
 
 /// The edits of region 1 of that log, in a file of version 2 and number 2.
-pub(crate) const EDITS_OF_ONE: &[u8] = &[
+const EDITS_OF_ONE: &[u8] = &[
     b'H', b'W', b'L', b'1', 0, 0, 0, 2, 0, 0, 0, 0, 0, 0, 0, 2, 0xA5, 1, 0, 0, 0, 0x30, 0, 0, 0, 1,
     0, 0, 0, 0, 0, 0, 0, 1, 0, 0, 0, 0, 0, 0, 3, 0xE8, 0, 0, 0, 1, 0, 0, 0, 0x0F, 0, 0, 0, 1, 0, 1,
     b'r', 1, b'f', b'q', 0, 0, 0, 0, 0, 0, 0, 1, 4, b'v', 0,

@@ -1,13 +1,13 @@
 //! A server whose close may be refused memory.
 
-use crate::bench::expect;
-use crate::refused::bench::{Given, prepare};
+use crate::refused::bench::{Recovery, empty_disk};
 use command_base::read_script;
 use disk_fakes::{SafeDisk, SafeSource};
+use kv_cell::NoMemory;
 use load_run::Gate;
 use load_run::run_command::{Ran, carry_out};
 use script_text::Command;
-use std::mem::forget;
+use std::alloc::Global;
 use std::process::Abort;
 use std::sync::Wait;
 use std::sync::atomic::{AtomicU64, Ordering};
@@ -64,6 +64,24 @@ impl Gate for CountingGate {
     fn logged<R: Wait>(&self, _rt: &R, _handler: u32, _call: u32) {}
 }
 
+/// What a trial takes before it begins, beside its disk.
+#[derive(Drop)]
+struct Given {
+    source: SafeSource,
+    recovery: Recovery,
+}
+
+fn prepare(alloc: Global) -> Result<(SafeDisk, Given), NoMemory> {
+    let disk = empty_disk(alloc)?;
+    Ok((
+        disk,
+        Given {
+            source: SafeSource::new(alloc, SCRIPT.as_bytes())?,
+            recovery: Recovery::new(alloc)?,
+        },
+    ))
+}
+
 /// The disk of a server that was refused memory for its close: the handler made all its calls, and no server was closed. It
 /// is None where one was, or where memory was refused before.
 fn refused_close<R: Threads + Wait + Sync + AllocGlobal>(
@@ -108,21 +126,20 @@ fn close_and_recover<R: Threads + Wait + Sync + AllocGlobal + Abort + Print>(
     disk: SafeDisk,
     given: &mut Given,
 ) -> Result<(), TestFail> {
-    let Some(disk) = refused_close(rt, disk, &mut given.ran.source) else {
+    let Some(disk) = refused_close(rt, disk, &mut given.source) else {
         return Ok(());
     };
-    let (ends, disk) = given.recover(rt, disk);
-    forget(disk);
+    let ends = given.recovery.recover(rt, disk).0;
     println!(rt; "the close was refused")?;
-    let found = given.found(rt, ends);
-    expect(rt, is_among(&FOUND, found), found);
+    let found = given.recovery.text(rt, ends)?;
+    assert!(rt; is_among(&FOUND, found), "{found}");
     Ok(())
 }
 
 // Where the trial itself wants memory, there is nothing to look at.
 #[test]
 fn close_without_memory(rt: HostRuntime) -> Result<(), TestFail> {
-    let Some((disk, mut given)) = prepare(rt.alloc(), SCRIPT) else {
+    let Ok((disk, mut given)) = prepare(rt.alloc()) else {
         return Ok(());
     };
     close_and_recover(&rt, disk, &mut given)
