@@ -84,7 +84,9 @@ fn main(rt: HostRuntime) -> ExitCode {
         }
         words => {
             let disk = FolderDisk::new(&rt, alloc, access_of(words));
-            run(&rt, alloc, words, &mut script, disk, &mut out, &FreeGate).status.number()
+            run(&rt, alloc, words, &mut script, disk, &mut out, &FreeGate)
+                .status
+                .number()
         }
     };
     ExitCode::from(number)

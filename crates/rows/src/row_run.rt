@@ -75,11 +75,7 @@ fn with_files(below: Vec<StoredFile>, above: &[StoredFile]) -> Result<Vec<Stored
     Ok(files)
 }
 
-fn tell_form(
-    alloc: Global,
-    told: &mut Vec<Difference>,
-    fault: RowFault,
-) -> Result<(), AllocError> {
+fn tell_form(alloc: Global, told: &mut Vec<Difference>, fault: RowFault) -> Result<(), AllocError> {
     let (line, reason) = (fault.line, fault.fault);
     let what = format!(in alloc; "form: {reason}")?;
     told.push(Difference { line, what })?;

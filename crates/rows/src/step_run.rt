@@ -4,9 +4,7 @@ use crate::disk::{disk_with, files_of};
 use crate::error::RowsError;
 use disk_fakes::{Fail, MemDisk, MemSink, MemSource};
 use load_run::{FreeGate, Outcome, run};
-use row_files::{
-    Difference, FallibleCall, Found, PlannedFail, Step, StoredFile, add_differences,
-};
+use row_files::{Difference, FallibleCall, Found, PlannedFail, Step, StoredFile, add_differences};
 use std::alloc::{AllocError, Global};
 use std::sync::Wait;
 use std::thread::Threads;
