@@ -31,8 +31,7 @@ pub(crate) const TWO_REGIONS: [RegionBase; 2] = [
 
 /// What a start answers. Neither the device nor the refusal is ever dropped, so that no exit of a trial writes out how: no trial
 /// shows that.
-pub(crate) type Started =
-    Result<&'static mut Bench<MemDisk>, &'static mut DeviceRefusal<MemDisk>>;
+pub(crate) type Started = Result<&'static mut Bench<MemDisk>, &'static mut DeviceRefusal<MemDisk>>;
 
 /// A device with regions 1 and 2 on an empty disk whose calls of these kinds and numbers fail, or why there is none.
 pub(crate) fn start(alloc: Global, fails: &[Fail]) -> Result<Started, TestFail> {

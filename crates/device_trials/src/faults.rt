@@ -86,7 +86,10 @@ fn mark(bench: &Bench<MemDisk>, staged: u64) -> Mark {
     Mark {
         clock: bench.device.disk().clock(),
         staged,
-        synced: bench.device.synced(1).saturating_add(bench.device.synced(2)),
+        synced: bench
+            .device
+            .synced(1)
+            .saturating_add(bench.device.synced(2)),
     }
 }
 

@@ -34,7 +34,10 @@ fn is_put(region: u32, number: u64, cell: &Cell) -> bool {
 fn are_puts(replayed: &[Replayed]) -> bool {
     for (region, found) in (1..65).zip(replayed) {
         let rows = found.base.cells.rows();
-        if !rows.iter().all(|row| is_put(region, row.number(), row.cell())) {
+        if !rows
+            .iter()
+            .all(|row| is_put(region, row.number(), row.cell()))
+        {
             return false;
         }
     }

@@ -20,7 +20,13 @@ pub const LOG: Name = Name {
 
 /// Stages the put of a person's name as edit `number` of region 1, at time 1000. `LogFile::stage` asks for bytes that spell an
 /// entry of this file, and `encode_entry` promises such bytes: proofs/log/stage_name has the three lines that bring the two together.
-pub fn stage_name(alloc: Global, log: &mut LogFile, number: u64, row: &[u8], name: &[u8]) -> Result<()>
+pub fn stage_name(
+    alloc: Global,
+    log: &mut LogFile,
+    number: u64,
+    row: &[u8],
+    name: &[u8],
+) -> Result<()>
     requires region { log.old.name.region ≡ 0 }
     requires first { 1 ≤ number }
     requires last { number < 2 ^ 48 }

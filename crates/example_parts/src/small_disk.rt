@@ -13,7 +13,13 @@ pub fn print_full_disk(rt: &HostRuntime) -> Result<()> {
     let mut log = LogFile::begin(alloc, &mut disk, LOG)?;
     stage_name(alloc, &mut log, 1, b"user1", b"Ann")?;
     log.commit(&mut disk)?;
-    stage_name(alloc, &mut log, 2, b"user2", b"a name for which there is no room")?;
+    stage_name(
+        alloc,
+        &mut log,
+        2,
+        b"user2",
+        b"a name for which there is no room",
+    )?;
     // After a fault the file is read again, and not used any more.
     match log.commit(&mut disk) {
         Ok(_) => println!(rt; "edit 2 is durable")?,

@@ -43,8 +43,10 @@ fn fill(alloc: Global, chains: &mut Chains) -> Result<(), Fail> {
 /// Keeps what isn't flushed of the first region, which is all, and tells how many cells that are. The accounting is never
 /// dropped: no trial shows how.
 fn keep_first(alloc: Global, chains: &mut Chains) -> Result<usize, Fail> {
-    let accounting: &'static mut Accounting =
-        Box::leak(Box::new(alloc, Accounting::new(alloc, &[])?)?);
+    let accounting: &'static mut Accounting = Box::leak(Box::new(
+        alloc,
+        Accounting::new(alloc, &[])?,
+    )?);
     chains.keep_unflushed(accounting, 1);
     Ok(chains.cells(alloc, accounting, 1, &[])?.len())
 }

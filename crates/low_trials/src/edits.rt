@@ -49,10 +49,7 @@ fn put(alloc: Global, state: &mut RegionState, call: u32, row: &[u8]) -> Result<
 const EDITS: u32 = 20_000;
 
 /// A version, which is still held when the next one is made.
-fn version_of(
-    alloc: Global,
-    state: &mut RegionState,
-) -> Result<&'static Arc<Version, Global>, Fail>
+fn version_of(alloc: Global, state: &mut RegionState) -> Result<&'static Arc<Version, Global>, Fail>
     ensures same { OnOk result ((state.new.lines ≡ state.old.lines) × (write_point state.new ≡ write_point state.old)) }
 {
     let version = state.next_version(alloc)?;

@@ -193,7 +193,10 @@ fn each_call_fails_in_turn(rt: HostRuntime) -> Result<(), TestFail> {
     for (place, call, nth, clock, folders) in CALLS {
         let (call, nth) = (*call, *nth);
         let disk = disk_of(alloc, &[Fail { call, nth }])?;
-        assert!(rt; ends_with(disk, alloc, *place, call, nth, *clock, folders), "{place}");
+        assert!(rt;
+            ends_with(disk, alloc, *place, call, nth, *clock, folders),
+            "{place}"
+        );
     }
     Ok(())
 }

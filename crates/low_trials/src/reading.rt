@@ -175,7 +175,10 @@ const DAMAGED: &[(&[Change], u8, u64)] = &[
 fn assert_damaged(rt: &impl Abort, alloc: Global, file: &[u8], cases: &[(&[Change], u8, u64)]) {
     for (changes, len, at) in cases {
         let found = read(alloc, disk_of(file, changes, *len as usize));
-        assert!(rt; found == Err(ReadRefusal::Damaged { at: *at }), "{len} {at}");
+        assert!(rt;
+            found == Err(ReadRefusal::Damaged { at: *at }),
+            "{len} {at}"
+        );
     }
 }
 
@@ -187,6 +190,7 @@ fn damage_is_told_at_its_first_place(rt: HostRuntime) {
 
 /// Where the fields and the pairs of `HWS1` begin, and those of `HWS2`.
 const FORMER_FIELDS: &[u64] = &[1, 5, 9, 17, 25, 33, 65];
+
 const FIELDS: &[u64] = &[1, 5, 9, 10, 11, 12, 20, 28, 36, 72];
 
 /// The last of these places that isn't behind this one.
