@@ -167,10 +167,10 @@ const FILL: &[Row] = &[
     (Step::Put(WAITING), LAST - FULL, 1),
 ];
 
-/// Rolls meanwhile. A roll moves items until the ring was empty at one moment, or 1,024 were moved. Here the ring has as many when it begins,
-/// and never fewer before it has moved them: so it leaves what is pushed meanwhile.
+/// Rolls once the commit is done, while the other one pushes. A roll moves items until the ring was empty at one moment, or 1,024 were moved.
+/// Here the ring has as many when it begins, and never fewer before it has moved them: so it leaves what is pushed meanwhile.
 const ROLL_FULL: &[Row] = &[
-    (Step::Give(Sign::Came(2, PATIENCE)), 1, 2),
+    (Step::Give(Sign::Came(3, PATIENCE)), 1, 3),
     (Step::Take(Turn::Roll), 1, FULL),
 ];
 
