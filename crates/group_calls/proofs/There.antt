@@ -1,8 +1,8 @@
 -- Which groups' servers are there.
 use Rattle.std.proofs.Common.{◌≡◌, ◌≢◌, ℕ, ◌≤◌, Option, None, ap, arith}
 use Rattle.group_servers.specs.log_service.Places.{ServiceId}
-use Rattle.group_servers.specs.Lists.{counted}
-use Rattle.group_servers.proofs.Each.{some_count, count_second, count_third, count_fourth}
+use Rattle.group_servers.specs.group_lists.Lists.{counted}
+use Rattle.group_servers.proofs.group_lists_laws.Each.{some_count, count_second, count_third, count_fourth}
 use Rattle.group_calls.specs.Servers.{Servers, AreServers}
 
 -- as many servers as are counted

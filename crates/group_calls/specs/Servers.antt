@@ -1,7 +1,7 @@
 -- Which servers there are.
 use Rattle.std.specs.Prelude.{◌≡◌, ◌≢◌, ℕ, zero, suc, ◌≤◌, Option, Some, None}
 use Rattle.group_servers.specs.log_service.Places.{ServiceId}
-use Rattle.group_servers.specs.Lists.{counted}
+use Rattle.group_servers.specs.group_lists.Lists.{counted}
 
 -- so many groups, and the id of each one's server
 pub record Servers : Type 0 where

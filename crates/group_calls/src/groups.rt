@@ -1,7 +1,7 @@
 //! Several servers, each with a disk and a log of its own.
 
 ghost use Rattle.std.specs.Prelude.{◌≡◌, ◌≤◌};
-ghost use Rattle.group_servers.specs.Lists.{counted};
+ghost use Rattle.group_servers.specs.group_lists.Lists.{counted};
 ghost use Rattle.groups_model.specs.Groups.{group_of};
 
 use disk_images::Disk;

@@ -5,7 +5,7 @@ use Rattle.disk_images.specs.Calls.{Rose}
 use Rattle.log_model.specs.declared.damage.Damage.{Damage}
 use Rattle.handler_threads.specs.region_calls.declared.refusal.StartWhy.{StartWhy}
 use Rattle.handler_threads.specs.region_calls.declared.refusal.StartWhy.TheVariants as starts
-use Rattle.group_servers.specs.Lists.{AtBoth, OfBoth}
+use Rattle.group_lists.specs.Lists.{AtBoth, OfBoth}
 use Rattle.group_servers.specs.Refusals.{GoesOn, IsNotWrong, Tells}
 use Rattle.group_servers.proofs.Disks.{rose_since}
 use Rattle.group_servers.specs.declared.recovering.FoundStore.{FoundStore}

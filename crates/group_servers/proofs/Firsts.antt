@@ -1,10 +1,10 @@
 -- The first of the groups' stores that has something of another group's region.
 use Rattle.std.proofs.Common.{◌≡◌, ℕ, zero, suc, ◌<◌, ◌≤◌, Option, Some, None, IfSome, IfNone, refl, subst, arith}
-use Rattle.group_servers.specs.declared.lists.GroupList.{GroupList}
+use Rattle.group_lists.specs.declared.lists.GroupList.{GroupList}
 use Rattle.group_servers.specs.declared.recovering.FoundStore.{FoundStore}
 use Rattle.group_servers.specs.Checking.{AreClear, AllAreClear, IsFirstIn, IsWrongIn}
-use Rattle.group_servers.specs.Lists.{at_group}
-use Rattle.group_servers.proofs.Each.{each_of, some_is}
+use Rattle.group_lists.specs.Lists.{at_group}
+use Rattle.group_lists.proofs.Each.{each_of, some_is}
 
 pub if_some_weaker : {A : Type 0} (P Q : A → Type 0) (r : Option A) → ((x : A) → P x → Q x) → IfSome r P → IfSome r Q
 if_some_weaker P Q None then is = tt

@@ -1,7 +1,6 @@
+pub use Rattle.group_lists.proofs as group_lists_laws
 pub use Rattle.handler_threads.proofs.region_calls_laws as region_calls_laws
 pub use Rattle.handler_threads.proofs as handler_threads_laws
-pub mod Picking
-pub mod Each
 pub mod Disks
 pub mod Recovers
 pub mod Looking

@@ -2,12 +2,12 @@
 use Rattle.std.proofs.Common.{◌≡◌, ℕ, zero, suc, Option, Some, None, subst, arith, IsTrue}
 use Rattle.disk_images.specs.declared.disk.Disk.{Ghosts}
 use Rattle.log_model.specs.Files.{IsSound}
-use Rattle.group_servers.specs.declared.lists.GroupList.{GroupList}
+use Rattle.group_lists.specs.declared.lists.GroupList.{GroupList}
 use Rattle.group_servers.specs.declared.recovering.FoundStore.{FoundStore}
-use Rattle.group_servers.specs.Lists.{at_group, AtBoth, AtEach}
+use Rattle.group_lists.specs.Lists.{at_group, AtBoth, AtEach}
 use Rattle.group_servers.specs.Recovering.{IsFoundAs, IsRecovered}
 use Rattle.group_servers.specs.Refusals.{AreSoundBelow}
-use Rattle.group_servers.proofs.Each.{partner, follower, some_is}
+use Rattle.group_lists.proofs.Each.{partner, follower, some_is}
 
 module _ {D : Type 0} (g : Ghosts D) where
   -- one that was recovered was

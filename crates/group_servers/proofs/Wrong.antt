@@ -1,15 +1,15 @@
 -- What was found of other groups' regions, told of the disks like they were found.
 use Rattle.std.proofs.Common.{◌≡◌, ℕ, Some, subst, arith, IsTrue}
 use Rattle.disk_images.specs.declared.disk.Disk.{Ghosts}
-use Rattle.group_servers.specs.declared.lists.GroupList.{GroupList}
+use Rattle.group_lists.specs.declared.lists.GroupList.{GroupList}
 use Rattle.group_servers.specs.declared.recovering.FoundStore.{FoundStore}
 use Rattle.group_servers.specs.Checking.{AreClear, AllHave64, IsFirstIn}
 use Rattle.group_servers.specs.declared.refusal.GroupsWhy.TheVariants as whys
-use Rattle.group_servers.specs.Lists.{count_of, at_group, AtEach}
+use Rattle.group_lists.specs.Lists.{count_of, at_group, AtEach}
 use Rattle.group_servers.specs.Recovering.{IsFoundAs, IsRecovered}
 use Rattle.group_servers.specs.Refusals.{AreRefused, HasNoOthers, IsFirstWrong, IsWrong, Tells}
 use Rattle.group_servers.proofs.Disks.{clear_below, wrong_there}
-use Rattle.group_servers.proofs.Each.{partner, follower, of_both}
+use Rattle.group_lists.proofs.Each.{partner, follower, of_both}
 use Rattle.group_servers.proofs.Sound.{all_sound}
 
 module _ {D : Type 0} (g : Ghosts D) (stores : GroupList (FoundStore D)) (found mid : GroupList D) where

@@ -8,11 +8,11 @@ use Rattle.handler_threads.specs.region_calls.declared.store.OpenedStore.{Opened
 use Rattle.handler_threads.specs.region_calls.Store.{IsStore, disk_now, disk_found, regions_of, handlers_of}
 use Rattle.group_servers.specs.declared.beginning.Unbegun.{Unbegun}
 use Rattle.group_servers.specs.declared.recovering.FoundStore.{FoundStore}
-use Rattle.group_servers.specs.declared.lists.GroupList.{GroupList}
+use Rattle.group_lists.specs.declared.lists.GroupList.{GroupList}
 use Rattle.group_servers.specs.declared.refusal.GroupsWhy.{GroupsWhy}
 use Rattle.group_servers.specs.declared.refusal.GroupsWhy.TheVariants as whys
 use Rattle.group_servers.specs.declared.refusal.GroupsRefusal.{GroupsRefusal}
-use Rattle.group_servers.specs.Lists.{mapped}
+use Rattle.group_lists.specs.Lists.{mapped}
 use Rattle.group_servers.specs.Refusals.{GoesOn, IsNotWrong, Tells}
 
 abbrev pub why_start : StartWhy → GroupsWhy

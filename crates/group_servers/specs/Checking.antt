@@ -2,9 +2,9 @@
 use Rattle.std.specs.Prelude.{◌≡◌, ◌≢◌, ℕ, ◌+◌, ◌-◌, ◌<◌, ◌≤◌, List, length, Some, slice_get}
 use Rattle.groups_model.specs.Groups.{group_of}
 use Rattle.region_replay.specs.Ready.{Found}
-use Rattle.group_servers.specs.declared.lists.GroupList.{GroupList}
+use Rattle.group_lists.specs.declared.lists.GroupList.{GroupList}
 use Rattle.group_servers.specs.declared.recovering.FoundStore.{FoundStore}
-use Rattle.group_servers.specs.Lists.{at_group}
+use Rattle.group_lists.specs.Lists.{at_group}
 
 -- of the first so many regions none of another group has a sequence id
 abbrev pub AreClear : ℕ → ℕ → List Found → ℕ → Type 0

@@ -10,10 +10,10 @@ use Rattle.wal_split.specs.Moments.{During, WasOrAlike}
 use Rattle.found_files.specs.declared.refusal.SplitRefusal.{SplitRefusal}
 use Rattle.found_files.specs.declared.refusal.SplitRefusal.TheVariants as splits
 use Rattle.groups_model.specs.Groups.{group_of}
-use Rattle.group_servers.specs.declared.lists.GroupList.{GroupList}
+use Rattle.group_lists.specs.declared.lists.GroupList.{GroupList}
 use Rattle.group_servers.specs.declared.refusal.GroupsWhy.{GroupsWhy}
 use Rattle.group_servers.specs.declared.refusal.GroupsWhy.TheVariants as whys
-use Rattle.group_servers.specs.Lists.{count_of, at_group, OfBoth}
+use Rattle.group_lists.specs.Lists.{count_of, at_group, OfBoth}
 
 abbrev pub why_split : SplitRefusal → GroupsWhy
 why_split splits.Memory = whys.Memory

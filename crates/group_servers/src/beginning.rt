@@ -4,14 +4,14 @@ ghost use Rattle.std.specs.Prelude.{◌≡◌, ◌≤◌, Some, IfOk, IfErr};
 ghost use Rattle.std.specs.Option.{option_map};
 ghost use Rattle.handler_threads.specs.region_calls.Store.{disk_now};
 ghost use Rattle.group_servers.specs.Beginning.{IsOpenedFrom, IsUnbegunFrom, HasGoneOn, TellsFrom, disks_left, why_start};
-ghost use Rattle.group_servers.specs.Lists.{AtBoth, AtEach, OfBoth, at_group};
+ghost use Rattle.group_lists.specs.Lists.{AtBoth, AtEach, OfBoth, at_group};
 ghost use Rattle.group_servers.specs.Recovering.{IsRecovered};
 ghost use Rattle.group_servers.specs.Refusals.{IsNotWrong};
 
-use crate::lists::GroupList;
 use crate::recovering::FoundStore;
 use crate::refusal::{GroupsRefusal, GroupsWhy};
 use disk_images::Disk;
+use group_lists::GroupList;
 use handler_threads::region_calls::{OpenedStore, StartRefusal, StartWhy, begin_recovered};
 use std::alloc::Global;
 

@@ -4,9 +4,8 @@ ghost use Rattle.std.specs.Prelude.{◌≡◌, ◌≤◌, ◌<◌, length, IsTru
 ghost use Rattle.group_servers.specs.Checking.{AreClear, IsWrongIn, IsFirstIn, AllAreClear, AllHave64};
 ghost use Rattle.group_servers.specs.declared.recovering.FoundStore.{FoundStore as TheStore};
 
-use crate::group::group_in;
-use crate::lists::GroupList;
 use crate::recovering::FoundStore;
+use group_lists::{GroupList, group_in};
 use region_replay::Replayed;
 
 /// A region on the disk of another group.

@@ -3,7 +3,7 @@
 ghost use Rattle.std.specs.Prelude.{◌≡◌, [], length, IfSome};
 ghost use Rattle.handler_threads.specs.log_service.Places.{ServiceId};
 ghost use Rattle.handler_threads.specs.region_calls.Deals.{passes_out, passes_back, ArePassesOf};
-ghost use Rattle.group_servers.specs.Lists.{AtBoth};
+ghost use Rattle.group_lists.specs.Lists.{AtBoth};
 ghost use Rattle.group_servers.specs.Starting.{AreUnused, HasLetGo, IsNew};
 
 use disk_images::Disk;

@@ -1,16 +1,13 @@
 //! One group's server, and what is done with it where there is one: its store is recovered and looked at, a log is begun on it, it is named and
 //! started, it is called, its passes and seats are handed out, and it is closed. Several groups' servers are put together of these, with a value for
-//! each group in a list; and of the groups' lists of regions the one list in which each region is its own group's.
+//! each group in a list.
 #![tactic(auto)]
 
 mod at;
 mod beginning;
 mod checking;
-mod choosing;
 mod dealing;
-mod group;
 mod letting;
-mod lists;
 mod recovering;
 mod refusal;
 mod shutting;
@@ -22,13 +19,11 @@ pub use at::{
     roll_at, scan_at,
 };
 pub use beginning::{begin_each, disk_at};
-pub use choosing::choose;
 pub use dealing::{next_at, next_seat_at, put_back_at, put_seat_back_at};
-pub use group::group_in;
+pub use group_lists::{GroupList, choose, group_in};
 pub use handler_threads;
 pub use handler_threads::region_calls;
 pub use letting::{let_go, let_go_at};
-pub use lists::GroupList;
 pub use recovering::{FoundStore, StoresRefusal};
 pub use refusal::{GroupsRefusal, GroupsWhy};
 pub use shutting::{ServerEnd, close_at, close_one};

@@ -1,13 +1,13 @@
 //! Each group's store is recovered.
 
 ghost use Rattle.std.specs.Prelude.{◌≡◌, ℕ, IsTrue, IfOk, IfErr};
-ghost use Rattle.group_servers.specs.Lists.{AtBoth, AtEach, OfBoth, at_group};
+ghost use Rattle.group_lists.specs.Lists.{AtBoth, AtEach, OfBoth, at_group};
 ghost use Rattle.group_servers.specs.Recovering.{IsRecovered, IsFoundAs};
 ghost use Rattle.group_servers.specs.Refusals.{GoesOn, Tells, IsNotWrong, AreSoundBelow};
 
-use crate::lists::GroupList;
 use crate::refusal::{GroupsWhy, split_why};
 use disk_images::Disk;
+use group_lists::GroupList;
 use region_replay::{Recovered, recover_all};
 use std::alloc::Global;
 use std::snapshot::Snapshot;

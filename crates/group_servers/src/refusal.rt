@@ -3,8 +3,8 @@
 ghost use Rattle.std.specs.Prelude.{◌≡◌};
 ghost use Rattle.group_servers.specs.Refusals.{why_split};
 
-use crate::lists::GroupList;
 use found_files::SplitRefusal;
+use group_lists::GroupList;
 use log_model::Damage;
 
 /// Why groups aren't opened.

@@ -3,7 +3,7 @@
 ghost use Rattle.std.specs.Prelude.{◌≡◌, Some, IfOk, IfErr, IfSome};
 ghost use Rattle.std.specs.Option.{option_map};
 ghost use Rattle.handler_threads.specs.region_calls.Store.{disk_now};
-ghost use Rattle.group_servers.specs.Lists.{AtBoth};
+ghost use Rattle.group_lists.specs.Lists.{AtBoth};
 ghost use Rattle.group_servers.specs.Starting.{IsNamedAt, IsNew, HasRegionsOf};
 
 use disk_images::Disk;

@@ -1,15 +1,15 @@
 //! The stores of groups are recovered and looked at.
 
 ghost use Rattle.std.specs.Prelude.{◌≡◌, IsTrue, IfOk, IfErr, OnOk};
-ghost use Rattle.group_servers.specs.Lists.{AtEach};
+ghost use Rattle.group_lists.specs.Lists.{AtEach};
 ghost use Rattle.group_servers.specs.Recovering.{IsRecovered, IsFoundAs};
 ghost use Rattle.group_servers.specs.Refusals.{GoesOn, HaveNoOthers, AreRefused};
 
 use crate::checking::first_wrong;
-use crate::lists::GroupList;
 use crate::recovering::{FoundStore, StoresRefusal, recover_each};
 use crate::refusal::GroupsWhy;
 use disk_images::Disk;
+use group_lists::GroupList;
 use std::alloc::Global;
 
 /// Recovers the stores on these disks, one after the other, and then looks whether one has something of another group's region: of group 1's disk,

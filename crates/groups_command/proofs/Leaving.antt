@@ -22,11 +22,11 @@ use Rattle.command_base.proofs.Endings.{rose_from}
 use Rattle.run_command.proofs.Leaving.{all_named}
 use Rattle.groups_run.proofs.script_run_laws.Elapsed.{opened_throughout}
 use Rattle.groups_model.specs.Groups.{IsGroup}
-use Rattle.groups_run.specs.group_servers.declared.lists.GroupList.{GroupList}
+use Rattle.groups_run.specs.group_servers.group_lists.declared.lists.GroupList.{GroupList}
 use Rattle.groups_run.specs.group_servers.declared.refusal.GroupsWhy.{GroupsWhy}
 use Rattle.groups_run.specs.group_servers.declared.refusal.GroupsWhy.TheVariants as whys
-use Rattle.groups_run.specs.group_servers.Lists.{at_group, count_of, AtBoth, AtEach}
-use Rattle.groups_run.proofs.group_servers_laws.Each.{partner}
+use Rattle.groups_run.specs.group_servers.group_lists.Lists.{at_group, count_of, AtBoth, AtEach}
+use Rattle.groups_run.proofs.group_servers_laws.group_lists_laws.Each.{partner}
 use Rattle.groups_run.specs.group_servers.Refusals.{AreRefused, GoesOn, HaveNoOthers as NoneHasOthers, IsWrong, Tells}
 use Rattle.groups_run.specs.group_servers.Beginning.{IsOpened}
 use Rattle.groups_run.specs.group_servers.Starting.{IsNamedBy, IsNamedAt}

@@ -1,9 +1,9 @@
 -- Values of groups by their number.
 use Rattle.std.proofs.Common.{◌≡◌, ◌≢◌, ℕ, zero, suc, ◌≤◌, Option, Some, None, refl, sym, ap, subst, arith}
 use Rattle.groups_model.specs.Groups.{IsGroup}
-use Rattle.groups_run.specs.group_servers.declared.lists.GroupList.{GroupList}
-use Rattle.groups_run.specs.group_servers.Lists.{counted, count_of, at_group, AtBoth, OfBoth, AtEach}
-use Rattle.groups_run.proofs.group_servers_laws.Each.{each_of, count_within, count_second, count_third, count_fourth}
+use Rattle.groups_run.specs.group_servers.group_lists.declared.lists.GroupList.{GroupList}
+use Rattle.groups_run.specs.group_servers.group_lists.Lists.{counted, count_of, at_group, AtBoth, OfBoth, AtEach}
+use Rattle.groups_run.proofs.group_servers_laws.group_lists_laws.Each.{each_of, count_within, count_second, count_third, count_fourth}
 use Rattle.groups_run.specs.Found.{or_that, value_of}
 use Rattle.groups_command.specs.Disks.{InARow, AreInARow}
 

@@ -7,7 +7,7 @@ use Rattle.script_model.specs.Calls.{Script}
 use Rattle.run_model.specs.Headline.{KeepsFound, IsHalfOpened}
 use Rattle.run_command.specs.recover_command.Recovered.{IsStoreDamage}
 use Rattle.groups_model.specs.Groups.{IsGroup}
-use Rattle.groups_run.specs.group_servers.declared.lists.GroupList.{GroupList}
+use Rattle.groups_run.specs.group_servers.group_lists.declared.lists.GroupList.{GroupList}
 use Rattle.groups_run.specs.group_servers.declared.refusal.GroupsWhy.{GroupsWhy}
 use Rattle.groups_run.specs.group_servers.declared.refusal.GroupsWhy.TheVariants as whys
 use Rattle.groups_run.specs.Found.{views}

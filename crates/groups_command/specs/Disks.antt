@@ -6,8 +6,8 @@ use Rattle.log_model.specs.Files.{IsSound}
 use Rattle.disk_images.specs.Crash.{DiskView}
 use Rattle.disk_images.specs.Calls.{Rose}
 use Rattle.groups_model.specs.Groups.{IsGroup}
-use Rattle.groups_run.specs.group_servers.declared.lists.GroupList.{GroupList}
-use Rattle.groups_run.specs.group_servers.Lists.{count_of}
+use Rattle.groups_run.specs.group_servers.group_lists.declared.lists.GroupList.{GroupList}
+use Rattle.groups_run.specs.group_servers.group_lists.Lists.{count_of}
 use Rattle.groups_run.specs.group_servers.Refusals.{HasNoOthers, IsWrong}
 use Rattle.groups_run.specs.Found.{value_of}
 

@@ -4,7 +4,7 @@ ghost use Rattle.std.specs.Prelude.{◌≡◌, ◌≤◌, ℕ, IsTrue};
 ghost use Rattle.script_model.specs.Calls.{IsScript};
 ghost use Rattle.run_model.specs.Headline.{KeepsThroughout};
 ghost use Rattle.groups_model.specs.Groups.{IsGroup};
-ghost use Rattle.groups_run.specs.group_servers.Lists.{count_of};
+ghost use Rattle.groups_run.specs.group_servers.group_lists.Lists.{count_of};
 ghost use Rattle.groups_run.specs.Found.{value_of, views};
 ghost use Rattle.groups_command.specs.Disks.{AreInARow, OfEach};
 ghost use Rattle.groups_command.specs.Carried.{disks_of, HaveRan, HaveRanCause};

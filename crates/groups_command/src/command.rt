@@ -12,7 +12,7 @@ ghost use Rattle.command_base.specs.Prints.{Prints};
 ghost use Rattle.run_model.specs.Headline.{KeepsThroughout};
 ghost use Rattle.run_command.specs.recover_command.Recovered.{IsStoreDamage};
 ghost use Rattle.groups_model.specs.Groups.{IsGroup};
-ghost use Rattle.groups_run.specs.group_servers.Lists.{count_of};
+ghost use Rattle.groups_run.specs.group_servers.group_lists.Lists.{count_of};
 ghost use Rattle.groups_run.specs.Found.{value_of, views};
 ghost use Rattle.groups_command.specs.Disks.{AreInARow, OfEach, SomeRose, AreSound, HaveNoOthers, IsFirstDamaged, IsFirstWrong};
 ghost use Rattle.groups_command.specs.Ends.{groups_invocation, EndsGroups, GroupsEnd};

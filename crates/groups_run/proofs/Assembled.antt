@@ -20,9 +20,9 @@ use Rattle.region_versions.specs.declared.naming.VersionsNaming.{Ghosts as Versi
 use Rattle.groups_model.specs.Groups.{IsGroup, asked_on}
 use Rattle.groups_model.specs.Closed.{GroupHandled, all_replies, handled_on, AreClosed}
 use Rattle.groups_model.proofs.Parts.{calls_on, replies_joined}
-use Rattle.group_calls.specs.group_servers.declared.lists.GroupList.{GroupList}
-use Rattle.group_calls.specs.group_servers.Choosing.{AreChosen as AreChosenOf}
-use Rattle.group_calls.specs.group_servers.Lists.{AtEach, at_group, count_of, counted, mapped}
+use Rattle.group_calls.specs.group_servers.group_lists.declared.lists.GroupList.{GroupList}
+use Rattle.group_calls.specs.group_servers.group_lists.Choosing.{AreChosen as AreChosenOf}
+use Rattle.group_calls.specs.group_servers.group_lists.Lists.{AtEach, at_group, count_of, counted, mapped}
 use Rattle.group_calls.specs.group_servers.declared.shutting.ServerEnd.{ServerEnd}
 use Rattle.group_calls.specs.group_servers.Starting.{HasRegionsOf, IsNamedAt, IsNamedBy}
 use Rattle.groups_run.specs.Closing.{is_broken, regions_in}

@@ -14,9 +14,9 @@ use Rattle.script_run.specs.Ends.{closed_at}
 use Rattle.groups_model.specs.Groups.{group_of, IsGroup}
 use Rattle.groups_model.specs.Closed.{AreChosen}
 use Rattle.groups_model.proofs.Parts.{group_there}
-use Rattle.group_calls.specs.group_servers.declared.lists.GroupList.{GroupList}
-use Rattle.group_calls.specs.group_servers.Choosing.{AreChosen as AreChosenOf, items_at}
-use Rattle.group_calls.specs.group_servers.Lists.{at_group}
+use Rattle.group_calls.specs.group_servers.group_lists.declared.lists.GroupList.{GroupList}
+use Rattle.group_calls.specs.group_servers.group_lists.Choosing.{AreChosen as AreChosenOf, items_at}
+use Rattle.group_calls.specs.group_servers.group_lists.Lists.{at_group}
 use Rattle.groups_run.proofs.Closes.{at_map}
 
 abbrev pub items_of : Option (Option (Vec ClosedRegion)) → List ClosedRegion

@@ -15,8 +15,8 @@ use Rattle.group_calls.specs.region_calls.Deals.{passes_back}
 use Rattle.group_calls.specs.region_lock.declared.naming.LockNaming.{Ghosts as LockGhosts}
 use Rattle.region_versions.specs.declared.naming.VersionsNaming.{Ghosts as VersionGhosts}
 use Rattle.server_model.specs.Pass.{Pass as ThePass}
-use Rattle.group_calls.specs.group_servers.declared.lists.GroupList.{GroupList}
-use Rattle.group_calls.specs.group_servers.Choosing.{AreAsMany}
+use Rattle.group_calls.specs.group_servers.group_lists.declared.lists.GroupList.{GroupList}
+use Rattle.group_calls.specs.group_servers.group_lists.Choosing.{AreAsMany}
 use Rattle.group_calls.specs.group_servers.declared.shutting.ServerEnd.{ServerEnd}
 use Rattle.group_calls.specs.group_servers.Closing.{EndsSo, HasEndedAt}
 use Rattle.group_calls.specs.group_servers.Dealing.{AreBackAt}

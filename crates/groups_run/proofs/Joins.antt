@@ -2,9 +2,9 @@
 use Rattle.std.proofs.Common.{◌≡◌, ℕ, Option, Some, None, IfSome, IfNone, length, option_map, refl, sym, subst}
 use Rattle.std.specs.Global.{Vec}
 use Rattle.group_calls.specs.region_calls.declared.closed.ClosedRegion.{ClosedRegion}
-use Rattle.group_calls.specs.group_servers.declared.lists.GroupList.{GroupList}
-use Rattle.group_calls.specs.group_servers.Choosing.{AreAsMany, AreChosen}
-use Rattle.group_calls.specs.group_servers.Lists.{at_group}
+use Rattle.group_calls.specs.group_servers.group_lists.declared.lists.GroupList.{GroupList}
+use Rattle.group_calls.specs.group_servers.group_lists.Choosing.{AreAsMany, AreChosen}
+use Rattle.group_calls.specs.group_servers.group_lists.Lists.{at_group}
 use Rattle.group_calls.specs.group_servers.declared.shutting.ServerEnd.{ServerEnd}
 use Rattle.groups_run.specs.Closing.{regions_in}
 

@@ -19,8 +19,8 @@ use Rattle.group_calls.specs.region_calls.Store.{disk_now, disk_found, regions_o
 use Rattle.group_calls.specs.region_lock.declared.naming.LockNaming.{Ghosts as LockGhosts}
 use Rattle.region_versions.specs.declared.naming.VersionsNaming.{Ghosts as VersionGhosts}
 use Rattle.script_run.specs.Ends.{closed_at}
-use Rattle.group_calls.specs.group_servers.declared.lists.GroupList.{GroupList}
-use Rattle.group_calls.specs.group_servers.Lists.{AtBoth, AtEach, counted, count_of}
+use Rattle.group_calls.specs.group_servers.group_lists.declared.lists.GroupList.{GroupList}
+use Rattle.group_calls.specs.group_servers.group_lists.Lists.{AtBoth, AtEach, counted, count_of}
 use Rattle.group_calls.specs.group_servers.declared.shutting.ServerEnd.{ServerEnd}
 use Rattle.group_calls.specs.group_servers.Closing.{EndsSo, HasEnded}
 use Rattle.group_calls.specs.group_servers.Starting.{HasLetGo, HasLetGoAt, IsNamedAt, IsNamedBy}

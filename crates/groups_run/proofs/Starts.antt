@@ -11,7 +11,7 @@ use Rattle.group_calls.specs.region_calls.declared.store.OpenedStore.{OpenedStor
 use Rattle.group_calls.specs.region_calls.Store.{disk_now, handlers_of}
 use Rattle.group_calls.specs.region_lock.declared.naming.LockNaming.{Ghosts as LockGhosts}
 use Rattle.region_versions.specs.declared.naming.VersionsNaming.{Ghosts as VersionGhosts}
-use Rattle.group_calls.specs.group_servers.Lists.{AtBoth}
+use Rattle.group_calls.specs.group_servers.group_lists.Lists.{AtBoth}
 use Rattle.group_calls.specs.group_servers.Dealing.{ArePassesAt, IsEvenAt}
 use Rattle.group_calls.specs.group_servers.Helping.{AreSeatsAt}
 use Rattle.group_calls.specs.group_servers.Starting.{IsNamedAt, IsNewAt, HasLetGo, HasLetGoAt}

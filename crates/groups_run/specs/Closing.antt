@@ -3,9 +3,9 @@ use Rattle.std.specs.Prelude.{◌≡◌, ℕ, Bool, false, ◌||◌, Option, Som
 use Rattle.std.specs.Global.{Vec}
 use Rattle.group_calls.specs.region_calls.declared.closed.ClosedRegion.{ClosedRegion}
 use Rattle.server_model.specs.Pass.{Naming}
-use Rattle.group_calls.specs.group_servers.declared.lists.GroupList.{GroupList}
-use Rattle.group_calls.specs.group_servers.Choosing.{AreChosen}
-use Rattle.group_calls.specs.group_servers.Lists.{at_group, mapped}
+use Rattle.group_calls.specs.group_servers.group_lists.declared.lists.GroupList.{GroupList}
+use Rattle.group_calls.specs.group_servers.group_lists.Choosing.{AreChosen}
+use Rattle.group_calls.specs.group_servers.group_lists.Lists.{at_group, mapped}
 use Rattle.group_calls.specs.group_servers.declared.shutting.ServerEnd.{ServerEnd}
 use Rattle.groups_run.specs.declared.closing.GroupsClosed.{GroupsClosed}
 use Rattle.group_calls.specs.Servers.{Servers}

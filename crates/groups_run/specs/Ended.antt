@@ -9,7 +9,7 @@ use Rattle.group_calls.specs.region_lock.declared.naming.LockNaming.{Ghosts as L
 use Rattle.region_versions.specs.declared.naming.VersionsNaming.{Ghosts as VersionGhosts}
 use Rattle.run_model.specs.Spent.{first_spent}
 use Rattle.groups_model.specs.Closed.{GroupHandled, all_replies}
-use Rattle.group_calls.specs.group_servers.declared.lists.GroupList.{GroupList}
+use Rattle.group_calls.specs.group_servers.group_lists.declared.lists.GroupList.{GroupList}
 use Rattle.group_calls.specs.group_servers.declared.shutting.ServerEnd.{ServerEnd}
 use Rattle.group_calls.specs.group_servers.Closing.{HasEnded}
 use Rattle.groups_run.specs.Closing.{IsJoined}

@@ -15,8 +15,8 @@ use Rattle.group_calls.specs.region_calls.Store.{disk_now}
 use Rattle.script_run.specs.Ends.{closed_at}
 use Rattle.groups_model.specs.Groups.{IsGroup}
 use Rattle.groups_model.specs.Closed.{GroupHandled, all_replies, AreClosed, AreChosen}
-use Rattle.group_calls.specs.group_servers.declared.lists.GroupList.{GroupList}
-use Rattle.group_calls.specs.group_servers.Lists.{at_group}
+use Rattle.group_calls.specs.group_servers.group_lists.declared.lists.GroupList.{GroupList}
+use Rattle.group_calls.specs.group_servers.group_lists.Lists.{at_group}
 use Rattle.groups_run.specs.Found.{value_of, views}
 use Rattle.groups_run.specs.declared.served.GroupsServed.{GroupsServed}
 use Rattle.groups_run.specs.declared.served.GroupsServed.TheVariants as served

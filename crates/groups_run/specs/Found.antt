@@ -6,8 +6,8 @@ use Rattle.disk_images.specs.declared.disk.Disk.{Ghosts}
 use Rattle.group_calls.specs.group_servers.wal_split.Moments.{During, WasOrAlike}
 use Rattle.group_calls.specs.region_calls.declared.store.OpenedStore.{OpenedStore}
 use Rattle.group_calls.specs.region_calls.Store.{disk_now, disk_found}
-use Rattle.group_calls.specs.group_servers.declared.lists.GroupList.{GroupList}
-use Rattle.group_calls.specs.group_servers.Lists.{at_group}
+use Rattle.group_calls.specs.group_servers.group_lists.declared.lists.GroupList.{GroupList}
+use Rattle.group_calls.specs.group_servers.group_lists.Lists.{at_group}
 
 abbrev pub or_that : {A : Type 0} → A → Option A → A
 or_that x None = x

@@ -8,8 +8,8 @@ use Rattle.group_calls.specs.region_calls.declared.store.OpenedStore.{OpenedStor
 use Rattle.group_calls.specs.region_calls.Store.{disk_now, regions_of, handlers_of}
 use Rattle.group_calls.specs.region_lock.declared.naming.LockNaming.{Ghosts as LockGhosts}
 use Rattle.region_versions.specs.declared.naming.VersionsNaming.{Ghosts as VersionGhosts}
-use Rattle.group_calls.specs.group_servers.declared.lists.GroupList.{GroupList}
-use Rattle.group_calls.specs.group_servers.Lists.{AtBoth, count_of}
+use Rattle.group_calls.specs.group_servers.group_lists.declared.lists.GroupList.{GroupList}
+use Rattle.group_calls.specs.group_servers.group_lists.Lists.{AtBoth, count_of}
 use Rattle.group_calls.specs.group_servers.Starting.{HasRegionsOf, HasLetGo, HasLetGoAt}
 use Rattle.group_calls.specs.Servers.{Servers}
 

@@ -3,8 +3,8 @@
 ghost use Rattle.std.specs.Prelude.{◌≡◌, ◌≤◌, ◌||◌, IfSome, length};
 ghost use Rattle.std.specs.Option.{option_map};
 ghost use Rattle.group_calls.specs.region_calls.Deals.{passes_back};
-ghost use Rattle.group_calls.specs.group_servers.Choosing.{AreAsMany};
-ghost use Rattle.group_calls.specs.group_servers.declared.lists.GroupList.{GroupList as TheList};
+ghost use Rattle.group_calls.specs.group_servers.group_lists.Choosing.{AreAsMany};
+ghost use Rattle.group_calls.specs.group_servers.group_lists.declared.lists.GroupList.{GroupList as TheList};
 ghost use Rattle.group_calls.specs.group_servers.Closing.{HasEnded, HasEndedAt};
 ghost use Rattle.group_calls.specs.group_servers.declared.shutting.ServerEnd.{ServerEnd as TheEnd};
 ghost use Rattle.groups_run.specs.Closing.{HaveSameRegions, IsJoined, is_broken, regions_in};

@@ -2,7 +2,7 @@
 
 ghost use Rattle.std.specs.Prelude.{◌≡◌, ◌≤◌, IsTrue, IfOk, IfErr, OnOk};
 ghost use Rattle.group_calls.specs.group_servers.Beginning.{IsOpened, disks_left};
-ghost use Rattle.group_calls.specs.group_servers.Lists.{AtEach, count_of};
+ghost use Rattle.group_calls.specs.group_servers.group_lists.Lists.{AtEach, count_of};
 ghost use Rattle.group_calls.specs.group_servers.Refusals.{GoesOn, HaveNoOthers, AreRefused};
 
 use disk_images::Disk;

@@ -1,7 +1,7 @@
 //! The stores of groups 2 to 4 become servers, where they are there.
 
 ghost use Rattle.std.specs.Prelude.{◌≡◌, ◌≢◌, ◌<◌, None, IfOk, IfErr, IfSome};
-ghost use Rattle.group_calls.specs.group_servers.Lists.{AtBoth, at_group};
+ghost use Rattle.group_calls.specs.group_servers.group_lists.Lists.{AtBoth, at_group};
 ghost use Rattle.group_calls.specs.group_servers.Starting.{HasRegionsOf, IsNamedAt, IsNew};
 ghost use Rattle.groups_run.specs.Starting.{HeldOrLetGoAt};
 ghost use Rattle.group_calls.specs.region_calls.declared.store.OpenedStore.{OpenedStore as TheStore};

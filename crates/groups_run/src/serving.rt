@@ -7,7 +7,7 @@ ghost use Rattle.run_model.specs.Headline.{KeepsThroughout};
 ghost use Rattle.group_calls.specs.region_calls.Store.{disk_now, regions_of, handlers_of};
 ghost use Rattle.script_run.specs.Rooms.{AreRooms, script_in};
 ghost use Rattle.groups_model.specs.Groups.{IsGroup};
-ghost use Rattle.group_calls.specs.group_servers.Lists.{count_of, mapped};
+ghost use Rattle.group_calls.specs.group_servers.group_lists.Lists.{count_of, mapped};
 ghost use Rattle.group_calls.specs.group_servers.Starting.{IsNamedBy, IsNamedAt};
 ghost use Rattle.group_calls.specs.Passes.{named};
 ghost use Rattle.groups_run.specs.Starting.{AreAlike};

@@ -2,7 +2,7 @@
 
 ghost use Rattle.std.specs.Prelude.{◌≡◌, ◌≢◌, None, IfOk, IfErr, IfSome};
 ghost use Rattle.std.specs.Option.{option_map};
-ghost use Rattle.group_calls.specs.group_servers.Lists.{at_group, counted};
+ghost use Rattle.group_calls.specs.group_servers.group_lists.Lists.{at_group, counted};
 ghost use Rattle.group_calls.specs.group_servers.Starting.{IsNamedBy, IsNamedAt, IsNew};
 ghost use Rattle.groups_run.specs.Dealing.{AreGroupPassesOf, NoneIsOut};
 ghost use Rattle.groups_run.specs.Helpers.{AreHelpersOf, AreTwoEach};

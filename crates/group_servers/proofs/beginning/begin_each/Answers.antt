@@ -1,6 +1,6 @@
 use Rattle.handler_threads.specs.region_calls.Store.{disk_now}
 use Rattle.group_servers.specs.Recovering.{IsRecovered}
-use Rattle.group_servers.proofs.Each.{both_weaker}
+use Rattle.group_lists.proofs.Each.{both_weaker}
 use Rattle.group_servers.specs.Beginning.{HasGoneOn, IsOpenedFrom, IsUnbegunFrom, TellsFrom}
 use Rattle.group_servers.proofs.Begins.{at_some, gone_to, of_mapped, of_right, of_weaker}
 use Rattle.group_servers.proofs.beginning.begin_each.Goals as goal

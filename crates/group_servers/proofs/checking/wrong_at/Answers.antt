@@ -1,7 +1,7 @@
 use Rattle.std.proofs.Common.{◌≡◌, ℕ, Some, sym, subst, ◌∙◌}
 use Rattle.group_servers.specs.declared.recovering.FoundStore.{FoundStore}
 use Rattle.group_servers.specs.Checking.{AreClear, IsWrongIn}
-use Rattle.group_servers.proofs.Each.{some_is}
+use Rattle.group_lists.proofs.Each.{some_is}
 use Rattle.group_servers.proofs.Firsts.{if_none_weaker, if_some_weaker}
 use Rattle.group_servers.proofs.checking.wrong_at.Goals as goal
 

@@ -1,6 +1,6 @@
 use Rattle.group_servers.specs.Refusals.{GoesOn}
 use Rattle.group_servers.proofs.Disks.{went_nowhere}
-use Rattle.group_servers.proofs.Each.{both_same}
+use Rattle.group_lists.proofs.Each.{both_same}
 use Rattle.group_servers.proofs.Sound.{none_below, first_below, second_below, third_below}
 use Rattle.group_servers.proofs.recovering.recover_each.Goals as goal
 

@@ -5,8 +5,8 @@ use Rattle.run_model.specs.Closed.{IsNameFor, flushes_in}
 use Rattle.run_model.specs.Headline.{KeepsFound, KeepsThroughout}
 use Rattle.groups_run.specs.script_run.Rooms.{script_in}
 use Rattle.run_command.proofs.Leaving.{stays_throughout, untouched}
-use Rattle.groups_run.specs.group_servers.Lists.{count_of}
-use Rattle.groups_run.proofs.group_servers_laws.Each.{same_count}
+use Rattle.groups_run.specs.group_servers.group_lists.Lists.{count_of}
+use Rattle.groups_run.proofs.group_servers_laws.group_lists_laws.Each.{same_count}
 use Rattle.groups_run.specs.group_servers.Refusals.{GoesOn}
 use Rattle.groups_run.specs.Found.{found_views, value_of, views}
 use Rattle.groups_command.proofs.Leaving.{opened_at, found_at, are_found, are_alike, rose_of, named_by, named_at, fits_script, named_each, closed_ran, of_each, none_has_others, went_on, no_less, not_opened, refused_rose}

@@ -5,7 +5,7 @@ use Rattle.script_model.specs.declared.command.Command.TheVariants.{Run}
 use Rattle.command_base.proofs.Endings.{same_disk, time_of}
 use Rattle.run_command.proofs.Leaving.{stays_throughout}
 use Rattle.run_model.specs.Headline.{MayKeep}
-use Rattle.groups_run.specs.group_servers.Lists.{count_of}
+use Rattle.groups_run.specs.group_servers.group_lists.Lists.{count_of}
 use Rattle.groups_run.specs.Found.{views}
 use Rattle.groups_command.specs.Disks.{SomeRose, IsFirstDamaged, IsFirstWrong}
 use Rattle.groups_command.specs.Ends.{groups_invocation, GroupsEnd}

@@ -1,7 +1,7 @@
 use Rattle.std.proofs.Common.{◌≡◌, [], ◌∷◌, sym, ap, ◌∙◌, subst}
 use Rattle.disk_images.specs.Calls.{Rose}
-use Rattle.groups_run.specs.group_servers.Lists.{count_of}
-use Rattle.groups_run.proofs.group_servers_laws.Each.{count_within}
+use Rattle.groups_run.specs.group_servers.group_lists.Lists.{count_of}
+use Rattle.groups_run.proofs.group_servers_laws.group_lists_laws.Each.{count_within}
 use Rattle.groups_run.specs.Found.{views}
 use Rattle.groups_command.specs.Disks.{SomeRose, IsFirstDamaged, IsFirstWrong}
 use Rattle.groups_command.specs.Status.{refusal_line, IsRefusal, IsDamageOf, IsWrongGroupOf, IsOrEarlier, IsParsedEnd, IsComplete}

@@ -1,5 +1,5 @@
 use Rattle.std.proofs.Common.{refl, subst, sym}
-use Rattle.group_calls.specs.group_servers.declared.lists.GroupList.{GroupList}
+use Rattle.group_calls.specs.group_servers.group_lists.declared.lists.GroupList.{GroupList}
 use Rattle.group_calls.specs.group_servers.declared.shutting.ServerEnd.{ServerEnd}
 use Rattle.group_calls.specs.group_servers.Dealing.{AreBackAt}
 use Rattle.group_calls.specs.region_calls.Backs.{AllBack}

@@ -1,11 +1,11 @@
 use Rattle.std.proofs.Common.{◌≡◌, sym, subst, ◌∙◌}
 use Rattle.group_calls.specs.region_calls.declared.store.OpenedStore.{OpenedStore}
-use Rattle.group_calls.specs.group_servers.declared.lists.GroupList.{GroupList}
+use Rattle.group_calls.specs.group_servers.group_lists.declared.lists.GroupList.{GroupList}
 use Rattle.group_calls.specs.group_servers.declared.refusal.GroupsRefusal.{GroupsRefusal}
-use Rattle.group_calls.specs.group_servers.Lists.{AtEach, OfBoth, at_group, count_of}
+use Rattle.group_calls.specs.group_servers.group_lists.Lists.{AtEach, OfBoth, at_group, count_of}
 use Rattle.group_calls.specs.group_servers.Recovering.{IsFoundAs}
 use Rattle.group_calls.specs.group_servers.Refusals.{AreRefused, GoesOn, HaveNoOthers, IsNotWrong, Tells}
-use Rattle.group_calls.proofs.group_servers_laws.Each.{each_joined, of_both_at, same_count}
+use Rattle.group_calls.proofs.group_servers_laws.group_lists_laws.Each.{each_joined, of_both_at, same_count}
 use Rattle.group_calls.proofs.group_servers_laws.Sound.{all_sound}
 use Rattle.group_calls.specs.group_servers.Beginning.{HasGoneOn, IsOpened, IsOpenedFrom, TellsFrom, disks_left}
 use Rattle.groups_run.proofs.Answered.{if_err_both, if_ok_weaker, on_ok_always}

@@ -3,7 +3,7 @@ use Rattle.script_model.specs.Calls.{IsScript}
 use Rattle.script_run.specs.Rooms.{script_in}
 use Rattle.run_model.specs.Closed.{IsNameFor}
 use Rattle.group_calls.specs.region_calls.Store.{disk_now, regions_of}
-use Rattle.group_calls.specs.group_servers.Lists.{AtEach}
+use Rattle.group_calls.specs.group_servers.group_lists.Lists.{AtEach}
 use Rattle.group_calls.specs.Passes.{named}
 use Rattle.group_calls.specs.Servers.{Servers}
 use Rattle.groups_run.specs.Ended.{HaveEnded}

@@ -1,5 +1,5 @@
 use Rattle.std.proofs.Common.{refl, sym, ap, ◌∙◌, arith}
-use Rattle.group_calls.proofs.group_servers_laws.Each.{counts_same}
+use Rattle.group_calls.proofs.group_servers_laws.group_lists_laws.Each.{counts_same}
 use Rattle.group_calls.specs.group_servers.Starting.{HasRegionsOf}
 use Rattle.groups_run.proofs.Starts.{both_mapped, even, gone, held, held_at}
 use Rattle.groups_run.proofs.starting.start_groups.Goals as goal

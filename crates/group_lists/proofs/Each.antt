@@ -1,7 +1,7 @@
 -- What holds of each group.
 use Rattle.std.proofs.Common.{◌≡◌, ◌≢◌, ℕ, zero, suc, ◌≤◌, Option, Some, None, refl, sym, subst, arith}
-use Rattle.group_servers.specs.declared.lists.GroupList.{GroupList}
-use Rattle.group_servers.specs.Lists.{counted, count_of, at_group, AtBoth, OfBoth, AtEach}
+use Rattle.group_lists.specs.declared.lists.GroupList.{GroupList}
+use Rattle.group_lists.specs.Lists.{counted, count_of, at_group, AtBoth, OfBoth, AtEach}
 
 pub some_is : {A : Type 0} (x y : A) → Some x ≡ Some y → x ≡ y
 some_is x y e = cc e

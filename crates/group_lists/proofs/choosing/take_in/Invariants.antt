@@ -1,6 +1,6 @@
 use Rattle.std.proofs.Common.{◌≡◌, ℕ, ◌+◌, ◌<◌, ◌≤◌, ◌==◌, cond, slice_get}
 use Rattle.groups_model.specs.Groups.{group_of}
-use Rattle.group_servers.proofs.choosing.take_in.Given as goal
+use Rattle.group_lists.proofs.choosing.take_in.Given as goal
 
 abbrev pub invariant-taking : goal.invariant-taking
 invariant-taking g l = record {

@@ -3,9 +3,9 @@ use Rattle.std.proofs.Common.{◌≡◌, ◌≢◌, ◌⊎◌, ℕ, zero, suc, �
 use Rattle.std.specs.Global.{Vec}
 use Rattle.std.proofs.lemmas.Bool.{eq-eqb, ne_eqb}
 use Rattle.groups_model.specs.Groups.{group_of}
-use Rattle.group_servers.specs.declared.lists.GroupList.{GroupList}
-use Rattle.group_servers.specs.Choosing.{IsTakenFrom, IsTakenAt, AreChosen, items_at}
-use Rattle.group_servers.specs.Lists.{at_group}
+use Rattle.group_lists.specs.declared.lists.GroupList.{GroupList}
+use Rattle.group_lists.specs.Choosing.{IsTakenFrom, IsTakenAt, AreChosen, items_at}
+use Rattle.group_lists.specs.Lists.{at_group}
 
 below_or_not : (a b : ℕ) → (a < b) ⊎ (b ≤ a)
 below_or_not zero zero = inr (omega arith)

@@ -1,7 +1,7 @@
 //! One to four values, one for each group.
 
 ghost use Rattle.std.specs.Prelude.{◌≡◌, ◌≤◌};
-ghost use Rattle.group_servers.specs.Lists.{count_of};
+ghost use Rattle.group_lists.specs.Lists.{count_of};
 
 /// A value for each group, the first one's first, and as many as stand before the first that is left out. What stands behind it is of no region's
 /// group.

@@ -1,7 +1,7 @@
 use Rattle.std.proofs.Common.{◌≡◌, ℕ, Some, None, sym, ◌∙◌}
-use Rattle.group_servers.specs.Lists.{at_group}
-use Rattle.group_servers.proofs.Picking.{chosen_all, none_always}
-use Rattle.group_servers.proofs.choosing.choose.Goals as goal
+use Rattle.group_lists.specs.Lists.{at_group}
+use Rattle.group_lists.proofs.Picking.{chosen_all, none_always}
+use Rattle.group_lists.proofs.choosing.choose.Goals as goal
 
 pub take_at-requires-clause-count : goal.take_at-requires-clause-count
 take_at-requires-clause-count g c xs is =

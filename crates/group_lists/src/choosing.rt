@@ -3,8 +3,8 @@
 ghost use Rattle.std.specs.Prelude.{◌≡◌, ◌≢◌, ◌≤◌, ◌<◌, ◌+◌, ◌==◌, ℕ, cond, length, slice_get, Some, None, IfSome, IfNone};
 ghost use Rattle.std.specs.Global.{Vec as TheVec};
 ghost use Rattle.groups_model.specs.Groups.{group_of};
-ghost use Rattle.group_servers.specs.Choosing.{IsTakenFrom, IsTakenAt, AreAsMany, AreChosen};
-ghost use Rattle.group_servers.specs.Lists.{at_group};
+ghost use Rattle.group_lists.specs.Choosing.{IsTakenFrom, IsTakenAt, AreAsMany, AreChosen};
+ghost use Rattle.group_lists.specs.Lists.{at_group};
 
 use crate::lists::GroupList;
 use std::mem;

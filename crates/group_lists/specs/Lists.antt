@@ -1,7 +1,7 @@
 -- A value for each group.
 use Rattle.std.specs.Prelude.{ℕ, zero, suc, Option, Some, None}
 use Rattle.std.specs.Option.{option_map}
-use Rattle.group_servers.specs.declared.lists.GroupList.{GroupList}
+use Rattle.group_lists.specs.declared.lists.GroupList.{GroupList}
 
 abbrev pub counted : {A : Type 0} → Option A → Option A → Option A → ℕ
 counted None y z = 1

@@ -1,6 +1,6 @@
 use Rattle.std.proofs.Common.{length, refl, ◌∙◌, arith}
-use Rattle.group_servers.proofs.Picking.{taken_more, taken_up}
-use Rattle.group_servers.proofs.choosing.take_in.Goals as goal
+use Rattle.group_lists.proofs.Picking.{taken_more, taken_up}
+use Rattle.group_lists.proofs.choosing.take_in.Goals as goal
 
 pub taking-preserved : goal.taking-preserved
 taking-preserved g c =

@@ -2,8 +2,8 @@
 use Rattle.std.specs.Prelude.{◌≡◌, ◌≢◌, ℕ, ◌+◌, ◌==◌, cond, List, length, Option, Some, None, IfSome, slice_get}
 use Rattle.std.specs.Global.{Vec}
 use Rattle.groups_model.specs.Groups.{group_of}
-use Rattle.group_servers.specs.declared.lists.GroupList.{GroupList}
-use Rattle.group_servers.specs.Lists.{at_group}
+use Rattle.group_lists.specs.declared.lists.GroupList.{GroupList}
+use Rattle.group_lists.specs.Lists.{at_group}
 
 module _ {T : Type 0} where
   -- the regions of this group are those from here, and the others stay
