@@ -5,7 +5,7 @@ use Rattle.region_state.specs.Calls.{AreBelow}
 use Rattle.region_state.specs.Outcomes.{outcome_at_end}
 use Rattle.region_state.specs.States.{State, write_point}
 use Rattle.region_state.proofs.CallLaws.{next_call, below_put, pending_put}
-use Rattle.example_parts.proofs.region.put_name.Goals as goal
+use Rattle.examples.proofs.region.put_name.Goals as goal
 
 -- the next call is above those of all lines
 pub begin_edit-entry-requires-clause-call : goal.begin_edit-entry-requires-clause-call

@@ -1,5 +1,5 @@
 use Rattle.std.proofs.Common.{length}
-use Rattle.example_parts.proofs.region.print_version.Given as goal
+use Rattle.examples.proofs.region.print_version.Given as goal
 
 -- each round takes one cell of the walk
 abbrev pub decreases-loop-number : goal.decreases-loop-number

@@ -1,7 +1,7 @@
 use Rattle.std.proofs.Common.{sym, ap, ◌∙◌}
 use Rattle.cell_model.specs.Batch.{Batch}
-use Rattle.example_server.proofs.Putting.{put_known, known_later}
-use Rattle.example_server.proofs.clerk.ClerkHandler.work.Goals as goal
+use Rattle.examples.proofs.Putting.{put_known, known_later}
+use Rattle.examples.proofs.clerk.ClerkHandler.work.Goals as goal
 
 -- what was synced by its put is its own and stays so in its scan and its flush
 pub returns-clause-did : goal.returns-clause-did

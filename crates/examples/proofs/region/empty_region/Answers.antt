@@ -1,7 +1,7 @@
 use Rattle.std.proofs.Common.{◌≡◌, None, sym, ap, ◌∙◌}
 use Rattle.std.specs.FinMap.{get, get-empty}
 use Rattle.cell_model.specs.Order.{Content, version_cmp}
-use Rattle.example_parts.proofs.region.empty_region.Goals as goal
+use Rattle.examples.proofs.region.empty_region.Goals as goal
 
 -- the base has no version, so none numbered above its last number
 pub new-requires-3-clause-upto : goal.new-requires-3-clause-upto

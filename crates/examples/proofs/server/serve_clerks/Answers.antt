@@ -1,7 +1,7 @@
 use Rattle.std.proofs.Common.{refl}
 use Rattle.disk_fakes.specs.Views.{view_of}
-use Rattle.example_server.proofs.Clerks.{there_for_good}
-use Rattle.example_server.proofs.serve_clerks.Goals as goal
+use Rattle.examples.proofs.Clerks.{there_for_good}
+use Rattle.examples.proofs.server.serve_clerks.Goals as goal
 
 -- the server was closed: what its handlers' passes knew to be durable is in each image
 pub returns : goal.returns

@@ -6,10 +6,10 @@ use Rattle.run_model.proofs.Lists.{mapped, map_contains}
 use Rattle.embedded_run.specs.Deeds.{Deed, lasts_in, HaveDone}
 use Rattle.embedded_run.specs.Receipts.{KeepsReceipts}
 use Rattle.embedded_run.proofs.Doing.{done_each}
-use Rattle.example_server.specs.Persons.{KnowsPerson, person}
-use Rattle.example_server.specs.Clerks.{AreThereForGood}
-use Rattle.example_server.specs.declared.clerk.Clerk.{Clerk}
-use Rattle.example_server.proofs.Persons.{one_cell_puts}
+use Rattle.examples.specs.Persons.{KnowsPerson, person}
+use Rattle.examples.specs.Clerks.{AreThereForGood}
+use Rattle.examples.specs.declared.clerk.Clerk.{Clerk}
+use Rattle.examples.proofs.Persons.{one_cell_puts}
 
 -- what a clerk says of its work
 abbrev pub says : Clerk → Naming → ℕ → Pass → Pass → Clerk → Type 0

@@ -1,23 +1,15 @@
 //! Example of a whole server: two clerks, each a handler in a thread of its own, put a person into one region, scan it and
 //! flush it. Then the machine stops, and what a crash leaves of the disk is opened again: a reader finds both persons.
-//!
-//! What to know of Rattle to read it: memory can run out, so what allocates is passed an allocator and gives a `Result`. What
-//! the outside has (threads, printing) is reached through `rt`, which `main` gets. `ensures` says what a function promises and
-//! `requires` what its caller owes; both are proved when this file is compiled, and cost nothing when it runs.
-#![tactic(auto)]
-
-mod clerk;
-mod reader;
 
 ghost use Rattle.std.specs.Prelude.{◌≡◌, ◌≤◌, vec_len, IfOk};
 ghost use Rattle.disk_fakes.specs.Views.{view_of};
-ghost use Rattle.example_server.specs.Clerks.{AreThereForGood};
+ghost use Rattle.examples.specs.Clerks.{AreThereForGood};
 
+use crate::clerk::Clerk;
+use crate::reader::Reader;
 use anyhow::{Result, bail};
-use clerk::Clerk;
 use disk_fakes::MemDisk;
 use embedded_run::{Outcome, run_handlers};
-use reader::Reader;
 use std::alloc::Global;
 use std::sync::Wait;
 use std::thread::Threads;
@@ -43,7 +35,7 @@ fn one_reader(alloc: Global) -> Result<Vec<Reader>>
 
 /// Lets clerks work on one region of this disk, each in a thread of its own. Each person whose clerk then calls the put
 /// acknowledged is there for good: whatever a crash leaves of the disk is opened with that person. So much follows from what a
-/// clerk promises (`did` in clerk.rt) and from what `run_handlers` does (proofs/serve_clerks).
+/// clerk promises (`did` in clerk.rt) and from what `run_handlers` does (proofs/server/serve_clerks).
 fn serve_clerks<R: Threads + Wait + Sync>(
     rt: &R,
     alloc: Global,
@@ -61,19 +53,20 @@ fn serve_clerks<R: Threads + Wait + Sync>(
     }
 }
 
-fn main(rt: HostRuntime) -> Result<()> {
+/// Lets the clerks work, stops, and lets a reader read what is left.
+pub fn print_persons(rt: &HostRuntime) -> Result<()> {
     let alloc = rt.alloc();
     // A disk in memory, which can show what a crash leaves. `disk_folder::FolderDisk` is a folder.
     let disk = MemDisk::new(alloc, &[])?;
-    let (disk, clerks) = serve_clerks(&rt, alloc, disk, two_clerks(alloc)?)?;
+    let (disk, clerks) = serve_clerks(rt, alloc, disk, two_clerks(alloc)?)?;
     // Which clerk's put comes first is free, so no sequence id is printed.
     for clerk in clerks {
-        clerk.print(&rt)?;
+        clerk.print(rt)?;
     }
     // What a crash leaves at the last moment, where each call is lost that no sync has made durable.
     let image = disk.crash(alloc, disk.clock(), 1)?;
     let Outcome::Closed { handlers, .. } = run_handlers(
-        &rt,
+        rt,
         alloc,
         image,
         2000,
@@ -83,7 +76,7 @@ fn main(rt: HostRuntime) -> Result<()> {
         bail!("the image could not be opened");
     };
     for reader in handlers {
-        reader.print(&rt)?;
+        reader.print(rt)?;
     }
     Ok(())
 }

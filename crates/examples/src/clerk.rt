@@ -2,7 +2,7 @@
 
 ghost use Rattle.std.specs.Prelude.{◌≡◌, ◌∷◌, [], IfSome};
 ghost use Rattle.cell_model.specs.Batch.{batch_of};
-ghost use Rattle.example_server.specs.Persons.{person};
+ghost use Rattle.examples.specs.Persons.{person};
 
 use anyhow::Result;
 use embedded_run::{Handler, Session};
@@ -57,7 +57,7 @@ impl Clerk {
 
 impl Handler for Clerk {
     ghost use Rattle.std.specs.Prelude.{◌≡◌, ℕ, Some};
-    ghost use Rattle.example_server.specs.Persons.{KnowsPerson};
+    ghost use Rattle.examples.specs.Persons.{KnowsPerson};
 
     // What the clerk promises of its work: where it calls its put acknowledged, its pass knows that the edit of that sequence id is its own,
     // has this person, and is durable.

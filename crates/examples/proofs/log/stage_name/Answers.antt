@@ -1,6 +1,6 @@
 use Rattle.log_model.specs.Entry.{Entry}
 use Rattle.log_file.proofs.Texts.{log_entry}
-use Rattle.example_parts.proofs.log.stage_name.Goals as goal
+use Rattle.examples.proofs.log.stage_name.Goals as goal
 
 -- the entry that was spelled may stand in a log
 pub stage-requires : goal.stage-requires

@@ -8,7 +8,7 @@ use Rattle.server_model.specs.Pass.{Naming, Pass, IsLater}
 use Rattle.server_model.specs.Steps.{Puts, IsQuietPass, edit_of}
 use Rattle.embedded_run.specs.region_calls.Answers.{put_answer}
 use Rattle.embedded_run.specs.region_lock.declared.answers.PutRefusal.{PutRefusal}
-use Rattle.example_server.specs.Persons.{person, KnowsPerson}
+use Rattle.examples.specs.Persons.{person, KnowsPerson}
 
 abbrev number_in : Option ℕ → ℕ
 number_in None = 0

@@ -1,8 +1,8 @@
 -- What clerks promise together.
 use Rattle.std.specs.Prelude.{◌≡◌, ℕ, List, Contains, Some}
 use Rattle.disk_images.specs.Crash.{DiskView}
-use Rattle.example_server.specs.Persons.{IsThereForGood}
-use Rattle.example_server.specs.declared.clerk.Clerk.{Clerk}
+use Rattle.examples.specs.Persons.{IsThereForGood}
+use Rattle.examples.specs.declared.clerk.Clerk.{Clerk}
 
 -- Each person whose clerk calls the put acknowledged is there for good.
 abbrev pub AreThereForGood : DiskView → List Clerk → Type 0
