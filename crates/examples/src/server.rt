@@ -54,7 +54,7 @@ fn serve_clerks<R: Threads + Wait + Sync>(
 }
 
 /// Lets the clerks work, stops, and lets a reader read what is left.
-pub fn print_persons(rt: &HostRuntime) -> Result<()> {
+pub fn print_persons<R: Threads + Wait + Sync + Print + AllocGlobal>(rt: &R) -> Result<()> {
     let alloc = rt.alloc();
     // A disk in memory, which can show what a crash leaves. `disk_folder::FolderDisk` is a folder.
     let disk = MemDisk::new(alloc, &[])?;
