@@ -1,5 +1,6 @@
 -- Which groups' servers are there.
-use Rattle.std.proofs.Common.{◌≡◌, ◌≢◌, ℕ, ◌≤◌, Option, None, ap, arith}
+use Rattle.std.proofs.Common.{◌≡◌, ◌≢◌, ℕ, ◌≤◌, Option, None, sym, ap, ◌∙◌, arith}
+use Rattle.groups_model.specs.Groups.{group_of}
 use Rattle.group_servers.specs.log_service.Places.{ServiceId}
 use Rattle.group_servers.specs.group_lists.Lists.{counted}
 use Rattle.group_servers.proofs.group_lists_laws.Each.{some_count, count_second, count_third, count_fourth}
@@ -26,3 +27,11 @@ module _ (s now : Servers) (is : s ≡ now) (are : AreServers s.count s.second s
 
   pub fourth_here : group ≡ 4 → s.fourth ≢ None
   fourth_here four = (let same = ap (λ (x : Servers). x.count) is in are.fourth_there (omega (arith, within, four, same)))
+
+-- of which group a region is
+pub in_group : (count region group k : ℕ) → group ≡ group_of count region → group ≡ k → group_of count region ≡ k
+in_group count region group k is there = sym is ∙ there
+
+-- of which group a handler's number is
+pub on_group : (count handler number group k : ℕ) → number ≡ handler → group ≡ group_of count number → group ≡ k → group_of count handler ≡ k
+on_group count handler number group k same is there = ap (group_of count) (sym same) ∙ sym is ∙ there

@@ -1,59 +1,65 @@
-use Rattle.std.proofs.Common.{sym, ◌∙◌, subst}
+use Rattle.std.proofs.Common.{ℕ, option_map, sym, ◌∙◌, subst}
 use Rattle.group_servers.specs.region_calls.Passes.{knows, IsPassOf}
 use Rattle.group_servers.specs.Passes.{IsPassAt}
+use Rattle.group_servers.specs.region_calls.Answers.{flush_answer}
+use Rattle.group_calls.specs.Passes.{IsListedOn, IsNextOn, IsRegionOn, FlushesOn, known, named}
 use Rattle.group_calls.specs.Servers.{Servers}
 use Rattle.group_calls.proofs.Elsewhere.{first_called, second_called, third_called, fourth_called}
 use Rattle.group_calls.proofs.Handlers.{first_keeps, other_keeps}
-use Rattle.group_calls.proofs.There.{second_here, third_here, fourth_here}
+use Rattle.group_calls.proofs.There.{in_group, second_here, third_here, fourth_here}
 use Rattle.group_calls.proofs.groups.Groups.flush.Goals as goal
 
 pub flush-requires-clause-region : goal.flush-requires-clause-region
-flush-requires-clause-region g c = rw (sym c.group.ensures.is ∙ c.in-1.is) at c.requires.region
+flush-requires-clause-region g c = subst (λ (k : ℕ). IsRegionOn (named g.N1.ServerNaming.name g.N2.ServerNaming.name g.N3.ServerNaming.name g.N4.ServerNaming.name) c.args.region k) (in_group c.args.self.now.count c.args.region c.group.result 1 c.group.ensures.is c.in-1.is) c.requires.region
 
 pub flush-requires-clause-call : goal.flush-requires-clause-call
-flush-requires-clause-call g c = rw (sym c.group.ensures.is ∙ c.in-1.is) at c.requires.call
+flush-requires-clause-call g c = subst (λ (k : ℕ). IsNextOn (known c.args.pass.now) c.args.call k) (in_group c.args.self.now.count c.args.region c.group.result 1 c.group.ensures.is c.in-1.is) c.requires.call
 
 pub flush-requires-clause-listed : goal.flush-requires-clause-listed
-flush-requires-clause-listed g c = rw (sym c.group.ensures.is ∙ c.in-1.is) at c.requires.listed
+flush-requires-clause-listed g c = subst (λ (k : ℕ). IsListedOn (named g.N1.ServerNaming.name g.N2.ServerNaming.name g.N3.ServerNaming.name g.N4.ServerNaming.name) c.args.region (known c.args.pass.now) c.args.call k) (in_group c.args.self.now.count c.args.region c.group.result 1 c.group.ensures.is c.in-1.is) c.requires.listed
 
 pub returns-in-1-clause-flushes : goal.returns-in-1-clause-flushes
-returns-in-1-clause-flushes g c = rw (sym c.group.ensures.is ∙ c.in-1.is) c.flush.ensures.flushes
+returns-in-1-clause-flushes g c =
+    subst (λ (k : ℕ). FlushesOn (named g.N1.ServerNaming.name g.N2.ServerNaming.name g.N3.ServerNaming.name g.N4.ServerNaming.name) c.args.region (option_map (λ f. f.now) c.args.family) c.args.call (flush_answer c.flush.result) (known c.args.pass.now) (known (record { first = c.flush.new.pass; second = c.args.pass.now.second; third = c.args.pass.now.third; fourth = c.args.pass.now.fourth })) k) (sym (in_group c.args.self.now.count c.args.region c.group.result 1 c.group.ensures.is c.in-1.is)) c.flush.ensures.flushes
 
 pub flush_at-requires-clause-region : goal.flush_at-requires-clause-region
-flush_at-requires-clause-region g c = rw (sym c.group.ensures.is ∙ c.in-2.is) at c.requires.region
+flush_at-requires-clause-region g c = subst (λ (k : ℕ). IsRegionOn (named g.N1.ServerNaming.name g.N2.ServerNaming.name g.N3.ServerNaming.name g.N4.ServerNaming.name) c.args.region k) (in_group c.args.self.now.count c.args.region c.group.result 2 c.group.ensures.is c.in-2.is) c.requires.region
 
 pub flush_at-requires-clause-call : goal.flush_at-requires-clause-call
-flush_at-requires-clause-call g c = rw (sym c.group.ensures.is ∙ c.in-2.is) at c.requires.call
+flush_at-requires-clause-call g c = subst (λ (k : ℕ). IsNextOn (known c.args.pass.now) c.args.call k) (in_group c.args.self.now.count c.args.region c.group.result 2 c.group.ensures.is c.in-2.is) c.requires.call
 
 pub flush_at-requires-clause-listed : goal.flush_at-requires-clause-listed
-flush_at-requires-clause-listed g c = rw (sym c.group.ensures.is ∙ c.in-2.is) at c.requires.listed
+flush_at-requires-clause-listed g c = subst (λ (k : ℕ). IsListedOn (named g.N1.ServerNaming.name g.N2.ServerNaming.name g.N3.ServerNaming.name g.N4.ServerNaming.name) c.args.region (known c.args.pass.now) c.args.call k) (in_group c.args.self.now.count c.args.region c.group.result 2 c.group.ensures.is c.in-2.is) c.requires.listed
 
 pub returns-in-2-clause-flushes : goal.returns-in-2-clause-flushes
-returns-in-2-clause-flushes g c = rw (sym c.group.ensures.is ∙ c.in-2.is) c.flush_at.ensures.flushes
+returns-in-2-clause-flushes g c =
+    subst (λ (k : ℕ). FlushesOn (named g.N1.ServerNaming.name g.N2.ServerNaming.name g.N3.ServerNaming.name g.N4.ServerNaming.name) c.args.region (option_map (λ f. f.now) c.args.family) c.args.call (flush_answer c.flush_at.result) (known c.args.pass.now) (known (record { first = c.args.pass.now.first; second = c.flush_at.new.pass; third = c.args.pass.now.third; fourth = c.args.pass.now.fourth })) k) (sym (in_group c.args.self.now.count c.args.region c.group.result 2 c.group.ensures.is c.in-2.is)) c.flush_at.ensures.flushes
 
 pub flush_at-requires-in-3-clause-region : goal.flush_at-requires-in-3-clause-region
-flush_at-requires-in-3-clause-region g c = rw (sym c.group.ensures.is ∙ c.in-3.is) at c.requires.region
+flush_at-requires-in-3-clause-region g c = subst (λ (k : ℕ). IsRegionOn (named g.N1.ServerNaming.name g.N2.ServerNaming.name g.N3.ServerNaming.name g.N4.ServerNaming.name) c.args.region k) (in_group c.args.self.now.count c.args.region c.group.result 3 c.group.ensures.is c.in-3.is) c.requires.region
 
 pub flush_at-requires-in-3-clause-call : goal.flush_at-requires-in-3-clause-call
-flush_at-requires-in-3-clause-call g c = rw (sym c.group.ensures.is ∙ c.in-3.is) at c.requires.call
+flush_at-requires-in-3-clause-call g c = subst (λ (k : ℕ). IsNextOn (known c.args.pass.now) c.args.call k) (in_group c.args.self.now.count c.args.region c.group.result 3 c.group.ensures.is c.in-3.is) c.requires.call
 
 pub flush_at-requires-in-3-clause-listed : goal.flush_at-requires-in-3-clause-listed
-flush_at-requires-in-3-clause-listed g c = rw (sym c.group.ensures.is ∙ c.in-3.is) at c.requires.listed
+flush_at-requires-in-3-clause-listed g c = subst (λ (k : ℕ). IsListedOn (named g.N1.ServerNaming.name g.N2.ServerNaming.name g.N3.ServerNaming.name g.N4.ServerNaming.name) c.args.region (known c.args.pass.now) c.args.call k) (in_group c.args.self.now.count c.args.region c.group.result 3 c.group.ensures.is c.in-3.is) c.requires.listed
 
 pub returns-in-3-clause-flushes : goal.returns-in-3-clause-flushes
-returns-in-3-clause-flushes g c = rw (sym c.group.ensures.is ∙ c.in-3.is) c.flush_at-in-3.ensures.flushes
+returns-in-3-clause-flushes g c =
+    subst (λ (k : ℕ). FlushesOn (named g.N1.ServerNaming.name g.N2.ServerNaming.name g.N3.ServerNaming.name g.N4.ServerNaming.name) c.args.region (option_map (λ f. f.now) c.args.family) c.args.call (flush_answer c.flush_at-in-3.result) (known c.args.pass.now) (known (record { first = c.args.pass.now.first; second = c.args.pass.now.second; third = c.flush_at-in-3.new.pass; fourth = c.args.pass.now.fourth })) k) (sym (in_group c.args.self.now.count c.args.region c.group.result 3 c.group.ensures.is c.in-3.is)) c.flush_at-in-3.ensures.flushes
 
 pub flush_at-requires-in-4-clause-region : goal.flush_at-requires-in-4-clause-region
-flush_at-requires-in-4-clause-region g c = rw (sym c.group.ensures.is ∙ c.in-4.is) at c.requires.region
+flush_at-requires-in-4-clause-region g c = subst (λ (k : ℕ). IsRegionOn (named g.N1.ServerNaming.name g.N2.ServerNaming.name g.N3.ServerNaming.name g.N4.ServerNaming.name) c.args.region k) (in_group c.args.self.now.count c.args.region c.group.result 4 c.group.ensures.is c.in-4.is) c.requires.region
 
 pub flush_at-requires-in-4-clause-call : goal.flush_at-requires-in-4-clause-call
-flush_at-requires-in-4-clause-call g c = rw (sym c.group.ensures.is ∙ c.in-4.is) at c.requires.call
+flush_at-requires-in-4-clause-call g c = subst (λ (k : ℕ). IsNextOn (known c.args.pass.now) c.args.call k) (in_group c.args.self.now.count c.args.region c.group.result 4 c.group.ensures.is c.in-4.is) c.requires.call
 
 pub flush_at-requires-in-4-clause-listed : goal.flush_at-requires-in-4-clause-listed
-flush_at-requires-in-4-clause-listed g c = rw (sym c.group.ensures.is ∙ c.in-4.is) at c.requires.listed
+flush_at-requires-in-4-clause-listed g c = subst (λ (k : ℕ). IsListedOn (named g.N1.ServerNaming.name g.N2.ServerNaming.name g.N3.ServerNaming.name g.N4.ServerNaming.name) c.args.region (known c.args.pass.now) c.args.call k) (in_group c.args.self.now.count c.args.region c.group.result 4 c.group.ensures.is c.in-4.is) c.requires.listed
 
 pub returns-in-4-clause-flushes : goal.returns-in-4-clause-flushes
-returns-in-4-clause-flushes g c = rw (sym c.group.ensures.is ∙ c.in-4.is) c.flush_at-in-4.ensures.flushes
+returns-in-4-clause-flushes g c =
+    subst (λ (k : ℕ). FlushesOn (named g.N1.ServerNaming.name g.N2.ServerNaming.name g.N3.ServerNaming.name g.N4.ServerNaming.name) c.args.region (option_map (λ f. f.now) c.args.family) c.args.call (flush_answer c.flush_at-in-4.result) (known c.args.pass.now) (known (record { first = c.args.pass.now.first; second = c.args.pass.now.second; third = c.args.pass.now.third; fourth = c.flush_at-in-4.new.pass })) k) (sym (in_group c.args.self.now.count c.args.region c.group.result 4 c.group.ensures.is c.in-4.is)) c.flush_at-in-4.ensures.flushes
 
 pub returns-in-1-clause-of : goal.returns-in-1-clause-of
 returns-in-1-clause-of g c =

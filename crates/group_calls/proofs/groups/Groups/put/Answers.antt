@@ -1,59 +1,69 @@
-use Rattle.std.proofs.Common.{sym, ◌∙◌, subst}
+use Rattle.std.proofs.Common.{ℕ, sym, ◌∙◌, subst}
 use Rattle.group_servers.specs.region_calls.Passes.{knows, IsPassOf}
 use Rattle.group_servers.specs.Passes.{IsPassAt}
+use Rattle.group_servers.specs.region_calls.Answers.{is_sync, put_answer}
+use Rattle.group_calls.specs.Passes.{IsNextOn, IsRegionOn, IsExactOn, PutsOn, known, named}
 use Rattle.group_calls.specs.Servers.{Servers}
 use Rattle.group_calls.proofs.Elsewhere.{first_called, second_called, third_called, fourth_called}
 use Rattle.group_calls.proofs.Handlers.{first_keeps, other_keeps}
-use Rattle.group_calls.proofs.There.{second_here, third_here, fourth_here}
+use Rattle.group_calls.proofs.There.{in_group, second_here, third_here, fourth_here}
 use Rattle.group_calls.proofs.groups.Groups.put.Goals as goal
 
 pub put_with-requires-clause-region : goal.put_with-requires-clause-region
-put_with-requires-clause-region g c = rw (sym c.group.ensures.is ∙ c.in-1.is) at c.requires.region
+put_with-requires-clause-region g c = subst (λ (k : ℕ). IsRegionOn (named g.N1.ServerNaming.name g.N2.ServerNaming.name g.N3.ServerNaming.name g.N4.ServerNaming.name) c.args.region k) (in_group c.args.self.now.count c.args.region c.group.result 1 c.group.ensures.is c.in-1.is) c.requires.region
 
 pub put_with-requires-clause-call : goal.put_with-requires-clause-call
-put_with-requires-clause-call g c = rw (sym c.group.ensures.is ∙ c.in-1.is) at c.requires.call
+put_with-requires-clause-call g c = subst (λ (k : ℕ). IsNextOn (known c.args.pass.now) c.args.call k) (in_group c.args.self.now.count c.args.region c.group.result 1 c.group.ensures.is c.in-1.is) c.requires.call
 
 pub returns-in-1-clause-puts : goal.returns-in-1-clause-puts
-returns-in-1-clause-puts g c = rw (sym c.group.ensures.is ∙ c.in-1.is) c.put_with.ensures.puts
+returns-in-1-clause-puts g c =
+    subst (λ (k : ℕ). PutsOn (named g.N1.ServerNaming.name g.N2.ServerNaming.name g.N3.ServerNaming.name g.N4.ServerNaming.name) c.args.time c.args.region (is_sync c.args.durability) c.args.batch c.args.call (put_answer c.put_with.result) (known c.args.pass.now) (known (record { first = c.put_with.new.pass; second = c.args.pass.now.second; third = c.args.pass.now.third; fourth = c.args.pass.now.fourth })) k) (sym (in_group c.args.self.now.count c.args.region c.group.result 1 c.group.ensures.is c.in-1.is)) c.put_with.ensures.puts
 
 pub returns-in-1-clause-exact : goal.returns-in-1-clause-exact
-returns-in-1-clause-exact g c = rw (sym c.group.ensures.is ∙ c.in-1.is) c.put_with.ensures.exact
+returns-in-1-clause-exact g c =
+    subst (λ (k : ℕ). IsExactOn (is_sync c.args.durability) c.args.region c.put_with.result c.args.pass.now (record { first = c.put_with.new.pass; second = c.args.pass.now.second; third = c.args.pass.now.third; fourth = c.args.pass.now.fourth }) k) (sym (in_group c.args.self.now.count c.args.region c.group.result 1 c.group.ensures.is c.in-1.is)) c.put_with.ensures.exact
 
 pub put_at-requires-clause-region : goal.put_at-requires-clause-region
-put_at-requires-clause-region g c = rw (sym c.group.ensures.is ∙ c.in-2.is) at c.requires.region
+put_at-requires-clause-region g c = subst (λ (k : ℕ). IsRegionOn (named g.N1.ServerNaming.name g.N2.ServerNaming.name g.N3.ServerNaming.name g.N4.ServerNaming.name) c.args.region k) (in_group c.args.self.now.count c.args.region c.group.result 2 c.group.ensures.is c.in-2.is) c.requires.region
 
 pub put_at-requires-clause-call : goal.put_at-requires-clause-call
-put_at-requires-clause-call g c = rw (sym c.group.ensures.is ∙ c.in-2.is) at c.requires.call
+put_at-requires-clause-call g c = subst (λ (k : ℕ). IsNextOn (known c.args.pass.now) c.args.call k) (in_group c.args.self.now.count c.args.region c.group.result 2 c.group.ensures.is c.in-2.is) c.requires.call
 
 pub returns-in-2-clause-puts : goal.returns-in-2-clause-puts
-returns-in-2-clause-puts g c = rw (sym c.group.ensures.is ∙ c.in-2.is) c.put_at.ensures.puts
+returns-in-2-clause-puts g c =
+    subst (λ (k : ℕ). PutsOn (named g.N1.ServerNaming.name g.N2.ServerNaming.name g.N3.ServerNaming.name g.N4.ServerNaming.name) c.args.time c.args.region (is_sync c.args.durability) c.args.batch c.args.call (put_answer c.put_at.result) (known c.args.pass.now) (known (record { first = c.args.pass.now.first; second = c.put_at.new.pass; third = c.args.pass.now.third; fourth = c.args.pass.now.fourth })) k) (sym (in_group c.args.self.now.count c.args.region c.group.result 2 c.group.ensures.is c.in-2.is)) c.put_at.ensures.puts
 
 pub returns-in-2-clause-exact : goal.returns-in-2-clause-exact
-returns-in-2-clause-exact g c = rw (sym c.group.ensures.is ∙ c.in-2.is) c.put_at.ensures.exact
+returns-in-2-clause-exact g c =
+    subst (λ (k : ℕ). IsExactOn (is_sync c.args.durability) c.args.region c.put_at.result c.args.pass.now (record { first = c.args.pass.now.first; second = c.put_at.new.pass; third = c.args.pass.now.third; fourth = c.args.pass.now.fourth }) k) (sym (in_group c.args.self.now.count c.args.region c.group.result 2 c.group.ensures.is c.in-2.is)) c.put_at.ensures.exact
 
 pub put_at-requires-in-3-clause-region : goal.put_at-requires-in-3-clause-region
-put_at-requires-in-3-clause-region g c = rw (sym c.group.ensures.is ∙ c.in-3.is) at c.requires.region
+put_at-requires-in-3-clause-region g c = subst (λ (k : ℕ). IsRegionOn (named g.N1.ServerNaming.name g.N2.ServerNaming.name g.N3.ServerNaming.name g.N4.ServerNaming.name) c.args.region k) (in_group c.args.self.now.count c.args.region c.group.result 3 c.group.ensures.is c.in-3.is) c.requires.region
 
 pub put_at-requires-in-3-clause-call : goal.put_at-requires-in-3-clause-call
-put_at-requires-in-3-clause-call g c = rw (sym c.group.ensures.is ∙ c.in-3.is) at c.requires.call
+put_at-requires-in-3-clause-call g c = subst (λ (k : ℕ). IsNextOn (known c.args.pass.now) c.args.call k) (in_group c.args.self.now.count c.args.region c.group.result 3 c.group.ensures.is c.in-3.is) c.requires.call
 
 pub returns-in-3-clause-puts : goal.returns-in-3-clause-puts
-returns-in-3-clause-puts g c = rw (sym c.group.ensures.is ∙ c.in-3.is) c.put_at-in-3.ensures.puts
+returns-in-3-clause-puts g c =
+    subst (λ (k : ℕ). PutsOn (named g.N1.ServerNaming.name g.N2.ServerNaming.name g.N3.ServerNaming.name g.N4.ServerNaming.name) c.args.time c.args.region (is_sync c.args.durability) c.args.batch c.args.call (put_answer c.put_at-in-3.result) (known c.args.pass.now) (known (record { first = c.args.pass.now.first; second = c.args.pass.now.second; third = c.put_at-in-3.new.pass; fourth = c.args.pass.now.fourth })) k) (sym (in_group c.args.self.now.count c.args.region c.group.result 3 c.group.ensures.is c.in-3.is)) c.put_at-in-3.ensures.puts
 
 pub returns-in-3-clause-exact : goal.returns-in-3-clause-exact
-returns-in-3-clause-exact g c = rw (sym c.group.ensures.is ∙ c.in-3.is) c.put_at-in-3.ensures.exact
+returns-in-3-clause-exact g c =
+    subst (λ (k : ℕ). IsExactOn (is_sync c.args.durability) c.args.region c.put_at-in-3.result c.args.pass.now (record { first = c.args.pass.now.first; second = c.args.pass.now.second; third = c.put_at-in-3.new.pass; fourth = c.args.pass.now.fourth }) k) (sym (in_group c.args.self.now.count c.args.region c.group.result 3 c.group.ensures.is c.in-3.is)) c.put_at-in-3.ensures.exact
 
 pub put_at-requires-in-4-clause-region : goal.put_at-requires-in-4-clause-region
-put_at-requires-in-4-clause-region g c = rw (sym c.group.ensures.is ∙ c.in-4.is) at c.requires.region
+put_at-requires-in-4-clause-region g c = subst (λ (k : ℕ). IsRegionOn (named g.N1.ServerNaming.name g.N2.ServerNaming.name g.N3.ServerNaming.name g.N4.ServerNaming.name) c.args.region k) (in_group c.args.self.now.count c.args.region c.group.result 4 c.group.ensures.is c.in-4.is) c.requires.region
 
 pub put_at-requires-in-4-clause-call : goal.put_at-requires-in-4-clause-call
-put_at-requires-in-4-clause-call g c = rw (sym c.group.ensures.is ∙ c.in-4.is) at c.requires.call
+put_at-requires-in-4-clause-call g c = subst (λ (k : ℕ). IsNextOn (known c.args.pass.now) c.args.call k) (in_group c.args.self.now.count c.args.region c.group.result 4 c.group.ensures.is c.in-4.is) c.requires.call
 
 pub returns-in-4-clause-puts : goal.returns-in-4-clause-puts
-returns-in-4-clause-puts g c = rw (sym c.group.ensures.is ∙ c.in-4.is) c.put_at-in-4.ensures.puts
+returns-in-4-clause-puts g c =
+    subst (λ (k : ℕ). PutsOn (named g.N1.ServerNaming.name g.N2.ServerNaming.name g.N3.ServerNaming.name g.N4.ServerNaming.name) c.args.time c.args.region (is_sync c.args.durability) c.args.batch c.args.call (put_answer c.put_at-in-4.result) (known c.args.pass.now) (known (record { first = c.args.pass.now.first; second = c.args.pass.now.second; third = c.args.pass.now.third; fourth = c.put_at-in-4.new.pass })) k) (sym (in_group c.args.self.now.count c.args.region c.group.result 4 c.group.ensures.is c.in-4.is)) c.put_at-in-4.ensures.puts
 
 pub returns-in-4-clause-exact : goal.returns-in-4-clause-exact
-returns-in-4-clause-exact g c = rw (sym c.group.ensures.is ∙ c.in-4.is) c.put_at-in-4.ensures.exact
+returns-in-4-clause-exact g c =
+    subst (λ (k : ℕ). IsExactOn (is_sync c.args.durability) c.args.region c.put_at-in-4.result c.args.pass.now (record { first = c.args.pass.now.first; second = c.args.pass.now.second; third = c.args.pass.now.third; fourth = c.put_at-in-4.new.pass }) k) (sym (in_group c.args.self.now.count c.args.region c.group.result 4 c.group.ensures.is c.in-4.is)) c.put_at-in-4.ensures.exact
 
 pub returns-in-1-clause-of : goal.returns-in-1-clause-of
 returns-in-1-clause-of g c =

@@ -1,35 +1,40 @@
-use Rattle.std.proofs.Common.{sym, ◌∙◌, subst}
+use Rattle.std.proofs.Common.{ℕ, sym, ◌∙◌, subst}
 use Rattle.group_servers.specs.region_calls.Passes.{knows, IsPassOf}
 use Rattle.group_servers.specs.Passes.{IsPassAt}
+use Rattle.group_calls.specs.Passes.{IsRegionOn, LooksOn, known, named}
 use Rattle.group_calls.specs.Servers.{Servers}
 use Rattle.group_calls.proofs.Elsewhere.{first_called, second_called, third_called, fourth_called}
 use Rattle.group_calls.proofs.Handlers.{first_keeps, other_keeps}
-use Rattle.group_calls.proofs.There.{second_here, third_here, fourth_here}
+use Rattle.group_calls.proofs.There.{in_group, second_here, third_here, fourth_here}
 use Rattle.group_calls.proofs.groups.Groups.read_point.Goals as goal
 
 pub read_point_of-requires-clause-region : goal.read_point_of-requires-clause-region
-read_point_of-requires-clause-region g c = rw (sym c.group.ensures.is ∙ c.in-1.is) at c.requires.region
+read_point_of-requires-clause-region g c = subst (λ (k : ℕ). IsRegionOn (named g.N1.ServerNaming.name g.N2.ServerNaming.name g.N3.ServerNaming.name g.N4.ServerNaming.name) c.args.region k) (in_group c.args.self.now.count c.args.region c.group.result 1 c.group.ensures.is c.in-1.is) c.requires.region
 
 pub returns-in-1-clause-looks : goal.returns-in-1-clause-looks
-returns-in-1-clause-looks g c = rw (sym c.group.ensures.is ∙ c.in-1.is) c.read_point_of.ensures.looks
+returns-in-1-clause-looks g c =
+    subst (λ (k : ℕ). LooksOn (named g.N1.ServerNaming.name g.N2.ServerNaming.name g.N3.ServerNaming.name g.N4.ServerNaming.name) c.args.region c.read_point_of.result (known c.args.pass.now) (known (record { first = c.read_point_of.new.pass; second = c.args.pass.now.second; third = c.args.pass.now.third; fourth = c.args.pass.now.fourth })) k) (sym (in_group c.args.self.now.count c.args.region c.group.result 1 c.group.ensures.is c.in-1.is)) c.read_point_of.ensures.looks
 
 pub read_point_at-requires-clause-region : goal.read_point_at-requires-clause-region
-read_point_at-requires-clause-region g c = rw (sym c.group.ensures.is ∙ c.in-2.is) at c.requires.region
+read_point_at-requires-clause-region g c = subst (λ (k : ℕ). IsRegionOn (named g.N1.ServerNaming.name g.N2.ServerNaming.name g.N3.ServerNaming.name g.N4.ServerNaming.name) c.args.region k) (in_group c.args.self.now.count c.args.region c.group.result 2 c.group.ensures.is c.in-2.is) c.requires.region
 
 pub returns-in-2-clause-looks : goal.returns-in-2-clause-looks
-returns-in-2-clause-looks g c = rw (sym c.group.ensures.is ∙ c.in-2.is) c.read_point_at.ensures.looks
+returns-in-2-clause-looks g c =
+    subst (λ (k : ℕ). LooksOn (named g.N1.ServerNaming.name g.N2.ServerNaming.name g.N3.ServerNaming.name g.N4.ServerNaming.name) c.args.region c.read_point_at.result (known c.args.pass.now) (known (record { first = c.args.pass.now.first; second = c.read_point_at.new.pass; third = c.args.pass.now.third; fourth = c.args.pass.now.fourth })) k) (sym (in_group c.args.self.now.count c.args.region c.group.result 2 c.group.ensures.is c.in-2.is)) c.read_point_at.ensures.looks
 
 pub read_point_at-requires-in-3-clause-region : goal.read_point_at-requires-in-3-clause-region
-read_point_at-requires-in-3-clause-region g c = rw (sym c.group.ensures.is ∙ c.in-3.is) at c.requires.region
+read_point_at-requires-in-3-clause-region g c = subst (λ (k : ℕ). IsRegionOn (named g.N1.ServerNaming.name g.N2.ServerNaming.name g.N3.ServerNaming.name g.N4.ServerNaming.name) c.args.region k) (in_group c.args.self.now.count c.args.region c.group.result 3 c.group.ensures.is c.in-3.is) c.requires.region
 
 pub returns-in-3-clause-looks : goal.returns-in-3-clause-looks
-returns-in-3-clause-looks g c = rw (sym c.group.ensures.is ∙ c.in-3.is) c.read_point_at-in-3.ensures.looks
+returns-in-3-clause-looks g c =
+    subst (λ (k : ℕ). LooksOn (named g.N1.ServerNaming.name g.N2.ServerNaming.name g.N3.ServerNaming.name g.N4.ServerNaming.name) c.args.region c.read_point_at-in-3.result (known c.args.pass.now) (known (record { first = c.args.pass.now.first; second = c.args.pass.now.second; third = c.read_point_at-in-3.new.pass; fourth = c.args.pass.now.fourth })) k) (sym (in_group c.args.self.now.count c.args.region c.group.result 3 c.group.ensures.is c.in-3.is)) c.read_point_at-in-3.ensures.looks
 
 pub read_point_at-requires-in-4-clause-region : goal.read_point_at-requires-in-4-clause-region
-read_point_at-requires-in-4-clause-region g c = rw (sym c.group.ensures.is ∙ c.in-4.is) at c.requires.region
+read_point_at-requires-in-4-clause-region g c = subst (λ (k : ℕ). IsRegionOn (named g.N1.ServerNaming.name g.N2.ServerNaming.name g.N3.ServerNaming.name g.N4.ServerNaming.name) c.args.region k) (in_group c.args.self.now.count c.args.region c.group.result 4 c.group.ensures.is c.in-4.is) c.requires.region
 
 pub returns-in-4-clause-looks : goal.returns-in-4-clause-looks
-returns-in-4-clause-looks g c = rw (sym c.group.ensures.is ∙ c.in-4.is) c.read_point_at-in-4.ensures.looks
+returns-in-4-clause-looks g c =
+    subst (λ (k : ℕ). LooksOn (named g.N1.ServerNaming.name g.N2.ServerNaming.name g.N3.ServerNaming.name g.N4.ServerNaming.name) c.args.region c.read_point_at-in-4.result (known c.args.pass.now) (known (record { first = c.args.pass.now.first; second = c.args.pass.now.second; third = c.args.pass.now.third; fourth = c.read_point_at-in-4.new.pass })) k) (sym (in_group c.args.self.now.count c.args.region c.group.result 4 c.group.ensures.is c.in-4.is)) c.read_point_at-in-4.ensures.looks
 
 pub returns-in-1-clause-of : goal.returns-in-1-clause-of
 returns-in-1-clause-of g c =

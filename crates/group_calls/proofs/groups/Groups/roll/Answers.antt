@@ -1,24 +1,30 @@
-use Rattle.std.proofs.Common.{sym, ap, ◌∙◌, subst}
+use Rattle.std.proofs.Common.{ℕ, sym, subst}
 use Rattle.groups_model.specs.Groups.{group_of}
 use Rattle.group_servers.specs.region_calls.Passes.{knows, IsPassOf}
 use Rattle.group_servers.specs.Passes.{IsPassAt}
+use Rattle.group_servers.specs.region_calls.Answers.{roll_answer}
+use Rattle.group_calls.specs.Passes.{RollsOn, known}
 use Rattle.group_calls.specs.Servers.{Servers}
 use Rattle.group_calls.proofs.Elsewhere.{first_called, second_called, third_called, fourth_called}
 use Rattle.group_calls.proofs.Handlers.{first_keeps, other_keeps}
-use Rattle.group_calls.proofs.There.{second_here, third_here, fourth_here}
+use Rattle.group_calls.proofs.There.{on_group, second_here, third_here, fourth_here}
 use Rattle.group_calls.proofs.groups.Groups.roll.Goals as goal
 
 pub returns-in-1-clause-rolls : goal.returns-in-1-clause-rolls
-returns-in-1-clause-rolls g c = rw (ap (group_of c.args.self.now.count) (sym c.handler.ensures) ∙ sym c.group.ensures.is ∙ c.in-1.is) c.roll.ensures.rolls
+returns-in-1-clause-rolls g c =
+    subst (λ (k : ℕ). RollsOn (roll_answer c.roll.result) (known c.args.pass.now) (known (record { first = c.roll.new.pass; second = c.args.pass.now.second; third = c.args.pass.now.third; fourth = c.args.pass.now.fourth })) k) (sym (on_group c.args.self.now.count (known c.args.pass.now 1).handler c.handler.result c.group.result 1 c.handler.ensures c.group.ensures.is c.in-1.is)) c.roll.ensures.rolls
 
 pub returns-in-2-clause-rolls : goal.returns-in-2-clause-rolls
-returns-in-2-clause-rolls g c = rw (ap (group_of c.args.self.now.count) (sym c.handler.ensures) ∙ sym c.group.ensures.is ∙ c.in-2.is) c.roll_at.ensures.rolls
+returns-in-2-clause-rolls g c =
+    subst (λ (k : ℕ). RollsOn (roll_answer c.roll_at.result) (known c.args.pass.now) (known (record { first = c.args.pass.now.first; second = c.roll_at.new.pass; third = c.args.pass.now.third; fourth = c.args.pass.now.fourth })) k) (sym (on_group c.args.self.now.count (known c.args.pass.now 1).handler c.handler.result c.group.result 2 c.handler.ensures c.group.ensures.is c.in-2.is)) c.roll_at.ensures.rolls
 
 pub returns-in-3-clause-rolls : goal.returns-in-3-clause-rolls
-returns-in-3-clause-rolls g c = rw (ap (group_of c.args.self.now.count) (sym c.handler.ensures) ∙ sym c.group.ensures.is ∙ c.in-3.is) c.roll_at-in-3.ensures.rolls
+returns-in-3-clause-rolls g c =
+    subst (λ (k : ℕ). RollsOn (roll_answer c.roll_at-in-3.result) (known c.args.pass.now) (known (record { first = c.args.pass.now.first; second = c.args.pass.now.second; third = c.roll_at-in-3.new.pass; fourth = c.args.pass.now.fourth })) k) (sym (on_group c.args.self.now.count (known c.args.pass.now 1).handler c.handler.result c.group.result 3 c.handler.ensures c.group.ensures.is c.in-3.is)) c.roll_at-in-3.ensures.rolls
 
 pub returns-in-4-clause-rolls : goal.returns-in-4-clause-rolls
-returns-in-4-clause-rolls g c = rw (ap (group_of c.args.self.now.count) (sym c.handler.ensures) ∙ sym c.group.ensures.is ∙ c.in-4.is) c.roll_at-in-4.ensures.rolls
+returns-in-4-clause-rolls g c =
+    subst (λ (k : ℕ). RollsOn (roll_answer c.roll_at-in-4.result) (known c.args.pass.now) (known (record { first = c.args.pass.now.first; second = c.args.pass.now.second; third = c.args.pass.now.third; fourth = c.roll_at-in-4.new.pass })) k) (sym (on_group c.args.self.now.count (known c.args.pass.now 1).handler c.handler.result c.group.result 4 c.handler.ensures c.group.ensures.is c.in-4.is)) c.roll_at-in-4.ensures.rolls
 
 pub returns-in-1-clause-of : goal.returns-in-1-clause-of
 returns-in-1-clause-of g c =
@@ -73,16 +79,16 @@ returns-in-4-clause-of g c =
     }
 
 pub returns-in-1-clause-elsewhere : goal.returns-in-1-clause-elsewhere
-returns-in-1-clause-elsewhere g c = first_called _ c.args.pass.now c.roll.new.pass (ap (group_of c.args.self.now.count) (sym c.handler.ensures) ∙ sym c.group.ensures.is ∙ c.in-1.is)
+returns-in-1-clause-elsewhere g c = first_called (group_of c.args.self.now.count (known c.args.pass.now 1).handler) c.args.pass.now c.roll.new.pass (on_group c.args.self.now.count (known c.args.pass.now 1).handler c.handler.result c.group.result 1 c.handler.ensures c.group.ensures.is c.in-1.is)
 
 pub returns-in-2-clause-elsewhere : goal.returns-in-2-clause-elsewhere
-returns-in-2-clause-elsewhere g c = second_called _ c.args.pass.now c.roll_at.new.pass (ap (group_of c.args.self.now.count) (sym c.handler.ensures) ∙ sym c.group.ensures.is ∙ c.in-2.is)
+returns-in-2-clause-elsewhere g c = second_called (group_of c.args.self.now.count (known c.args.pass.now 1).handler) c.args.pass.now c.roll_at.new.pass (on_group c.args.self.now.count (known c.args.pass.now 1).handler c.handler.result c.group.result 2 c.handler.ensures c.group.ensures.is c.in-2.is)
 
 pub returns-in-3-clause-elsewhere : goal.returns-in-3-clause-elsewhere
-returns-in-3-clause-elsewhere g c = third_called _ c.args.pass.now c.roll_at-in-3.new.pass (ap (group_of c.args.self.now.count) (sym c.handler.ensures) ∙ sym c.group.ensures.is ∙ c.in-3.is)
+returns-in-3-clause-elsewhere g c = third_called (group_of c.args.self.now.count (known c.args.pass.now 1).handler) c.args.pass.now c.roll_at-in-3.new.pass (on_group c.args.self.now.count (known c.args.pass.now 1).handler c.handler.result c.group.result 3 c.handler.ensures c.group.ensures.is c.in-3.is)
 
 pub returns-in-4-clause-elsewhere : goal.returns-in-4-clause-elsewhere
-returns-in-4-clause-elsewhere g c = fourth_called _ c.args.pass.now c.roll_at-in-4.new.pass (ap (group_of c.args.self.now.count) (sym c.handler.ensures) ∙ sym c.group.ensures.is ∙ c.in-4.is)
+returns-in-4-clause-elsewhere g c = fourth_called (group_of c.args.self.now.count (known c.args.pass.now 1).handler) c.args.pass.now c.roll_at-in-4.new.pass (on_group c.args.self.now.count (known c.args.pass.now 1).handler c.handler.result c.group.result 4 c.handler.ensures c.group.ensures.is c.in-4.is)
 
 pub roll_at-requires-clause-there : goal.roll_at-requires-clause-there
 roll_at-requires-clause-there g c = second_here _ c.args.self.now c.self.view_is c.self.invariant c.group.result c.group.ensures.there.1 c.in-2.is

@@ -1,35 +1,41 @@
-use Rattle.std.proofs.Common.{sym, ◌∙◌, subst}
+use Rattle.std.proofs.Common.{ℕ, sym, ◌∙◌, subst}
 use Rattle.group_servers.specs.region_calls.Passes.{knows, IsPassOf}
 use Rattle.group_servers.specs.Passes.{IsPassAt}
+use Rattle.group_servers.specs.region_calls.Answers.{scan_answer}
+use Rattle.group_calls.specs.Passes.{IsRegionOn, ScansOn, known, named}
 use Rattle.group_calls.specs.Servers.{Servers}
 use Rattle.group_calls.proofs.Elsewhere.{first_called, second_called, third_called, fourth_called}
 use Rattle.group_calls.proofs.Handlers.{first_keeps, other_keeps}
-use Rattle.group_calls.proofs.There.{second_here, third_here, fourth_here}
+use Rattle.group_calls.proofs.There.{in_group, second_here, third_here, fourth_here}
 use Rattle.group_calls.proofs.groups.Groups.scan.Goals as goal
 
 pub scan-requires-clause-region : goal.scan-requires-clause-region
-scan-requires-clause-region g c = rw (sym c.group.ensures.is ∙ c.in-1.is) at c.requires.region
+scan-requires-clause-region g c = subst (λ (k : ℕ). IsRegionOn (named g.N1.ServerNaming.name g.N2.ServerNaming.name g.N3.ServerNaming.name g.N4.ServerNaming.name) c.args.region k) (in_group c.args.self.now.count c.args.region c.group.result 1 c.group.ensures.is c.in-1.is) c.requires.region
 
 pub returns-in-1-clause-scans : goal.returns-in-1-clause-scans
-returns-in-1-clause-scans g c = rw (sym c.group.ensures.is ∙ c.in-1.is) c.scan.ensures.scans
+returns-in-1-clause-scans g c =
+    subst (λ (k : ℕ). ScansOn (named g.N1.ServerNaming.name g.N2.ServerNaming.name g.N3.ServerNaming.name g.N4.ServerNaming.name) c.args.region c.args.from.now c.args.to.now (scan_answer c.scan.result) (known c.args.pass.now) (known (record { first = c.scan.new.pass; second = c.args.pass.now.second; third = c.args.pass.now.third; fourth = c.args.pass.now.fourth })) k) (sym (in_group c.args.self.now.count c.args.region c.group.result 1 c.group.ensures.is c.in-1.is)) c.scan.ensures.scans
 
 pub scan_at-requires-clause-region : goal.scan_at-requires-clause-region
-scan_at-requires-clause-region g c = rw (sym c.group.ensures.is ∙ c.in-2.is) at c.requires.region
+scan_at-requires-clause-region g c = subst (λ (k : ℕ). IsRegionOn (named g.N1.ServerNaming.name g.N2.ServerNaming.name g.N3.ServerNaming.name g.N4.ServerNaming.name) c.args.region k) (in_group c.args.self.now.count c.args.region c.group.result 2 c.group.ensures.is c.in-2.is) c.requires.region
 
 pub returns-in-2-clause-scans : goal.returns-in-2-clause-scans
-returns-in-2-clause-scans g c = rw (sym c.group.ensures.is ∙ c.in-2.is) c.scan_at.ensures.scans
+returns-in-2-clause-scans g c =
+    subst (λ (k : ℕ). ScansOn (named g.N1.ServerNaming.name g.N2.ServerNaming.name g.N3.ServerNaming.name g.N4.ServerNaming.name) c.args.region c.args.from.now c.args.to.now (scan_answer c.scan_at.result) (known c.args.pass.now) (known (record { first = c.args.pass.now.first; second = c.scan_at.new.pass; third = c.args.pass.now.third; fourth = c.args.pass.now.fourth })) k) (sym (in_group c.args.self.now.count c.args.region c.group.result 2 c.group.ensures.is c.in-2.is)) c.scan_at.ensures.scans
 
 pub scan_at-requires-in-3-clause-region : goal.scan_at-requires-in-3-clause-region
-scan_at-requires-in-3-clause-region g c = rw (sym c.group.ensures.is ∙ c.in-3.is) at c.requires.region
+scan_at-requires-in-3-clause-region g c = subst (λ (k : ℕ). IsRegionOn (named g.N1.ServerNaming.name g.N2.ServerNaming.name g.N3.ServerNaming.name g.N4.ServerNaming.name) c.args.region k) (in_group c.args.self.now.count c.args.region c.group.result 3 c.group.ensures.is c.in-3.is) c.requires.region
 
 pub returns-in-3-clause-scans : goal.returns-in-3-clause-scans
-returns-in-3-clause-scans g c = rw (sym c.group.ensures.is ∙ c.in-3.is) c.scan_at-in-3.ensures.scans
+returns-in-3-clause-scans g c =
+    subst (λ (k : ℕ). ScansOn (named g.N1.ServerNaming.name g.N2.ServerNaming.name g.N3.ServerNaming.name g.N4.ServerNaming.name) c.args.region c.args.from.now c.args.to.now (scan_answer c.scan_at-in-3.result) (known c.args.pass.now) (known (record { first = c.args.pass.now.first; second = c.args.pass.now.second; third = c.scan_at-in-3.new.pass; fourth = c.args.pass.now.fourth })) k) (sym (in_group c.args.self.now.count c.args.region c.group.result 3 c.group.ensures.is c.in-3.is)) c.scan_at-in-3.ensures.scans
 
 pub scan_at-requires-in-4-clause-region : goal.scan_at-requires-in-4-clause-region
-scan_at-requires-in-4-clause-region g c = rw (sym c.group.ensures.is ∙ c.in-4.is) at c.requires.region
+scan_at-requires-in-4-clause-region g c = subst (λ (k : ℕ). IsRegionOn (named g.N1.ServerNaming.name g.N2.ServerNaming.name g.N3.ServerNaming.name g.N4.ServerNaming.name) c.args.region k) (in_group c.args.self.now.count c.args.region c.group.result 4 c.group.ensures.is c.in-4.is) c.requires.region
 
 pub returns-in-4-clause-scans : goal.returns-in-4-clause-scans
-returns-in-4-clause-scans g c = rw (sym c.group.ensures.is ∙ c.in-4.is) c.scan_at-in-4.ensures.scans
+returns-in-4-clause-scans g c =
+    subst (λ (k : ℕ). ScansOn (named g.N1.ServerNaming.name g.N2.ServerNaming.name g.N3.ServerNaming.name g.N4.ServerNaming.name) c.args.region c.args.from.now c.args.to.now (scan_answer c.scan_at-in-4.result) (known c.args.pass.now) (known (record { first = c.args.pass.now.first; second = c.args.pass.now.second; third = c.args.pass.now.third; fourth = c.scan_at-in-4.new.pass })) k) (sym (in_group c.args.self.now.count c.args.region c.group.result 4 c.group.ensures.is c.in-4.is)) c.scan_at-in-4.ensures.scans
 
 pub returns-in-1-clause-of : goal.returns-in-1-clause-of
 returns-in-1-clause-of g c =
