@@ -1,5 +1,6 @@
 -- Passes that are back, what they know, and their seats.
-use Rattle.std.proofs.Common.{◌≡◌, inl, inr, ℕ, zero, suc, ◌+◌, ◌<◌, ◌≤◌, Bool, true, false, List, [], ◌∷◌, ◌++◌, length, map, set, Option, Some, slice_get, Contains, refl, sym, ap, ◌∙◌, subst, arith}
+use Rattle.std.proofs.Common.{◌≡◌, inl, inr, ℕ, zero, suc, ◌+◌, ◌<◌, ◌≤◌, Bool, true, false, List, [], ◌∷◌, ◌++◌, length, map, set, Option, Some, slice_get, Contains, refl, sym, ap, ◌∙◌, subst, arith, length-append}
+use Rattle.std.proofs.lemmas.List.{length-map}
 use Rattle.log_berth.specs.Standing.{Standing, AreBack, Saw, AllSaw}
 use Rattle.pass_calls.specs.log_service.declared.seats.LogSeat.{LogSeat}
 use Rattle.pass_calls.specs.log_service.Numbers.{seen_synced, seen_stored, seen_closed}
@@ -190,3 +191,19 @@ module _ {N : Type 0} {g : Ghosts N} (the : ServiceId) (ps : List (Pass N g)) (w
       let i = contains_get (map knows ps) p has in
       let q = map_get (knows {N = N} {g = g}) ps i.0 p i.2 in
       ((saw_each ps words broken saw q.0 (get_contains ps i.0 q.0 q.1)).fault (ap (λ (t : ThePass). t.broken) q.2 ∙ e)).0
+
+-- where all seats are given back, as many are back as there are
+pub seats_given : {A : Type 0} (seat : A → LogSeat) (first mid last : List Standing) (ps : List A) (hs : List LogSeat) (n : ℕ) → mid ≡ first ++ device_seats (map seat ps) → last ≡ mid ++ device_seats hs → length hs ≡ 2 → length first + (length ps + 2) ≡ n → length last ≡ n
+seats_given seat first mid last ps hs n one two helpers all =
+    omega (
+      arith,
+      ap length one,
+      ap length two,
+      length-append first (device_seats (map seat ps)),
+      length-append mid (device_seats hs),
+      length-map (map seat ps) (λ (s : LogSeat). s.device),
+      length-map ps seat,
+      length-map hs (λ (s : LogSeat). s.device),
+      helpers,
+      all,
+    )

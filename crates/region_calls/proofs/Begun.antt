@@ -1,9 +1,8 @@
 -- A store that was recovered, on which a device is started.
-use Rattle.std.proofs.Common.{◌≡◌, ◌≢◌, ◌↔◌, ◌⊎◌, inl, inr, ℕ, zero, suc, ◌+◌, ◌-◌, ◌^◌, ◌<◌, ◌≤◌, List, [], ◌∷◌, length, map, take, get_or, Contains, refl, sym, ap, ◌∙◌, subst, arith}
+use Rattle.std.proofs.Common.{◌≡◌, ◌↔◌, ◌⊎◌, inl, inr, ℕ, zero, suc, ◌+◌, ◌-◌, ◌^◌, ◌<◌, ◌≤◌, List, [], ◌∷◌, length, map, take, get_or, Contains, refl, sym, ap, ◌∙◌, subst, arith}
 use Rattle.std.proofs.lemmas.Bool.{cases_lt}
-use Rattle.std.proofs.lemmas.Option.{slice_get_within}
 use Rattle.log_model.specs.Entry.{Entry}
-use Rattle.log_model.specs.Files.{Files, IsLogged}
+use Rattle.log_model.specs.Files.{Files}
 use Rattle.log_model.specs.Recovered.{IsGreatest, IsSeen, IsFlushed, IsLast, IsRecovered}
 use Rattle.recovery_laws.specs.Alike.{AllAlike}
 use Rattle.recovery_laws.specs.Change.{RecoversSome, PutBy}
@@ -25,7 +24,7 @@ use Rattle.region_replay.specs.Ready.{Found}
 use Rattle.region_replay.specs.Opened.{AreOf}
 use Rattle.region_replay.specs.Cleared.{IsReady}
 use Rattle.region_calls.specs.Seeds.{mark, marks_from, flushed_of}
-use Rattle.region_calls.proofs.Marks.{IsMark, mark_in, mark_at, marks_length, of_at, get_take, flushed_in, flushed_at, flushed_none, some_at, last_at}
+use Rattle.region_calls.proofs.Marks.{mark_in, mark_at, marks_length, of_at, get_take, flushed_in, flushed_at, flushed_none, some_at, last_at}
 
 greatest_below : (P : ℕ → Type 0) (a b : ℕ) → IsGreatest P a → IsGreatest P b → a ≤ b
 greatest_below P a b x y = elim x.reached as (λ _. a ≤ b) [

@@ -13,3 +13,4 @@ pub mod ClosedLaws
 pub mod LeavesLaws
 pub mod BackLaws
 pub mod TakenLaws
+pub mod Loops

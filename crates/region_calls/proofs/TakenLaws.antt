@@ -1,6 +1,7 @@
 -- Regions that were taken apart, with the words of the log that was closed.
-use Rattle.std.proofs.Common.{◌≡◌, ℕ, zero, suc, ◌+◌, ◌-◌, ◌<◌, ◌≤◌, Bool, true, List, [], ◌∷◌, length, map, Option, Some, None, slice_get, slice_index, set, Contains, refl, sym, ap, ◌∙◌, subst, arith}
+use Rattle.std.proofs.Common.{◌≡◌, inl, inr, ℕ, zero, suc, ◌+◌, ◌-◌, ◌<◌, ◌≤◌, Bool, true, List, [], ◌∷◌, ◌++◌, length, map, Option, Some, None, slice_get, slice_index, set, Contains, refl, sym, ap, ◌∙◌, subst, arith}
 use Rattle.std.specs.List.{range_with_len}
+use Rattle.std.proofs.lemmas.Bool.{cases_lt}
 use Rattle.std.proofs.Math.Logic.{∥∥₁_map, ∥∥₁_map₂}
 use Rattle.log_model.specs.Entry.{Entry}
 use Rattle.atomic_table.specs.Seated.{TableId}
@@ -26,6 +27,7 @@ use Rattle.region_calls.specs.Wordings.{region_of, IsWorded}
 use Rattle.region_calls.specs.declared.closed.ClosedRegion.{ClosedRegion}
 use Rattle.region_calls.specs.declared.apart.Taken.{Taken}
 use Rattle.region_calls.proofs.BackLaws.{contains_get, get_low}
+use Rattle.region_calls.proofs.Seated.{get_push}
 use Rattle.region_calls.proofs.ClosedLaws.{closed_region, survives_of, survived_of}
 
 -- ---- places
@@ -71,6 +73,36 @@ module _ (bases : ℕ → Base) (handlers : ℕ) (ring : TableId) (passes : List
   -- another place does not matter
   pub taken_kept : (old new : List (Option (RingKey Item))) (k : ℕ) (base : Base) (xs : List Line) → slice_get new k ≡ slice_get old k → IsTaken bases handlers ring passes old k base xs → IsTaken bases handlers ring passes new k base xs
   taken_kept old new k base xs same t = record { met = t.met; pass = t.pass; there = same ∙ t.there; of_ring = t.of_ring; of_region = t.of_region; pushed = t.pushed }
+
+  -- one more was taken apart
+  pub taken_more : (was : List Pass) (old new : List (Option (RingKey Item))) (ts after : List Taken) (one : Taken) (place n : ℕ) → after ≡ ts ++ one ∷ [] → was ≡ passes → length ts ≡ n → place ≡ n → ((j : ℕ) → (j ≡ place → ⊥) → slice_get new j ≡ slice_get old j)
+      → ((k : ℕ) (t : Taken) → slice_get ts k ≡ Some t → IsTaken bases handlers ring passes old k t.base t.lines.items) → IsTaken bases handlers ring was new place one.base one.lines.items
+      → (k : ℕ) (t : Taken) → slice_get after k ≡ Some t → IsTaken bases handlers ring passes new k t.base t.lines.items
+  taken_more was old new ts after one place n pushed known count at_place others before now k t at = elim (get_push ts one k t (subst (λ (l : List Taken). slice_get l k ≡ Some t) pushed at)) as (λ _. IsTaken bases handlers ring passes new k t.base t.lines.items) [
+    | inl old_one ↦
+        let low = get_low ts k t old_one in
+        taken_kept old new k t.base t.lines.items (others k (λ e. omega (arith, e, low, count, at_place))) (before k t old_one)
+    | inr (here, same) ↦
+        let place_is : place ≡ k = omega (arith, here, count, at_place) in
+        let mine = subst (λ (l : List Pass). IsTaken bases handlers ring l new place one.base one.lines.items) known now in
+        subst (λ (x : Taken). IsTaken bases handlers ring passes new k x.base x.lines.items) same (subst (λ (i : ℕ). IsTaken bases handlers ring passes new i one.base one.lines.items) place_is mine)
+  ]
+
+  -- one more was taken apart, and its base's last number noted
+  pub taken_noted : (was : List Pass) (old new : List (Option (RingKey Item))) (one : Taken) (lasts noted : List ℕ) (place n m : ℕ) → noted ≡ set lasts place one.base.last → was ≡ passes → place ≡ n → m ≡ n + 1 → n < length lasts → ((j : ℕ) → (j ≡ place → ⊥) → slice_get new j ≡ slice_get old j)
+      → ((k : ℕ) → k < n → (base : Base) × (xs : List Line) × IsTaken bases handlers ring passes old k base xs × (slice_index lasts k ≡ base.last)) → IsTaken bases handlers ring was new place one.base one.lines.items
+      → (k : ℕ) → k < m → (base : Base) × (xs : List Line) × IsTaken bases handlers ring passes new k base xs × (slice_index noted k ≡ base.last)
+  taken_noted was old new one lasts noted place n m write known at_place more room others before now k low = elim (cases_lt k n) as (λ _. (base : Base) × (xs : List Line) × IsTaken bases handlers ring passes new k base xs × (slice_index noted k ≡ base.last)) [
+    | inl first ↦
+        let t = before k first in
+        let other : k ≡ place → ⊥ = (λ e. omega (arith, e, first, at_place)) in
+        (t.0, t.1, taken_kept old new k t.0 t.1 (others k other) t.2, ap (λ (l : List ℕ). slice_index l k) write ∙ index_set_other lasts place k one.base.last other ∙ t.3)
+    | inr behind ↦
+        let place_is : place ≡ k = omega (arith, behind, low, more, at_place) in
+        let mine = subst (λ (l : List Pass). IsTaken bases handlers ring l new place one.base one.lines.items) known now in
+        let set_is = index_set_same lasts place one.base.last (omega (arith, at_place, room)) in
+        (one.base, one.lines.items, subst (λ (i : ℕ). IsTaken bases handlers ring passes new i one.base one.lines.items) place_is mine, ap (λ (i : ℕ). slice_index noted i) (sym place_is) ∙ ap (λ (l : List ℕ). slice_index l place) write ∙ set_is)
+  ]
 
   -- what was pushed of a region that was taken apart
   pub pushed_at : (found begun : Files) (places : List (Option (RingKey Item))) (k : ℕ) (base : Base) (xs : List Line) → IsTaken bases handlers ring passes places k base xs → RecoversAlike found begun (k + 1) → IsBaseOf found (k + 1) (bases (k + 1))

@@ -2,6 +2,7 @@
 use Rattle.std.proofs.Common.{◌≡◌, ℕ, zero, suc, ◌+◌, ◌-◌, ◌<◌, ◌≤◌, Bool, IsTrue, List, [], ◌++◌, length, set, get_or, Option, Some, None, Result, Ok, Err, slice_get, refl, sym, ap, ◌∙◌, subst, arith}
 use Rattle.std.proofs.lemmas.List.{append-nil}
 use Rattle.std.proofs.lemmas.Option.{slice_get_read, slice_get_within}
+use Rattle.atomic_table.specs.Seated.{TableId}
 use Rattle.cell_model.specs.Batch.{Batch}
 use Rattle.cell_model.specs.Cell.{Cell}
 use Rattle.hand_register.specs.Views.{HandView}
@@ -10,7 +11,7 @@ use Rattle.pass_calls.specs.log_service.log_device.declared.error.Rolled.{Rolled
 use Rattle.pass_calls.specs.log_service.log_device.declared.error.RollRefusal.{RollRefusal}
 use Rattle.pass_calls.specs.log_service.log_device.declared.error.RollRefusal.TheVariants as roll
 use Rattle.pass_calls.specs.log_service.declared.seats.LogSeat.{LogSeat}
-use Rattle.pass_calls.specs.log_service.Places.{IsLaterSeat}
+use Rattle.pass_calls.specs.log_service.Places.{ServiceId, IsSeatOf, IsLaterSeat}
 use Rattle.region_model.specs.Calls.{Answer, Raw, is_put, is_scan, is_flush, is_roll}
 use Rattle.region_model.specs.Journal.{Base, Caller, last_of}
 use Rattle.region_model.specs.Lines.{Line, edits_in, last_in}
@@ -26,7 +27,7 @@ use Rattle.pass_calls.specs.region_lock.declared.naming.LockNaming.{Ghosts}
 use Rattle.pass_calls.specs.region_lock.Answers.{put_answer, scan_answer, flush_answer, roll_answer}
 use Rattle.pass_calls.specs.region_lock.Calls.{PutsAt, ScansAt, FlushesAt, RollsAt}
 use Rattle.pass_calls.specs.region_lock.Parts.{AreCalledBelow}
-use Rattle.pass_calls.specs.region_lock.Passes.{known_of, SamePass}
+use Rattle.pass_calls.specs.region_lock.Passes.{IsAtService, known_of, SamePass}
 use Rattle.pass_calls.proofs.region_lock_laws.Knowns.{last_same}
 use Rattle.pass_calls.proofs.region_lock_laws.Lifts.{rolls_from}
 use Rattle.region_calls.specs.Answers.{point_seen, begun_answer}
@@ -77,6 +78,13 @@ module _ {N : Type 0} {g : Ghosts N} where
       let hand : IsHandOf h calls (k + 1) p = all k p at in
       let region : p.viewer.region ≡ k + 1 = hand.region in
       record { at = at; low = low; next = omega (arith, place, some); hand = hand; region = omega (arith, region) }
+
+  pub at_service : (ring : TableId) (place of : ServiceId) (h calls r k : ℕ) (ps : List (RegionPass N g)) (p : RegionPass N g) (seat : LogSeat) → IsUsed h calls r k ps p → place.ring ≡ ring → place ≡ of → r ≤ of.regions → IsSeatOf of seat → IsAtService ring place p.viewer.region seat
+  at_service ring place of h calls r k ps p seat u is same few own = record {
+    ring = is;
+    region = (omega (arith, u.region), omega (arith, u.region, u.next, few, ap (λ (q : ServiceId). q.regions) same));
+    seat = subst (λ (q : ServiceId). IsSeatOf q seat) (sym same) own;
+  }
 
   pub puts_used : (name : Naming) (bases : ℕ → Base) (time r k : ℕ) (sync : Bool) (batch : Batch) (caller : Caller) (answer : Answer) (h calls n : ℕ) (ps : List (RegionPass N g)) (p p' : RegionPass N g) (seat seat' : LogSeat)
       → IsUsed h calls r k ps p → name.bases ≡ bases → length ps ≡ n → IsTrue (is_put answer)

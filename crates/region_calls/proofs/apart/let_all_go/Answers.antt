@@ -1,15 +1,11 @@
-use Rattle.std.proofs.Common.{◌≡◌, inl, inr, ℕ, ◌<◌, List, [], ◌∷◌, ◌++◌, length, map, Some, None, slice_get, slice_index, set, refl, sym, ap, ◌∙◌, subst, arith, length-append, append_assoc}
-use Rattle.std.proofs.lemmas.Bool.{cases_lt}
+use Rattle.std.proofs.Common.{◌≡◌, ℕ, ◌<◌, List, [], ◌∷◌, ◌++◌, length, map, Some, None, slice_get, set, refl, sym, ap, ◌∙◌, subst, arith, length-append}
 use Rattle.std.specs.Vec.Iter.{into_iter_items}
 use Rattle.pass_calls.proofs.region_lock_laws.Lists.{length_set}
-use Rattle.region_model.specs.Journal.{Base}
-use Rattle.region_model.specs.Lines.{Line}
-use Rattle.server_model.specs.Pass.{Pass as ThePass}
-use Rattle.region_calls.specs.Closes.{IsTaken}
 use Rattle.region_calls.specs.Passes.{knows}
 use Rattle.region_calls.specs.declared.apart.Taken.{Taken}
 use Rattle.region_calls.specs.declared.pass.Pass.{Pass}
-use Rattle.region_calls.proofs.TakenLaws.{out_get, taken_kept, index_set_same, index_set_other}
+use Rattle.region_calls.proofs.Loops.{one_more, all_given, one_over}
+use Rattle.region_calls.proofs.TakenLaws.{out_get, taken_noted}
 use Rattle.region_calls.proofs.apart.let_all_go.Goals as goal
 
 pub letting-init : goal.letting-init
@@ -30,13 +26,13 @@ letting-init g c =
 pub take_region-one-requires-clause-place : goal.take_region-one-requires-clause-place
 take_region-one-requires-clause-place g c =
     let inv = c.letting.invariant in
-    let low : length c.letting.yielded < length c.args.regions.items = omega (arith, ap length inv.rest, length-append c.letting.yielded (into_iter_items c.letting.lock-iterator), ap length c.in-Some.ensures.steps.0) in
+    let low = one_more c.letting.yielded (into_iter_items c.letting.lock-iterator) c.args.regions.items c.in-Some.lock (into_iter_items c.next.new.self) inv.rest c.in-Some.ensures.steps.0 in
     (omega (arith, inv.place, low, c.requires.places.2), subst (λ (i : ℕ). slice_get c.letting.places i ≡ Some None) (sym inv.place) (inv.out (length c.letting.yielded) (omega arith) (omega (arith, low, inv.all))))
 
 pub take_region-one-requires-clause-passes : goal.take_region-one-requires-clause-passes
 take_region-one-requires-clause-passes g c =
     let inv = c.letting.invariant in
-    let low : length c.letting.yielded < length c.args.regions.items = omega (arith, ap length inv.rest, length-append c.letting.yielded (into_iter_items c.letting.lock-iterator), ap length c.in-Some.ensures.steps.0) in
+    let low = one_more c.letting.yielded (into_iter_items c.letting.lock-iterator) c.args.regions.items c.in-Some.lock (into_iter_items c.next.new.self) inv.rest c.in-Some.ensures.steps.0 in
     (c.requires.passes.0, inv.of c.requires.passes.0 c.requires.passes.1, omega (arith, inv.place, low, c.requires.passes.2))
 
 pub letting-preserved : goal.letting-preserved
@@ -54,24 +50,15 @@ letting-preserved g c =
     let ring = g.N.ServiceNaming.ring in
     let steps = c.in-Some.ensures.steps.0 in
     let longer = length-append ys (c.in-Some.lock ∷ []) in
-    let room : length ys < 64 = omega (arith, ap length inv.rest, length-append ys (into_iter_items c.letting.lock-iterator), ap length steps, c.requires.places.2) in
+    let fewer = one_more c.letting.yielded (into_iter_items c.letting.lock-iterator) c.args.regions.items c.in-Some.lock (into_iter_items c.next.new.self) inv.rest c.in-Some.ensures.steps.0 in
+    let room : length ys < 64 = omega (arith, fewer, c.requires.places.2) in
     record {
       known = done.knows ∙ inv.known;
       of = λ the a. done.of the (inv.of the a);
-      taken = λ k low. elim (cases_lt k (length ys)) as (λ _. (base : Base) × (xs : List Line) × IsTaken bases handlers ring (map knows was) c.take_region-one.new.places k base xs × (slice_index noted k ≡ base.last)) [
-        | inl before ↦
-            let t = inv.taken k before in
-            let other : k ≡ c.letting.place → ⊥ = (λ e. omega (arith, e, before, inv.place)) in
-            (t.0, t.1, taken_kept bases handlers ring (map knows was) c.letting.places c.take_region-one.new.places k t.0 t.1 (done.others k other) t.2, ap (λ (l : List ℕ). slice_index l k) write ∙ index_set_other lasts c.letting.place k one.base.last other ∙ t.3)
-        | inr behind ↦
-            let place : c.letting.place ≡ k = omega (arith, behind, low, longer, inv.place) in
-            let now = subst (λ (l : List ThePass). IsTaken bases handlers ring l c.take_region-one.new.places c.letting.place one.base one.lines.items) inv.known done.taken in
-            let set_is = index_set_same lasts c.letting.place one.base.last (omega (arith, inv.place, room, inv.lasts, c.requires.room)) in
-            (one.base, one.lines.items, subst (λ (i : ℕ). IsTaken bases handlers ring (map knows was) c.take_region-one.new.places i one.base one.lines.items) place now, ap (λ (i : ℕ). slice_index noted i) (sym place) ∙ ap (λ (l : List ℕ). slice_index l c.letting.place) write ∙ set_is)
-      ];
+      taken = taken_noted bases handlers ring (map knows was) (map knows c.letting.passes.items) c.letting.places c.take_region-one.new.places one lasts noted c.letting.place (length ys) (length (ys ++ c.in-Some.lock ∷ [])) write inv.known inv.place longer (omega (arith, room, inv.lasts, c.requires.room)) done.others inv.taken done.taken;
       out = λ j low high. done.others j (λ e. omega (arith, e, low, longer, inv.place)) ∙ inv.out j (omega (arith, low, longer)) (omega (arith, high, done.count));
       all = done.count ∙ inv.all;
-      rest = append_assoc ys (c.in-Some.lock ∷ []) (into_iter_items c.next.new.self) ∙ ap (λ l. ys ++ l) (sym steps) ∙ inv.rest;
+      rest = one_over ys (into_iter_items c.letting.lock-iterator) c.args.regions.items c.in-Some.lock (into_iter_items c.next.new.self) inv.rest steps;
       place = omega (arith, inv.place, longer);
       len = omega (arith, c.in-Some.ensures.steps.1, ap length steps, inv.len);
       lasts = ap length write ∙ length_set lasts c.letting.place one.base.last ∙ inv.lasts;
@@ -80,12 +67,23 @@ letting-preserved g c =
 pub returns-clause-taken : goal.returns-clause-taken
 returns-clause-taken g c k low =
     let inv = c.letting.invariant in
-    inv.taken k (omega (arith, low, ap length inv.rest, length-append c.letting.yielded (into_iter_items c.letting.lock-iterator), inv.len, c.in-None.ensures.steps.0))
+    let all = all_given c.letting.yielded (into_iter_items c.letting.lock-iterator) c.args.regions.items _ inv.rest inv.len c.in-None.ensures.steps.0 in
+    inv.taken k (omega (arith, low, all))
 
 pub note-requires : goal.note-requires
 note-requires g c =
     let inv = c.letting.invariant in
-    omega (arith, inv.place, inv.lasts, c.requires.room, ap length inv.rest, length-append c.letting.yielded (into_iter_items c.letting.lock-iterator), ap length c.in-Some.ensures.steps.0, c.requires.places.2)
+    let low = one_more c.letting.yielded (into_iter_items c.letting.lock-iterator) c.args.regions.items c.in-Some.lock (into_iter_items c.next.new.self) inv.rest c.in-Some.ensures.steps.0 in
+    omega (arith, inv.place, inv.lasts, c.requires.room, low, c.requires.places.2)
 
 pub returns-clause-of : goal.returns-clause-of
 returns-clause-of g c the a = c.letting.invariant.of the a
+
+pub overflow_add-place : goal.overflow_add-place
+overflow_add-place g c =
+    let inv = c.letting.invariant in
+    let low = one_more c.letting.yielded (into_iter_items c.letting.lock-iterator) c.args.regions.items c.in-Some.lock (into_iter_items c.next.new.self) inv.rest c.in-Some.ensures.steps.0 in
+    omega (arith, inv.place, low, c.requires.places.2)
+
+pub returns-clause-count : goal.returns-clause-count
+returns-clause-count g c = (c.letting.invariant.all, c.letting.invariant.lasts)

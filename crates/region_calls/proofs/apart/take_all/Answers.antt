@@ -1,13 +1,11 @@
-use Rattle.std.proofs.Common.{◌≡◌, inl, inr, ℕ, ◌<◌, List, [], ◌∷◌, ◌++◌, length, map, Some, None, slice_get, refl, sym, ap, ◌∙◌, subst, arith, length-append, append_assoc}
+use Rattle.std.proofs.Common.{◌≡◌, ℕ, List, [], ◌∷◌, length, map, Some, None, slice_get, refl, sym, ap, ◌∙◌, subst, arith, length-append}
 use Rattle.std.specs.Vec.Iter.{into_iter_items}
-use Rattle.server_model.specs.Pass.{Pass as ThePass}
-use Rattle.region_calls.specs.Closes.{IsTaken}
 use Rattle.region_calls.specs.Passes.{knows}
 use Rattle.region_calls.specs.declared.apart.Taken.{Taken}
 use Rattle.region_calls.specs.declared.pass.Pass.{Pass}
+use Rattle.region_calls.proofs.Loops.{one_more, all_given, one_over}
 use Rattle.region_calls.proofs.BackLaws.{get_low}
-use Rattle.region_calls.proofs.TakenLaws.{out_get, taken_kept}
-use Rattle.region_calls.proofs.Seated.{get_push}
+use Rattle.region_calls.proofs.TakenLaws.{out_get, taken_more}
 use Rattle.region_calls.proofs.apart.take_all.Goals as goal
 
 pub taking-init : goal.taking-init
@@ -29,13 +27,13 @@ taking-init g c =
 pub take_region-one-requires-clause-place : goal.take_region-one-requires-clause-place
 take_region-one-requires-clause-place g c =
     let inv = c.taking.invariant in
-    let low : length c.taking.yielded < length c.args.regions.items = omega (arith, ap length inv.rest, length-append c.taking.yielded (into_iter_items c.taking.lock-iterator), ap length c.in-Some.ensures.steps.0) in
+    let low = one_more c.taking.yielded (into_iter_items c.taking.lock-iterator) c.args.regions.items c.in-Some.lock (into_iter_items c.next.new.self) inv.rest c.in-Some.ensures.steps.0 in
     (omega (arith, inv.place, low, c.requires.places.2), subst (λ (i : ℕ). slice_get c.taking.places i ≡ Some None) (sym inv.place) (inv.out (length c.taking.yielded) (omega arith) (omega (arith, low, inv.all))))
 
 pub take_region-one-requires-clause-passes : goal.take_region-one-requires-clause-passes
 take_region-one-requires-clause-passes g c =
     let inv = c.taking.invariant in
-    let low : length c.taking.yielded < length c.args.regions.items = omega (arith, ap length inv.rest, length-append c.taking.yielded (into_iter_items c.taking.lock-iterator), ap length c.in-Some.ensures.steps.0) in
+    let low = one_more c.taking.yielded (into_iter_items c.taking.lock-iterator) c.args.regions.items c.in-Some.lock (into_iter_items c.next.new.self) inv.rest c.in-Some.ensures.steps.0 in
     (c.requires.passes.0, inv.of c.requires.passes.0 c.requires.passes.1, omega (arith, inv.place, low, c.requires.passes.2))
 
 pub taking-preserved : goal.taking-preserved
@@ -54,18 +52,10 @@ taking-preserved g c =
     record {
       known = done.knows ∙ inv.known;
       of = λ the a. done.of the (inv.of the a);
-      taken = λ k t at. elim (get_push old one k t (subst (λ (l : List Taken). slice_get l k ≡ Some t) c.push_reserved.ensures.items at)) as (λ _. IsTaken bases handlers ring (map knows was) c.take_region-one.new.places k t.base t.lines.items) [
-        | inl before ↦
-            let low = get_low old k t before in
-            taken_kept bases handlers ring (map knows was) c.taking.places c.take_region-one.new.places k t.base t.lines.items (done.others k (λ e. omega (arith, e, low, inv.count, inv.place))) (inv.taken k t before)
-        | inr (here, same) ↦
-            let place : c.taking.place ≡ k = omega (arith, here, inv.count, inv.place) in
-            let now = subst (λ (l : List ThePass). IsTaken bases handlers ring l c.take_region-one.new.places c.taking.place one.base one.lines.items) inv.known done.taken in
-            subst (λ (x : Taken). IsTaken bases handlers ring (map knows was) c.take_region-one.new.places k x.base x.lines.items) same (subst (λ (i : ℕ). IsTaken bases handlers ring (map knows was) c.take_region-one.new.places i one.base one.lines.items) place now)
-      ];
+      taken = taken_more bases handlers ring (map knows was) (map knows c.taking.passes.items) c.taking.places c.take_region-one.new.places old c.push_reserved.new.self.items one c.taking.place (length ys) c.push_reserved.ensures.items inv.known inv.count inv.place done.others inv.taken done.taken;
       out = λ j low high. done.others j (λ e. omega (arith, e, low, longer, inv.place)) ∙ inv.out j (omega (arith, low, longer)) (omega (arith, high, done.count));
       all = done.count ∙ inv.all;
-      rest = append_assoc ys (c.in-Some.lock ∷ []) (into_iter_items c.next.new.self) ∙ ap (λ l. ys ++ l) (sym steps) ∙ inv.rest;
+      rest = one_over ys (into_iter_items c.taking.lock-iterator) c.args.regions.items c.in-Some.lock (into_iter_items c.next.new.self) inv.rest steps;
       place = omega (arith, inv.place, longer);
       count = ap length c.push_reserved.ensures.items ∙ omega (arith, length-append old (one ∷ []), longer, inv.count);
       len = omega (arith, c.in-Some.ensures.steps.1, ap length steps, inv.len);
@@ -77,3 +67,21 @@ returns-clause-taken g c k t at = c.taking.invariant.taken k t at
 
 pub returns-clause-of : goal.returns-clause-of
 returns-clause-of g c the a = c.taking.invariant.of the a
+
+pub overflow_add-place : goal.overflow_add-place
+overflow_add-place g c =
+    let inv = c.taking.invariant in
+    let low = one_more c.taking.yielded (into_iter_items c.taking.lock-iterator) c.args.regions.items c.in-Some.lock (into_iter_items c.next.new.self) inv.rest c.in-Some.ensures.steps.0 in
+    omega (arith, inv.place, low, c.requires.places.2)
+
+pub push_reserved-requires : goal.push_reserved-requires
+push_reserved-requires g c =
+    let inv = c.taking.invariant in
+    let low = one_more c.taking.yielded (into_iter_items c.taking.lock-iterator) c.args.regions.items c.in-Some.lock (into_iter_items c.next.new.self) inv.rest c.in-Some.ensures.steps.0 in
+    omega (arith, inv.count, inv.room, low)
+
+pub returns-clause-count : goal.returns-clause-count
+returns-clause-count g c =
+    let inv = c.taking.invariant in
+    let all = all_given c.taking.yielded (into_iter_items c.taking.lock-iterator) c.args.regions.items _ inv.rest inv.len c.in-None.ensures.steps.0 in
+    (inv.count ∙ all, inv.all)

@@ -1,9 +1,10 @@
-use Rattle.std.proofs.Common.{◌≡◌, ℕ, List, length, sym, ap, subst, arith}
+use Rattle.std.proofs.Common.{◌≡◌, ℕ, List, length, sym, ap, ◌∙◌, subst, arith}
 use Rattle.log_berth.specs.Standing.{Standing, AllSaw}
 use Rattle.pass_calls.specs.log_service.declared.seats.LogSeat.{LogSeat}
+use Rattle.region_calls.specs.declared.pass.Pass.{Pass}
 use Rattle.region_calls.specs.Deals.{AreSeatsOf}
 use Rattle.region_calls.specs.Backs.{AreSeats, device_seats, seats_of}
-use Rattle.region_calls.proofs.BackLaws.{saw_split}
+use Rattle.region_calls.proofs.BackLaws.{saw_split, seats_given}
 use Rattle.region_calls.proofs.closing.shut.Goals as goal
 
 pub give_seats-requires : goal.give_seats-requires
@@ -37,3 +38,9 @@ returns-clause-saw g c =
     let all = subst (λ (l : List Standing). AllSaw l words broken) c.give_seats.ensures.back c.close.ensures.saw in
     let first = (saw_split c.give_passes.new.seats.devices.seats (device_seats c.helpers.inside.seats.items) words broken all).0 in
     (saw_split c.args.seats.devices.seats (device_seats (seats_of c.args.back.items)) words broken (subst (λ (l : List Standing). AllSaw l words broken) c.give_passes.ensures.back first)).1
+
+pub close-requires-clause-all : goal.close-requires-clause-all
+close-requires-clause-all g c =
+    let two = ap length c.helpers.view_is ∙ c.requires.helpers.1 in
+    seats_given (λ (p : Pass g.row.N.Denot g.N.LockNaming). p.seat) c.args.seats.devices.seats c.give_passes.new.seats.devices.seats c.give_seats.new.seats.devices.seats c.args.back.items c.helpers.inside.seats.items c.args.service.seats
+    c.give_passes.ensures.back c.give_seats.ensures.back two c.requires.seats.1

@@ -4,6 +4,7 @@ use Rattle.pass_calls.specs.region_lock.declared.pass.RegionPass.{RegionPass}
 use Rattle.pass_calls.proofs.region_lock_laws.Lists.{get_set, length_set}
 use Rattle.region_calls.specs.Hands.{Deal, deal_of}
 use Rattle.region_calls.specs.Passes.{IsNewHand, AreNewHands}
+use Rattle.region_calls.proofs.BackLaws.{get_low}
 use Rattle.region_calls.proofs.Seated.{hands_more}
 use Rattle.region_calls.proofs.dealing.deal.Goals as goal
 
@@ -45,3 +46,8 @@ dealing-preserved g c =
       made = ap length pushed ∙ omega (arith, length-append c.dealing.hands.items (c.next.result ∷ []), inv.made);
       room = omega (arith, inv.room, c.push_reserved.ensures.capacity);
     }
+
+pub returns-clause-deals : goal.returns-clause-deals
+returns-clause-deals g c k d at =
+    let low = get_low c.dealing.regions.items k d at in
+    c.dealing.invariant.done k d (omega (arith, low, c.dealing-test.false, c.len-place-end.ensures, c.args.regions.now.ok.0, c.dealing.invariant.count)) at

@@ -1,10 +1,10 @@
-use Rattle.std.proofs.Common.{◌≡◌, ℕ, ◌+◌, List, [], ◌∷◌, ◌++◌, length, sym, ap, ◌∙◌, subst, arith, length-append}
-use Rattle.std.proofs.lemmas.List.{append_assoc}
+use Rattle.std.proofs.Common.{◌≡◌, ℕ, ◌+◌, List, [], ◌∷◌, ◌++◌, length, sym, ap, ◌∙◌, subst, arith, length-append, slice_get, Some}
 use Rattle.std.specs.Vec.Iter.{into_iter_items}
 use Rattle.region_calls.specs.declared.seeds.RegionSeeds.{RegionSeeds}
-use Rattle.region_calls.specs.Seeds.{AreSeeds}
+use Rattle.region_calls.specs.Seeds.{AreSeeds, IsSeed}
 use Rattle.region_calls.specs.Named.{AreNamedSeeds, AreFrom}
 use Rattle.region_calls.specs.Hands.{Deal, deal_of, AreDeals}
+use Rattle.region_calls.proofs.Loops.{one_more, one_over, all_given, no_item}
 use Rattle.region_calls.proofs.Seated.{deals_more, from_more}
 use Rattle.region_calls.proofs.room.name_regions.Goals as goal
 
@@ -32,6 +32,56 @@ naming-preserved g c =
       hands = subst (λ (l : List Deal). AreDeals 1 h l) (sym c.push_reserved-in-naming.ensures.items) (deals_more 1 h ds d inv.hands (c.in_ok-named.ensures.hands ∙ ap (λ n. deal_of n 1 h) place));
       regions = ap length c.push_reserved.ensures.items ∙ omega (arith, length-append us (u ∷ []), longer, inv.regions);
       dealt = ap length c.push_reserved-in-naming.ensures.items ∙ omega (arith, length-append ds (d ∷ []), longer, inv.dealt);
-      rest = append_assoc ys (x ∷ []) rest ∙ ap (λ (l : List RegionSeeds). ys ++ l) (sym steps) ∙ inv.rest;
+      rest = one_over ys (into_iter_items c.naming.one-iterator) c.args.seeds.items x rest inv.rest steps;
+      len = omega (arith, c.in-Some.ensures.steps.1, ap length steps, inv.len);
       room = (omega (arith, inv.room.0, c.push_reserved.ensures.capacity), omega (arith, inv.room.1, c.push_reserved-in-naming.ensures.capacity));
+    }
+
+pub push_reserved-requires : goal.push_reserved-requires
+push_reserved-requires g c =
+    let inv = c.naming.invariant in
+    let fewer = one_more c.naming.yielded (into_iter_items c.naming.one-iterator) c.args.seeds.items c.in-Some.one (into_iter_items c.next.new.self) inv.rest c.in-Some.ensures.steps.0 in
+    omega (arith, inv.regions, inv.room.0, fewer)
+
+pub push_reserved-requires-in-naming : goal.push_reserved-requires-in-naming
+push_reserved-requires-in-naming g c =
+    let inv = c.naming.invariant in
+    let fewer = one_more c.naming.yielded (into_iter_items c.naming.one-iterator) c.args.seeds.items c.in-Some.one (into_iter_items c.next.new.self) inv.rest c.in-Some.ensures.steps.0 in
+    omega (arith, inv.dealt, inv.room.1, fewer)
+
+pub returns-clause-unlocked : goal.returns-clause-unlocked
+returns-clause-unlocked g c =
+    let inv = c.naming.invariant in
+    (inv.unlocked, inv.regions ∙ all_given c.naming.yielded (into_iter_items c.naming.one-iterator) c.args.seeds.items _ inv.rest inv.len c.in-None.ensures.steps.0)
+
+pub returns-clause-hands : goal.returns-clause-hands
+returns-clause-hands g c =
+    let inv = c.naming.invariant in
+    (inv.hands, inv.dealt ∙ all_given c.naming.yielded (into_iter_items c.naming.one-iterator) c.args.seeds.items _ inv.rest inv.len c.in-None.ensures.steps.0)
+
+pub new-requires-clause-seed : goal.new-requires-clause-seed
+new-requires-clause-seed g c =
+    let h = c.args.handlers in
+    let x : RegionSeeds = c.in-Some.one in
+    let n = length c.naming.yielded + 1 in
+    let seeds = subst (λ (l : List RegionSeeds). AreSeeds h n l) c.in-Some.ensures.steps.0 c.naming.invariant.seeds in
+    subst (λ (m : ℕ). IsSeed h m x) (sym seeds.0.region) seeds.0
+
+pub new-requires-clause-named : goal.new-requires-clause-named
+new-requires-clause-named g c =
+    (subst (λ (l : List RegionSeeds). AreNamedSeeds g.N.LockNaming.desk g.N.LockNaming.spent g.N.VersionsNaming.book g.N.VersionsNaming.region_base g.N.ServiceNaming.lasts l) c.in-Some.ensures.steps.0 c.naming.invariant.named).0
+
+pub naming-init : goal.naming-init
+naming-init g c =
+    let gives = c.into_iter-one-iterator.ensures.into_iter_gives in
+    record {
+      seeds = subst (λ (l : List RegionSeeds). AreSeeds c.args.handlers 1 l) (sym gives.0) c.requires.seeds;
+      named = subst (λ (l : List RegionSeeds). AreNamedSeeds g.N.LockNaming.desk g.N.LockNaming.spent g.N.VersionsNaming.book g.N.VersionsNaming.region_base g.N.ServiceNaming.lasts l) (sym gives.0) c.requires.named;
+      unlocked = subst (λ (l : List ℕ). AreFrom 1 l) (sym c.in_ok-unlocked.ensures.items) tt;
+      hands = λ k d at. absurd (no_item d (subst (λ (l : List Deal). slice_get l k ≡ Some d) c.in_ok-hands.ensures.items at));
+      regions = ap length c.in_ok-unlocked.ensures.items;
+      dealt = ap length c.in_ok-hands.ensures.items;
+      rest = gives.0;
+      len = omega (arith, gives.1, ap length gives.0);
+      room = (omega (arith, c.in_ok-unlocked.ensures.capacity, c.len.ensures, c.args.seeds.ok.0), omega (arith, c.in_ok-hands.ensures.capacity, c.len-2.ensures, c.args.seeds.ok.0));
     }

@@ -1,5 +1,5 @@
 use Rattle.std.proofs.Common.{◌≡◌, ◌+◌, ◌≤◌, ◌++◌, length, vec_capacity}
-use Rattle.std.specs.Vec.Iter.{into_iter_items}
+use Rattle.std.specs.Vec.Iter.{into_iter_items, into_iter_len}
 use Rattle.region_calls.specs.Hands.{AreDeals}
 use Rattle.region_calls.specs.Named.{AreNamedSeeds, AreFrom}
 use Rattle.region_calls.specs.Seeds.{AreSeeds}
@@ -14,5 +14,6 @@ invariant-naming g l = record {
   regions : length l.unlocked.items ≡ length l.yielded;
   dealt : length l.hands.items ≡ length l.yielded;
   rest : l.yielded ++ into_iter_items l.one-iterator ≡ l.fn.seeds.items;
+  len : into_iter_len l.one-iterator ≡ length (into_iter_items l.one-iterator);
   room : (length l.fn.seeds.items ≤ vec_capacity l.unlocked) × (length l.fn.seeds.items ≤ vec_capacity l.hands);
 }

@@ -2,7 +2,7 @@ use Rattle.std.proofs.Common.{◌≡◌, ◌+◌, List, [], ◌∷◌, ◌++◌,
 use Rattle.std.proofs.lemmas.List.{take_more, length-append, length-take-le}
 use Rattle.region_replay.specs.Ready.{Found}
 use Rattle.region_calls.specs.Seeds.{lasts_of, bases_found, marks_from, flushed_of}
-use Rattle.region_calls.proofs.Sown.{AreWithin, marks_push, within_push, flushed_push}
+use Rattle.region_calls.proofs.Sown.{AreWithin, marks_push, within_push, flushed_push, take_over}
 use Rattle.region_calls.proofs.Marks.{are_regions}
 use Rattle.region_calls.proofs.sowing.marks_of.Goals as goal
 
@@ -26,3 +26,9 @@ loop-one-preserved c =
 
 pub returns-clause-regions : goal.returns-clause-regions
 returns-clause-regions c = are_regions c.loop-one.marks.items _ c.loop-one.invariant.marks c.loop-one.invariant.within
+
+pub returns-clause-marks : goal.returns-clause-marks
+returns-clause-marks c = c.loop-one.invariant.marks ∙ ap (marks_from 1) (take_over c.loop-one.one-index c.args.found.now c.loop-one-test.false)
+
+pub returns-clause-flushed : goal.returns-clause-flushed
+returns-clause-flushed c = c.loop-one.invariant.flushed ∙ ap (λ (l : List Found). lasts_of (bases_found l)) (take_over c.loop-one.one-index c.args.found.now c.loop-one-test.false)

@@ -1,11 +1,11 @@
 use Rattle.std.proofs.Common.{◌≡◌, ℕ, suc, ◌+◌, ◌<◌, List, [], ◌∷◌, ◌++◌, length, sym, ap, ◌∙◌, subst, arith, length-append}
-use Rattle.std.proofs.lemmas.List.{append_assoc}
 use Rattle.std.specs.Vec.Iter.{into_iter_items}
 use Rattle.append_ring.specs.declared.pass.RingKey.{RingKey}
 use Rattle.append_ring.specs.Parts.{IsNew, AreNewAfter}
 use Rattle.append_ring.proofs.Handing.{next_new, none_left}
 use Rattle.pass_calls.specs.log_service.log_halves.declared.item.Item.{Item}
 use Rattle.region_calls.specs.Named.{AreFrom}
+use Rattle.region_calls.proofs.Loops.{one_more, all_given, one_over, no_item}
 use Rattle.region_calls.proofs.Seated.{same_of}
 use Rattle.region_calls.proofs.starting.lock_all.Goals as goal
 
@@ -26,9 +26,10 @@ pub unreachable-requires : goal.unreachable-requires
 unreachable-requires g c =
     let ys : List ℕ = c.locking.yielded in
     let inv = c.locking.invariant in
-    let low : length ys < length c.locking.passes = omega (arith, inv.all, ap length inv.rest, length-append ys (into_iter_items c.locking.region-iterator), ap length c.in-Some.ensures.steps.0) in
+    let fewer = one_more ys (into_iter_items c.locking.region-iterator) c.args.unlocked.items c.in-Some.region (into_iter_items c.next.new.self) inv.rest c.in-Some.ensures.steps.0 in
+    let low : length ys < length c.locking.passes = omega (arith, inv.all, fewer) in
     let r = next_new g.N.ServiceNaming.ring g.N.ServiceNaming.lasts 0 (length ys) c.locking.passes inv.passes low in
-    absurd (cc (sym c.in_default.is ∙ c.next-in-locking.ensures.given ∙ r.1))
+    absurd (no_item r.0 (sym c.in_default.is ∙ c.next-in-locking.ensures.given ∙ r.1))
 
 pub with_pass-requires : goal.with_pass-requires
 with_pass-requires g c =
@@ -37,7 +38,8 @@ with_pass-requires g c =
     let inv = c.locking.invariant in
     let ring = g.N.ServiceNaming.ring in
     let lasts = g.N.ServiceNaming.lasts in
-    let low : length ys < length c.locking.passes = omega (arith, inv.all, ap length inv.rest, length-append ys (into_iter_items c.locking.region-iterator), ap length c.in-Some.ensures.steps.0) in
+    let fewer = one_more ys (into_iter_items c.locking.region-iterator) c.args.unlocked.items c.in-Some.region (into_iter_items c.next.new.self) inv.rest c.in-Some.ensures.steps.0 in
+    let low : length ys < length c.locking.passes = omega (arith, inv.all, fewer) in
     let r = next_new ring lasts 0 (length ys) c.locking.passes inv.passes low in
     let regions = subst (λ (l : List ℕ). AreFrom (length ys + 1) l) c.in-Some.ensures.steps.0 inv.regions in
     let place : 0 + length ys + 1 ≡ x = omega (arith, regions.0) in
@@ -53,7 +55,8 @@ locking-preserved g c =
     let ring = g.N.ServiceNaming.ring in
     let lasts = g.N.ServiceNaming.lasts in
     let steps = c.in-Some.ensures.steps.0 in
-    let low : length ys < length c.locking.passes = omega (arith, inv.all, ap length inv.rest, length-append ys (into_iter_items c.locking.region-iterator), ap length steps) in
+    let fewer = one_more ys (into_iter_items c.locking.region-iterator) c.args.unlocked.items c.in-Some.region (into_iter_items c.next.new.self) inv.rest c.in-Some.ensures.steps.0 in
+    let low : length ys < length c.locking.passes = omega (arith, inv.all, fewer) in
     let r = next_new ring lasts 0 (length ys) c.locking.passes inv.passes low in
     let longer = length-append ys (x ∷ []) in
     let one : suc (length ys) ≡ length (ys ++ x ∷ []) = omega (arith, longer) in
@@ -63,7 +66,7 @@ locking-preserved g c =
       passes = subst (λ n. AreNewAfter ring lasts 0 n c.next-in-locking.new.self) one (subst (λ l. AreNewAfter ring lasts 0 (suc (length ys)) l) (sym left) r.3);
       all = ap length left ∙ r.4 ∙ inv.all;
       regions = subst (λ n. AreFrom n rest) two (subst (λ (l : List ℕ). AreFrom (length ys + 1) l) steps inv.regions).1;
-      rest = append_assoc ys (x ∷ []) rest ∙ ap (λ (l : List ℕ). ys ++ l) (sym steps) ∙ inv.rest;
+      rest = one_over ys (into_iter_items c.locking.region-iterator) c.args.unlocked.items x rest inv.rest steps;
       count = ap length c.push_reserved.ensures.items ∙ omega (arith, length-append c.locking.locks.items (c.new.result ∷ []), longer, inv.count);
       len = omega (arith, c.in-Some.ensures.steps.1, ap length steps, inv.len);
       room = omega (arith, inv.room, c.push_reserved.ensures.capacity);
@@ -73,5 +76,18 @@ pub returns-clause-passes : goal.returns-clause-passes
 returns-clause-passes g c =
     let ys : List ℕ = c.locking.yielded in
     let inv = c.locking.invariant in
-    let all : length ys ≡ length c.locking.passes = omega (arith, inv.all, ap length inv.rest, length-append ys (into_iter_items c.locking.region-iterator), inv.len, c.in-None.ensures.steps.0) in
+    let given = all_given ys (into_iter_items c.locking.region-iterator) c.args.unlocked.items _ inv.rest inv.len c.in-None.ensures.steps.0 in
+    let all : length ys ≡ length c.locking.passes = omega (arith, inv.all, given) in
     ((none_left g.N.ServiceNaming.ring g.N.ServiceNaming.lasts 0 (length ys) c.locking.passes inv.passes all).1, inv.all ∙ sym c.requires.passes.1)
+
+pub returns-clause-locks : goal.returns-clause-locks
+returns-clause-locks g c =
+    let inv = c.locking.invariant in
+    inv.count ∙ all_given c.locking.yielded (into_iter_items c.locking.region-iterator) c.args.unlocked.items _ inv.rest inv.len c.in-None.ensures.steps.0
+
+pub push_reserved-requires : goal.push_reserved-requires
+push_reserved-requires g c =
+    let ys : List ℕ = c.locking.yielded in
+    let inv = c.locking.invariant in
+    let fewer = one_more ys (into_iter_items c.locking.region-iterator) c.args.unlocked.items c.in-Some.region (into_iter_items c.next.new.self) inv.rest c.in-Some.ensures.steps.0 in
+    omega (arith, inv.count, inv.room, fewer)

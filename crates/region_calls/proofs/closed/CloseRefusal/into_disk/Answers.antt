@@ -89,3 +89,8 @@ returns-clause-leaves g c told =
     subst (λ (n : ℕ). Leaves g.N.ServerNaming.found v true n) count
     (leaves_broken g.N.ServerNaming.found v c.shut-disk.result.broken c.server.inside.service.regions
     (leaves_of g.N.ServerNaming.found g.N.ServiceNaming.begun v c.shut-disk.result.broken c.server.inside.service.regions (begun.cleared told) (begun.alike told) (begun.higher told) l)))
+
+pub let_all_go-requires-clause-places : goal.let_all_go-requires-clause-places
+let_all_go-requires-clause-places g c =
+    let locked = c.server.invariant.1 in
+    (locked.out, locked.all ∙ sym locked.locks, omega (arith, locked.locks, c.server.invariant.0.some.1))

@@ -1,10 +1,14 @@
-use Rattle.std.proofs.Common.{◌≡◌, ◌+◌, ◌-◌, List, [], ◌∷◌, length, ap, ◌∙◌, subst, arith, length-append}
+use Rattle.std.proofs.Common.{◌≡◌, ◌+◌, ◌-◌, List, [], ◌∷◌, length, ap, ◌∙◌, subst, arith, length-append, ◌≤◌, Option, sym}
 use Rattle.std.specs.Global.{Vec}
 use Rattle.log_berth.specs.Standing.{Standing, AreBack}
 use Rattle.pass_calls.specs.region_lock.declared.pass.RegionPass.{RegionPass}
 use Rattle.region_calls.specs.Hands.{AreDeals}
 use Rattle.region_calls.specs.Deals.{AreRooms}
 use Rattle.region_calls.proofs.Seated.{rooms_less, back_less, new_hand}
+use Rattle.std.specs.Prelude.{IfSome}
+use Rattle.pass_calls.specs.log_service.declared.seats.LogSeats.{LogSeats}
+use Rattle.region_calls.specs.declared.pass.Pass.{Pass}
+use Rattle.region_calls.specs.Passes.{IsPassOf}
 use Rattle.region_calls.proofs.passes.Passes.next.Goals as goal
 
 pub deal-regions-requires-clause-room : goal.deal-regions-requires-clause-room
@@ -43,4 +47,21 @@ returns-clause-of g c place of =
         count = c.deal-regions.ensures.hands.0 ∙ of.count;
         hands = λ k p at. new_hand (k + 1) (old.out + 1) p (c.deal-regions.ensures.hands.1 k p at);
       },
+    )
+
+pub returns-in_err-seat-clause-of : goal.returns-in_err-seat-clause-of
+returns-in_err-seat-clause-of g c place of =
+    let same = sym c.in_err-seat.ensures.1 in (
+      record {
+        count = of.count;
+        deals = of.deals;
+        all = of.all;
+        rooms = of.rooms;
+        consumers = subst (λ (s : LogSeats). AreBack place.consumer s.consumers.seats) same of.consumers;
+        devices = subst (λ (s : LogSeats). AreBack place.device s.devices.seats × (length s.devices.seats + c.args.self.now.out ≡ g.N.LockNaming.handlers)) same of.devices;
+        room = subst (λ (s : LogSeats). (g.N.LockNaming.handlers + 2 ≤ s.consumers.room) × (g.N.LockNaming.handlers + 2 ≤ s.devices.room)) same of.room;
+        back = of.back;
+        within = of.within;
+      },
+      subst (λ (r : Option (Pass g.row.N.Denot g.N.LockNaming)). IfSome r (λ pass. IsPassOf place pass)) (sym c.from_residual.ensures) tt,
     )

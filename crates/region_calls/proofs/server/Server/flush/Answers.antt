@@ -1,10 +1,11 @@
-use Rattle.std.proofs.Common.{◌+◌, sym, ap, ◌∙◌, subst, arith}
+use Rattle.std.proofs.Common.{◌+◌, sym, ap, ◌∙◌, subst, arith, ℕ, List, Contains}
 use Rattle.std.specs.Option.{option_map}
 use Rattle.pass_calls.specs.log_service.Places.{ServiceId, IsSeatOf}
 use Rattle.pass_calls.specs.region_lock.Answers.{flush_answer}
 use Rattle.pass_calls.proofs.region_lock_laws.Lists.{length_set}
 use Rattle.region_calls.proofs.Knowing.{hands_set}
-use Rattle.region_calls.proofs.Using.{flush_is, used, flushes_used, flush_hand}
+use Rattle.region_calls.proofs.Using.{flush_is, used, flushes_used, flush_hand, at_service}
+use Rattle.region_model.specs.Journal.{Caller}
 use Rattle.region_calls.proofs.server.Server.flush.Goals as goal
 
 pub returns-clause-flushes : goal.returns-clause-flushes
@@ -32,3 +33,29 @@ returns-clause-of g c =
       count = length_set pass.regions.items k done.new.at ∙ c.requires.of.count;
       hands = hands_set pass.handler pass.calls c.args.call pass.regions.items k done.new.at c.requires.of.hands (omega (arith, c.requires.call)) hand;
     }
+
+pub flush_in-answer-requires-clause-caller : goal.flush_in-answer-requires-clause-caller
+flush_in-answer-requires-clause-caller g c =
+    let pass = c.args.pass.now in
+    let p = c.index_mut.result.now in
+    let k = c.place_of-place.result in
+    let u = used pass.handler pass.calls c.args.self.now.regions c.args.region k pass.regions.items p c.requires.of.count c.place_of-place.ensures.place c.requires.region.0 c.place_of-place.ensures.few c.requires.of.hands c.index_mut.ensures.value in
+    let call : Caller = record { handler = pass.handler; call = c.args.call } in
+    let listed = subst (λ (f : ℕ → List Caller). Contains (f c.args.region) call) c.place_of-place.ensures.flushes c.requires.listed in
+    (sym u.hand.number, omega (arith, c.requires.call), subst (λ (r : ℕ). Contains (g.N.LockNaming.flushes r) call) (sym (u.region ∙ u.next)) listed)
+
+pub flush_in-answer-requires-clause-service : goal.flush_in-answer-requires-clause-service
+flush_in-answer-requires-clause-service g c =
+    let pass = c.args.pass.now in
+    let p = c.index_mut.result.now in
+    let k = c.place_of-place.result in
+    let u = used pass.handler pass.calls c.args.self.now.regions c.args.region k pass.regions.items p c.requires.of.count c.place_of-place.ensures.place c.requires.region.0 c.place_of-place.ensures.few c.requires.of.hands c.index_mut.ensures.value in
+    at_service g.N.ServiceNaming.ring c.self.inside.service c.args.self.now pass.handler pass.calls c.args.region k pass.regions.items p pass.seat u c.self.invariant.0.ring_is c.self.view_is c.place_of-place.ensures.few c.requires.of.seat
+
+pub flush_in-answer-requires-clause-free : goal.flush_in-answer-requires-clause-free
+flush_in-answer-requires-clause-free g c =
+    let pass = c.args.pass.now in
+    let p = c.index_mut.result.now in
+    let k = c.place_of-place.result in
+    let u = used pass.handler pass.calls c.args.self.now.regions c.args.region k pass.regions.items p c.requires.of.count c.place_of-place.ensures.place c.requires.region.0 c.place_of-place.ensures.few c.requires.of.hands c.index_mut.ensures.value in
+    u.hand.mark

@@ -5,7 +5,7 @@ use Rattle.pass_calls.specs.region_lock.Puts.{IsFaultExact}
 use Rattle.pass_calls.proofs.region_lock_laws.Lists.{length_set}
 use Rattle.region_calls.proofs.Knowing.{below_more, hands_set}
 use Rattle.region_calls.proofs.Calling.{put_hand}
-use Rattle.region_calls.proofs.Using.{put_is, used, puts_used}
+use Rattle.region_calls.proofs.Using.{put_is, used, puts_used, at_service}
 use Rattle.region_calls.proofs.server.Server.put.Goals as goal
 
 pub put_at-answer-requires-clause-caller : goal.put_at-answer-requires-clause-caller
@@ -50,3 +50,14 @@ returns-clause-of g c =
       count = length_set pass.regions.items k done.new.at ∙ c.requires.of.count;
       hands = hands_set pass.handler pass.calls c.args.call pass.regions.items k done.new.at c.requires.of.hands (omega (arith, c.requires.call)) hand;
     }
+
+pub put_at-answer-requires-clause-service : goal.put_at-answer-requires-clause-service
+put_at-answer-requires-clause-service g c =
+    let pass = c.args.pass.now in
+    let p = c.index_mut.result.now in
+    let k = c.place_of-place.result in
+    let u = used pass.handler pass.calls c.args.self.now.regions c.args.region k pass.regions.items p c.requires.of.count c.place_of-place.ensures.place c.requires.region.0 c.place_of-place.ensures.few c.requires.of.hands c.index_mut.ensures.value in
+    let same = ap (λ (q : ServiceId). q.regions) c.self.view_is in (
+      at_service g.N.ServiceNaming.ring c.self.inside.service c.args.self.now pass.handler pass.calls c.args.region k pass.regions.items p pass.seat u c.self.invariant.0.ring_is c.self.view_is c.place_of-place.ensures.few c.requires.of.seat,
+      omega (arith, u.region, u.next, c.place_of-place.ensures.few, same, c.self.invariant.0.some.1),
+    )

@@ -67,3 +67,24 @@ returns-clause-helpers g c =
       subst (λ (l : List LogSeat). AreSeatsOf place l) (sym all)
           (record { consumer = cs1.1.0; device = ds1.1.0; no_move = cs1.1.1; no_commit = ds1.1.1 }, (record { consumer = cs2.1.0; device = ds2.1.0; no_move = cs2.1.1; no_commit = ds2.1.1 }, tt)),
     )
+
+pub invariant_of-result : goal.invariant_of-result
+invariant_of-result g c =
+    let locked = c.lock_all-regions.ensures in
+    (c.requires.served, record { locks = locked.locks ∙ c.requires.regions.1; out = locked.passes.0; all = locked.passes.1 ∙ c.requires.passes.1 })
+
+pub unreachable-requires : goal.unreachable-requires
+unreachable-requires g c =
+    let numbers = c.requires.seats.devices.0 in
+    let n0 = ap length c.requires.seats.devices.1 ∙ len_replicate (c.args.handlers + 2) (fresh c.args.parts.service.device numbers) in
+    omega (arith, n0, ap length c.in_default.ensures.0)
+
+pub unreachable-requires-in_default-next : goal.unreachable-requires-in_default-next
+unreachable-requires-in_default-next g c =
+    let numbers = c.requires.seats.devices.0 in
+    let n0 = ap length c.requires.seats.devices.1 ∙ len_replicate (c.args.handlers + 2) (fresh c.args.parts.service.device numbers) in
+    let n1 = ap length c.in-Some.ensures.1 ∙ length-append c.next.new.self.devices.seats (c.in-Some.first.device ∷ []) in
+    omega (arith, n0, n1, c.requires.handlers.0, ap length c.in_default-next.ensures.0)
+
+pub lock_all-regions-requires-clause-passes : goal.lock_all-regions-requires-clause-passes
+lock_all-regions-requires-clause-passes g c = (c.requires.passes.0, c.requires.passes.1 ∙ sym c.requires.regions.1)

@@ -12,6 +12,8 @@ use Rattle.region_calls.specs.Seeds.{base_of}
 use Rattle.region_calls.specs.Store.{bases_of, disk_now, disk_found, disk_begun}
 use Rattle.region_calls.proofs.Begun.{len_map}
 use Rattle.region_calls.proofs.NamedSeeds.{named_seeds, base_of_region, last_at_base}
+use Rattle.pass_calls.specs.log_service.Places.{ServiceId}
+use Rattle.region_calls.specs.Deals.{ArePassesOf}
 use Rattle.region_calls.proofs.store.OpenedStore.named.Goals as goal
 
 pub make_room-requires-clause-named : goal.make_room-requires-clause-named
@@ -51,3 +53,22 @@ join-requires-clause-served g c =
           let within : r ≤ o.regions = omega (arith, high, service.1) in
           ap (λ (l : List ℕ). last_before l r) c.requires.name.lasts_are ∙ last_at_base (bases_of o) r low (omega (arith, within, bases, store.count)) ∙ ap (λ (b : Base). b.last) (sym (c.requires.name.tables_are r low within).base_is);
     }
+
+pub start-requires-clause-regions : goal.start-requires-clause-regions
+start-requires-clause-regions g c =
+    let store = c.requires.store in
+    let firsts = ap length c.requires.name.lasts_are in
+    let lasts = len_map (λ (b : Base). b.last) (bases_of c.args.self) in
+    let bases = len_map base_of c.args.self.seeds.items in
+    (omega (arith, firsts, lasts, bases, store.count), store.some.0, store.some.1)
+
+pub join-requires-clause-regions : goal.join-requires-clause-regions
+join-requires-clause-regions g c =
+    let made = c.in-Ok.ensures.regions in
+    let count = c.requires.store.count ∙ sym c.in-Ok-start.ensures.service.1 in
+    (made.0, made.1 ∙ count, made.2, made.3 ∙ count)
+
+pub returns-in-Ok-start-clause-passes : goal.returns-in-Ok-start-clause-passes
+returns-in-Ok-start-clause-passes g c =
+    let joined = c.join.ensures.passes in
+    (joined.0, joined.1, subst (λ (q : ServiceId). ArePassesOf q g.N.LockNaming.handlers c.join.result.passes) (sym c.join.ensures.server) joined.2)
