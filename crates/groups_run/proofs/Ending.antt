@@ -44,6 +44,15 @@ module _ {D N : Type 0} (f : Ghosts D) (s : NameGhosts N) (g : LockGhosts N) (l 
       let at : e.regions ≡ Some xs = cc is in
       ended_so n (passes_back p) e.disk e.broken e.regions same ends xs at
 
+-- both seats of those that help are back
+pub two_back : {N : Type 0} {g : LockGhosts N} (place : Option ServiceId) (handlers : ℕ) (p : Option (Passes N g)) (seats : Option (List LogSeat)) → AreBackAt place handlers p seats
+    → IfSome seats (λ seats. length seats ≡ 2)
+two_back place handlers p None back = tt
+two_back None handlers None (Some seats) back = absurd back
+two_back None handlers (Some p) (Some seats) back = absurd back
+two_back (Some place) handlers None (Some seats) back = absurd back
+two_back (Some place) handlers (Some p) (Some seats) back = back.seats.0
+
 -- all have as many
 pub as_many : {D : Type 0} (n : ℕ) (ends : GroupList (ServerEnd D)) → ((xs : Vec ClosedRegion) → ends.first.regions ≡ Some xs → length xs.items ≡ n)
     → ((xs : Vec ClosedRegion) → option_map (λ e. e.regions) ends.second ≡ Some (Some xs) → length xs.items ≡ n)

@@ -11,7 +11,8 @@ use Rattle.group_calls.specs.region_calls.declared.store.OpenedStore.{OpenedStor
 use Rattle.group_calls.specs.region_calls.Store.{disk_now, handlers_of}
 use Rattle.group_calls.specs.region_lock.declared.naming.LockNaming.{Ghosts as LockGhosts}
 use Rattle.region_versions.specs.declared.naming.VersionsNaming.{Ghosts as VersionGhosts}
-use Rattle.group_calls.specs.group_servers.group_lists.Lists.{AtBoth}
+use Rattle.group_calls.specs.group_servers.group_lists.declared.lists.GroupList.{GroupList}
+use Rattle.group_calls.specs.group_servers.group_lists.Lists.{AtBoth, at_group, counted}
 use Rattle.group_calls.specs.group_servers.Dealing.{ArePassesAt, IsEvenAt}
 use Rattle.group_calls.specs.group_servers.Helping.{AreSeatsAt}
 use Rattle.group_calls.specs.group_servers.Starting.{IsNamedAt, IsNewAt, HasLetGo, HasLetGoAt}
@@ -20,6 +21,12 @@ use Rattle.groups_run.specs.Starting.{IsAlike, HeldOrLetGo, HeldOrLetGoAt}
 pub map_some_there : {A B : Type 0} (f : A → B) (o : Option A) (d : B) → option_map f o ≡ Some d → o ≢ None
 map_some_there f None d is = absurd (cc is)
 map_some_there f (Some x) d is = λ e. absurd (cc e)
+
+pub first_there : {A : Type 0} (l : GroupList A) → at_group l 1 ≢ None
+first_there l = λ e. absurd (cc e)
+
+pub counted_as : (n : ℕ) (a b c x y z : Option ServiceId) → a ≡ x → b ≡ y → c ≡ z → n ≡ counted x y z → n ≡ counted a b c
+counted_as n a b c x y z two three four is = rw (two, three, four) is
 
 pub both_mapped : {A B C : Type 0} (P : A → B → Type 0) (Q : A → C → Type 0) (f : B → C) → ((x : A) (y : B) → P x y → Q x (f y)) → (x : Option A) (y : Option B) → AtBoth P x y
     → AtBoth Q x (option_map f y)

@@ -4,6 +4,7 @@ ghost use Rattle.std.specs.Prelude.{◌≡◌, ◌≤◌, ◌||◌, IfSome, leng
 ghost use Rattle.std.specs.Option.{option_map};
 ghost use Rattle.group_calls.specs.region_calls.Deals.{passes_back};
 ghost use Rattle.group_calls.specs.group_servers.group_lists.Choosing.{AreAsMany};
+ghost use Rattle.group_calls.specs.group_servers.Dealing.{AreBackAt};
 ghost use Rattle.group_calls.specs.group_servers.group_lists.declared.lists.GroupList.{GroupList as TheList};
 ghost use Rattle.group_calls.specs.group_servers.Closing.{HasEnded, HasEndedAt};
 ghost use Rattle.group_calls.specs.group_servers.declared.shutting.ServerEnd.{ServerEnd as TheEnd};
@@ -16,7 +17,7 @@ use disk_images::Disk;
 use group_calls::Groups;
 use group_calls::group_servers::{GroupList, ServerEnd, choose, close_at, close_one};
 use group_calls::handler_threads::ServerName;
-use group_calls::region_calls::ClosedRegion;
+use group_calls::region_calls::{ClosedRegion, Helpers, Passes, Server};
 use std::alloc::Global;
 use std::sync::Wait;
 
@@ -87,6 +88,22 @@ fn join<D>(count: u32, ends: GroupList<ServerEnd<D>>) -> GroupsClosed<D>
     }
 }
 
+/// Closes a group's server, where there is one. Of a call whose contract has one `requires` alone and names lifetimes the goals cost many times
+/// what they cost here.
+fn close_here<'a, D: Disk, N: ServerName, R: Wait, S: Wait>(
+    server: Option<Server<'a, D, N, R>>,
+    rt: &S,
+    alloc: Global,
+    passes: Option<Passes<N>>,
+    helpers: Option<Helpers>,
+) -> Option<ServerEnd<D>>
+    requires back { AreBackAt server N.handlers passes helpers }
+    requires seats { IfSome helpers (λ seats. length seats ≡ 2) }
+    ensures { HasEndedAt D.Disk N.ServerNaming N.LockNaming N.ServiceNaming N.VersionsNaming passes result }
+{
+    close_at(server, rt, alloc, passes, helpers)
+}
+
 /// Closes the servers, once all passes and seats are back: each commits what is left, unless its log is broken. It gives the disks, and each
 /// region's journal as its own group's server has it, with the words of its log. A server that finds no memory gives its disk alone. Where what a
 /// pass knows doesn't meet in a region, which no run shows, it does not return.
@@ -130,9 +147,9 @@ pub fn close_groups<
         fourth: helpers_4,
     } = helpers;
     let first = close_one(first, rt, alloc, passes, helpers);
-    let second = close_at(second, rt, alloc, passes_2, helpers_2);
-    let third = close_at(third, rt, alloc, passes_3, helpers_3);
-    let fourth = close_at(fourth, rt, alloc, passes_4, helpers_4);
+    let second = close_here(second, rt, alloc, passes_2, helpers_2);
+    let third = close_here(third, rt, alloc, passes_3, helpers_3);
+    let fourth = close_here(fourth, rt, alloc, passes_4, helpers_4);
     let ends = GroupList {
         first,
         second,

@@ -52,21 +52,19 @@ pub(crate) fn start_others<'a, D: Disk, N2: ServerName, N3: ServerName, N4: Serv
     requires named_2 { IsNamedAt D.Disk N2.ServerNaming N2.LockNaming N2.ServiceNaming N2.VersionsNaming second }
     requires named_3 { IsNamedAt D.Disk N3.ServerNaming N3.LockNaming N3.ServiceNaming N3.VersionsNaming third }
     requires named_4 { IsNamedAt D.Disk N4.ServerNaming N4.LockNaming N4.ServiceNaming N4.VersionsNaming fourth }
-    ensures new_2 { IfOk result (λ o. IfSome o.second (λ s. IsNew N2.handlers s.server s.passes s.helpers)) }
-    ensures new_3 { IfOk result (λ o. IfSome o.third (λ s. IsNew N3.handlers s.server s.passes s.helpers)) }
-    ensures new_4 { IfOk result (λ o. IfSome o.fourth (λ s. IsNew N4.handlers s.server s.passes s.helpers)) }
-    ensures sites_2 { IfOk result (λ o. AtBoth (λ store s. HasRegionsOf store s.server) second o.second) }
-    ensures sites_3 { IfOk result (λ o. AtBoth (λ store s. HasRegionsOf store s.server) third o.third) }
-    ensures sites_4 { IfOk result (λ o. AtBoth (λ store s. HasRegionsOf store s.server) fourth o.fourth) }
+    // Each is new, and serves its store's regions.
+    ensures started { IfOk result (λ o. IfSome o.second (λ s. IsNew N2.handlers s.server s.passes s.helpers)
+        × IfSome o.third (λ s. IsNew N3.handlers s.server s.passes s.helpers)
+        × IfSome o.fourth (λ s. IsNew N4.handlers s.server s.passes s.helpers)
+        × AtBoth (λ store s. HasRegionsOf store s.server) second o.second
+        × AtBoth (λ store s. HasRegionsOf store s.server) third o.third
+        × AtBoth (λ store s. HasRegionsOf store s.server) fourth o.fourth) }
+    // Where it refuses, and what is left of each store.
     ensures refused { IfErr result (λ e. (1 < e.disk)
-        × ((first : TheStore D) → at_group (record { first = first; second = second; third = third; fourth = fourth }) e.disk ≢ None)) }
-    // What is left of each store where it refuses.
-    ensures second { IfErr result
-        (λ e. HeldOrLetGoAt D.Disk N2.ServerNaming N2.LockNaming N2.ServiceNaming N2.VersionsNaming 2 e.disk second e.second) }
-    ensures third { IfErr result
-        (λ e. HeldOrLetGoAt D.Disk N3.ServerNaming N3.LockNaming N3.ServiceNaming N3.VersionsNaming 3 e.disk third e.third) }
-    ensures fourth { IfErr result
-        (λ e. HeldOrLetGoAt D.Disk N4.ServerNaming N4.LockNaming N4.ServiceNaming N4.VersionsNaming 4 e.disk fourth e.fourth) }
+        × ((first : TheStore D) → at_group (record { first = first; second = second; third = third; fourth = fourth }) e.disk ≢ None)
+        × HeldOrLetGoAt D.Disk N2.ServerNaming N2.LockNaming N2.ServiceNaming N2.VersionsNaming 2 e.disk second e.second
+        × HeldOrLetGoAt D.Disk N3.ServerNaming N3.LockNaming N3.ServiceNaming N3.VersionsNaming 3 e.disk third e.third
+        × HeldOrLetGoAt D.Disk N4.ServerNaming N4.LockNaming N4.ServiceNaming N4.VersionsNaming 4 e.disk fourth e.fourth) }
 {
     let second = match start_at::<D, N2, R>(rt, alloc, second) {
         Ok(started) => started,

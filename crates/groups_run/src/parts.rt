@@ -17,9 +17,8 @@ pub(crate) fn parts_of<'a, D: Disk, N: ServerName, R: Wait>(
     Option<Passes<N>>,
     Option<Helpers>,
 )
-    requires { IfSome started (λ s. IsNew N.handlers s.server s.passes s.helpers) }
     ensures server { result.0 ≡ option_map (λ s. s.server) started.entry }
-    ensures new { IsNewAt N.handlers result.0 result.1 result.2 }
+    ensures new { IfSome started.entry (λ s. IsNew N.handlers s.server s.passes s.helpers) → IsNewAt N.handlers result.0 result.1 result.2 }
 {
     match started {
         None => (None, None, None),

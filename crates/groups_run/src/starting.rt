@@ -1,9 +1,8 @@
 //! Opened stores become servers.
 
-ghost use Rattle.std.specs.Prelude.{◌≡◌, ◌≢◌, None, IfOk, IfErr, IfSome};
-ghost use Rattle.std.specs.Option.{option_map};
-ghost use Rattle.group_calls.specs.group_servers.group_lists.Lists.{at_group, counted};
-ghost use Rattle.group_calls.specs.group_servers.Starting.{IsNamedBy, IsNamedAt, IsNew};
+ghost use Rattle.std.specs.Prelude.{◌≡◌, ◌≢◌, None, IfOk, IfErr};
+ghost use Rattle.group_calls.specs.group_servers.group_lists.Lists.{at_group};
+ghost use Rattle.group_calls.specs.group_servers.Starting.{IsNamedBy, IsNamedAt};
 ghost use Rattle.groups_run.specs.Dealing.{AreGroupPassesOf, NoneIsOut};
 ghost use Rattle.groups_run.specs.Helpers.{AreHelpersOf, AreTwoEach};
 ghost use Rattle.groups_run.specs.Starting.{AreServersOf, AreAlike, HeldOrLetGo, HeldOrLetGoAt};
@@ -33,61 +32,6 @@ pub struct GroupsStarted<
     pub groups: Groups<'a, D, N1, N2, N3, N4, R>,
     pub passes: GroupPasses<N1, N2, N3, N4>,
     pub helpers: GroupHelpers,
-}
-
-/// Joins the servers.
-fn join<'a, D: Disk, N1: ServerName, N2: ServerName, N3: ServerName, N4: ServerName, R: Wait>(
-    rt: &'a R,
-    count: u32,
-    first: Started<'a, D, N1, R>,
-    others: Others<'a, D, N2, N3, N4, R>,
-) -> GroupsStarted<'a, D, N1, N2, N3, N4, R>
-    requires count { count ≡ counted (option_map (λ s. s.server) others.second) (option_map (λ s. s.server) others.third)
-        (option_map (λ s. s.server) others.fourth) }
-    requires new_1 { IsNew N1.handlers first.server first.passes first.helpers }
-    requires new_2 { IfSome others.second (λ s. IsNew N2.handlers s.server s.passes s.helpers) }
-    requires even_2 { IfSome others.second (λ _. N2.handlers ≡ N1.handlers) }
-    requires new_3 { IfSome others.third (λ s. IsNew N3.handlers s.server s.passes s.helpers) }
-    requires even_3 { IfSome others.third (λ _. N3.handlers ≡ N1.handlers) }
-    requires new_4 { IfSome others.fourth (λ s. IsNew N4.handlers s.server s.passes s.helpers) }
-    requires even_4 { IfSome others.fourth (λ _. N4.handlers ≡ N1.handlers) }
-    ensures count { result.groups.count ≡ count }
-    ensures first { result.groups.first ≡ first.entry.server }
-    ensures second { result.groups.second ≡ option_map (λ s. s.server) others.entry.second }
-    ensures third { result.groups.third ≡ option_map (λ s. s.server) others.entry.third }
-    ensures fourth { result.groups.fourth ≡ option_map (λ s. s.server) others.entry.fourth }
-    ensures passes { AreGroupPassesOf result.groups N1.handlers N2.handlers N3.handlers N4.handlers result.passes × NoneIsOut result.passes }
-    ensures helpers { AreHelpersOf result.groups result.helpers × AreTwoEach result.helpers }
-{
-    let Started {
-        server,
-        passes,
-        helpers,
-    } = first;
-    let Others {
-        second,
-        third,
-        fourth,
-    } = others;
-    let (server_2, passes_2, helpers_2) = parts_of(second);
-    let (server_3, passes_3, helpers_3) = parts_of(third);
-    let (server_4, passes_4, helpers_4) = parts_of(fourth);
-    let groups = Groups::of(rt, count, server, server_2, server_3, server_4);
-    GroupsStarted {
-        groups,
-        passes: GroupPasses {
-            first: passes,
-            second: passes_2,
-            third: passes_3,
-            fourth: passes_4,
-        },
-        helpers: GroupHelpers {
-            first: helpers,
-            second: helpers_2,
-            third: helpers_3,
-            fourth: helpers_4,
-        },
-    }
 }
 
 /// The refusal for want of memory at the store of this number.
@@ -154,7 +98,37 @@ pub fn start_groups<
         }
     };
     match start_others::<D, N2, N3, N4, R>(rt, alloc, second, third, fourth) {
-        Ok(others) => Ok(join(rt, count, first, others)),
+        Ok(others) => {
+            let Others {
+                second,
+                third,
+                fourth,
+            } = others;
+            let Started {
+                server,
+                passes,
+                helpers,
+            } = first;
+            let (server_2, passes_2, helpers_2) = parts_of(second);
+            let (server_3, passes_3, helpers_3) = parts_of(third);
+            let (server_4, passes_4, helpers_4) = parts_of(fourth);
+            let groups = Groups::of(rt, count, server, server_2, server_3, server_4);
+            Ok(GroupsStarted {
+                groups,
+                passes: GroupPasses {
+                    first: passes,
+                    second: passes_2,
+                    third: passes_3,
+                    fourth: passes_4,
+                },
+                helpers: GroupHelpers {
+                    first: helpers,
+                    second: helpers_2,
+                    third: helpers_3,
+                    fourth: helpers_4,
+                },
+            })
+        }
         Err(
             OthersRefusal {
                 disk,

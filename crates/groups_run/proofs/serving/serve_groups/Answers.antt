@@ -66,6 +66,21 @@ run_started-closed-requires-clause-few g c κs within = sym (c.requires.named_1.
 pub run_started-closed-requires-clause-fits : goal.run_started-closed-requires-clause-fits
 run_started-closed-requires-clause-fits g c κs within k = subst (λ n. IsNameFor (script_in c.args.time n c.args.rooms.items) ((named g.N1.ServerNaming.name g.N2.ServerNaming.name g.N3.ServerNaming.name g.N4.ServerNaming.name) k)) (sym (c.requires.fits 1).regions) (c.requires.fits k)
 
+pub run_started-closed-requires-clause-handlers : goal.run_started-closed-requires-clause-handlers
+run_started-closed-requires-clause-handlers g c κs within = (c.in-Ok.ensures.handlers.0, omega (arith, c.in-Ok.ensures.handlers.1, c.len.ensures))
+
+pub run_started-closed-requires-clause-replies : goal.run_started-closed-requires-clause-replies
+run_started-closed-requires-clause-replies g c κs within = (c.in-Ok.ensures.replies.0, omega (arith, c.in-Ok.ensures.replies.1, c.len.ensures))
+
+pub run_started-closed-requires-clause-seats : goal.run_started-closed-requires-clause-seats
+run_started-closed-requires-clause-seats g c κs within = c.in-Ok.ensures.seats
+
+pub run_started-closed-requires-clause-passes : goal.run_started-closed-requires-clause-passes
+run_started-closed-requires-clause-passes g c κs within = c.in-Ok-start_groups.ensures.passes
+
+pub run_started-closed-requires-clause-helpers : goal.run_started-closed-requires-clause-helpers
+run_started-closed-requires-clause-helpers g c κs within = c.in-Ok-start_groups.ensures.helpers
+
 pub run_started-closed-requires-clause-servers : goal.run_started-closed-requires-clause-servers
 run_started-closed-requires-clause-servers g c κs within = all_there g.D.Disk c.args.opened c.in-Ok-start_groups.started.groups c.in-Ok-start_groups.ensures.servers
 
