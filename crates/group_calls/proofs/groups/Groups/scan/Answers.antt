@@ -1,4 +1,5 @@
-use Rattle.std.proofs.Common.{ℕ, sym, ◌∙◌, subst}
+use Rattle.std.proofs.Common.{ℕ, sym, subst}
+use Rattle.groups_model.specs.Groups.{group_of}
 use Rattle.group_servers.specs.region_calls.Passes.{knows, IsPassOf}
 use Rattle.group_servers.specs.Passes.{IsPassAt}
 use Rattle.group_servers.specs.region_calls.Answers.{scan_answer}
@@ -90,16 +91,16 @@ returns-in-4-clause-of g c =
     }
 
 pub returns-in-1-clause-elsewhere : goal.returns-in-1-clause-elsewhere
-returns-in-1-clause-elsewhere g c = first_called _ c.args.pass.now c.scan.new.pass (sym c.group.ensures.is ∙ c.in-1.is)
+returns-in-1-clause-elsewhere g c = first_called (group_of c.args.self.now.count c.args.region) c.args.pass.now c.scan.new.pass (in_group c.args.self.now.count c.args.region c.group.result 1 c.group.ensures.is c.in-1.is)
 
 pub returns-in-2-clause-elsewhere : goal.returns-in-2-clause-elsewhere
-returns-in-2-clause-elsewhere g c = second_called _ c.args.pass.now c.scan_at.new.pass (sym c.group.ensures.is ∙ c.in-2.is)
+returns-in-2-clause-elsewhere g c = second_called (group_of c.args.self.now.count c.args.region) c.args.pass.now c.scan_at.new.pass (in_group c.args.self.now.count c.args.region c.group.result 2 c.group.ensures.is c.in-2.is)
 
 pub returns-in-3-clause-elsewhere : goal.returns-in-3-clause-elsewhere
-returns-in-3-clause-elsewhere g c = third_called _ c.args.pass.now c.scan_at-in-3.new.pass (sym c.group.ensures.is ∙ c.in-3.is)
+returns-in-3-clause-elsewhere g c = third_called (group_of c.args.self.now.count c.args.region) c.args.pass.now c.scan_at-in-3.new.pass (in_group c.args.self.now.count c.args.region c.group.result 3 c.group.ensures.is c.in-3.is)
 
 pub returns-in-4-clause-elsewhere : goal.returns-in-4-clause-elsewhere
-returns-in-4-clause-elsewhere g c = fourth_called _ c.args.pass.now c.scan_at-in-4.new.pass (sym c.group.ensures.is ∙ c.in-4.is)
+returns-in-4-clause-elsewhere g c = fourth_called (group_of c.args.self.now.count c.args.region) c.args.pass.now c.scan_at-in-4.new.pass (in_group c.args.self.now.count c.args.region c.group.result 4 c.group.ensures.is c.in-4.is)
 
 pub scan_at-requires-clause-there : goal.scan_at-requires-clause-there
 scan_at-requires-clause-there g c = second_here _ c.args.self.now c.self.view_is c.self.invariant c.group.result c.group.ensures.there.1 c.in-2.is
