@@ -16,9 +16,10 @@ use Rattle.region_versions.specs.Histories.{Beginning}
 use Rattle.hand_register.specs.declared.known.Record.{Record}
 use Rattle.server_model.specs.Pass.{Pass as ThePass}
 use Rattle.region_calls.specs.declared.pass.Pass.{Pass}
+use Rattle.region_calls.specs.declared.passes.Passes.{Passes}
 use Rattle.region_calls.specs.Passes.{knows, known_at, known_in, pass_of, IsHandOf, AreHandsOf, IsPassOf}
-use Rattle.region_calls.specs.Deals.{AllOf}
-use Rattle.region_calls.specs.Backs.{device_seats, seats_of}
+use Rattle.region_calls.specs.Deals.{AllOf, passes_back}
+use Rattle.region_calls.specs.Backs.{AreSeats, AllBack, device_seats, seats_of}
 use Rattle.region_calls.proofs.ClosedLaws.{seen_in_words}
 
 -- ---- lists
@@ -207,3 +208,19 @@ seats_given seat first mid last ps hs n one two helpers all =
       helpers,
       all,
     )
+
+module _ {N : Type 0} {g : Ghosts N} where
+  -- where all are back, so many seats come back as there are
+  pub seats_back : (place : ServiceId) (handlers : ℕ) (p : Passes N g) (hs : List LogSeat) (now : List (Pass N g)) → AllBack place handlers p hs → place.seats ≡ handlers + 2 → map knows now ≡ passes_back p
+      → AreSeats place (length now + 2) p.seats × (length p.seats.devices.seats + (length now + 2) ≡ place.seats)
+  seats_back place handlers p hs now b all same =
+      let n = length-map now (λ (q : Pass N g). knows q) in
+      let m = ap length same in
+      let pairs : length p.seats.consumers.seats ≡ length p.seats.devices.seats = p.seats.pairs in (
+        record {
+          consumers = b.of.consumers;
+          devices = b.of.devices.0;
+          rooms = (omega (arith, n, m, b.back, b.out, b.of.devices.1, pairs, b.of.room.0), omega (arith, n, m, b.back, b.out, b.of.devices.1, b.of.room.1));
+        },
+        omega (arith, n, m, b.back, b.out, b.of.devices.1, all),
+      )

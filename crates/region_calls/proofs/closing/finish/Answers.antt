@@ -8,10 +8,11 @@ use Rattle.server_model.specs.Pass.{Pass as ThePass, Naming}
 use Rattle.server_model.specs.Closing.{Leaves}
 use Rattle.region_calls.specs.declared.apart.Taken.{Taken}
 use Rattle.region_calls.specs.declared.pass.Pass.{Pass}
+use Rattle.region_calls.specs.Backs.{AllBack}
 use Rattle.region_calls.specs.Closes.{HasElapsed}
 use Rattle.region_calls.specs.Passes.{knows}
 use Rattle.region_calls.specs.Deals.{ArePassesOf}
-use Rattle.region_calls.proofs.BackLaws.{get_some, all_seen, all_broken}
+use Rattle.region_calls.proofs.BackLaws.{get_some, all_seen, all_broken, seats_back}
 use Rattle.region_calls.proofs.TakenLaws.{all_there, numbers_are, made_at, closed_made, survives_made, survived_made}
 use Rattle.region_calls.proofs.LeavesLaws.{leaves_of, elapsed_of}
 use Rattle.region_calls.proofs.closing.finish.Goals as goal
@@ -125,3 +126,13 @@ returns-clause-seen_broken g c p has =
     let of = subst (λ (q : ServiceId). ArePassesOf q g.N.LockNaming.handlers c.args.passes) (sym c.server.view_is) c.requires.back.0.of in
     let now : List (Pass g.row.N.Denot g.N.LockNaming) = c.take_all-taken.new.passes.items in
     all_broken the now c.shut-disk.result.synced c.shut-disk.result.broken (done.of the of.back) c.shut-disk.ensures.saw p (subst (λ (l : List ThePass). Contains l p) (sym done.knows) has)
+
+pub take_all-taken-requires-clause-places : goal.take_all-taken-requires-clause-places
+take_all-taken-requires-clause-places g c =
+    let locked = c.server.invariant.1 in
+    (locked.out, locked.all ∙ sym locked.locks, omega (arith, locked.locks, c.server.invariant.0.some.1))
+
+pub shut-disk-requires-clause-seats : goal.shut-disk-requires-clause-seats
+shut-disk-requires-clause-seats g c =
+    let back = subst (λ (p : ServiceId). AllBack p g.N.LockNaming.handlers c.args.passes c.args.helpers) (sym c.server.view_is) c.requires.back.0 in
+    seats_back c.server.inside.service g.N.LockNaming.handlers c.args.passes c.args.helpers c.take_all-taken.new.passes.items back c.server.invariant.0.seats c.take_all-taken.ensures.knows

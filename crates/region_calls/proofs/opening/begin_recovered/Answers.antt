@@ -17,6 +17,11 @@ use Rattle.region_calls.specs.Cleared.{AreCleared}
 use Rattle.region_calls.specs.Seeds.{base_of, bases_found, lasts_of, marks_from, flushed_of}
 use Rattle.region_calls.proofs.Marks.{flushed_in, bases_of}
 use Rattle.region_calls.proofs.Begun.{is_opened, moments, len_map, is_fresh, begins_as, few_marks}
+use Rattle.log_model.specs.declared.damage.Damage.{Damage}
+use Rattle.pass_calls.specs.log_service.log_device.declared.error.DeviceWhy.{DeviceWhy}
+use Rattle.pass_calls.specs.log_service.log_device.declared.error.DeviceWhy.TheVariants as whys
+use Rattle.region_calls.specs.declared.refusal.StartWhy.TheVariants as starts
+use Rattle.region_calls.specs.Opening.{why_not}
 use Rattle.region_calls.proofs.opening.begin_recovered.Goals as goal
 
 -- the marks are those of the regions that were found
@@ -97,3 +102,10 @@ returns-in-Err-start-clause-any_moment g c told =
     let opened = opened_at v u.files n xs c.as_slice.result.now is (c.requires.recovered.ready told) (c.requires.recovered.each told) c.requires.recovered.count in
     moments v u.files xs (c.requires.recovered.ready told) (c.requires.recovered.each told) c.requires.recovered.count u (g.D.Disk.view c.in-Err-start.field-0.disk) refl (c.requires.recovered.alike told) (c.requires.recovered.so_far told)
     (c.in-Err-start.ensures.any_moment told (flushed_in xs) opened)
+
+no_damage : (w : DeviceWhy) (d : Damage) → why_not w ≡ starts.Damaged d → ⊥
+no_damage whys.Memory d e = cc e
+no_damage whys.DiskFault d e = cc e
+
+pub returns-in-Err-start-clause-whole : goal.returns-in-Err-start-clause-whole
+returns-in-Err-start-clause-whole g c damage is = no_damage _ damage (sym c.device_why.ensures ∙ is)

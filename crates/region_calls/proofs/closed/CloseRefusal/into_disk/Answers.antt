@@ -7,11 +7,11 @@ use Rattle.pass_calls.specs.log_service.Closed.{stored_in}
 use Rattle.server_model.specs.Pass.{Pass as ThePass, Naming}
 use Rattle.server_model.specs.Closing.{Region, IsClosedRegion, Survives, Leaves}
 use Rattle.region_calls.specs.declared.pass.Pass.{Pass}
-use Rattle.region_calls.specs.Backs.{AreAll}
+use Rattle.region_calls.specs.Backs.{AreAll, AllBack}
 use Rattle.region_calls.specs.Closes.{HasSurvived, HasElapsed}
 use Rattle.region_calls.specs.Passes.{knows}
 use Rattle.region_calls.specs.Deals.{ArePassesOf}
-use Rattle.region_calls.proofs.BackLaws.{all_seen}
+use Rattle.region_calls.proofs.BackLaws.{all_seen, seats_back}
 use Rattle.region_calls.proofs.TakenLaws.{all_there, left_made, leaves_broken}
 use Rattle.region_calls.proofs.LeavesLaws.{leaves_of, elapsed_of}
 use Rattle.region_calls.proofs.closed.CloseRefusal.into_disk.Goals as goal
@@ -94,3 +94,8 @@ pub let_all_go-requires-clause-places : goal.let_all_go-requires-clause-places
 let_all_go-requires-clause-places g c =
     let locked = c.server.invariant.1 in
     (locked.out, locked.all ∙ sym locked.locks, omega (arith, locked.locks, c.server.invariant.0.some.1))
+
+pub shut-disk-requires-clause-seats : goal.shut-disk-requires-clause-seats
+shut-disk-requires-clause-seats g c =
+    let back = subst (λ (p : ServiceId). AllBack p g.N.LockNaming.handlers c.args.self.passes c.args.self.helpers) (sym c.server.view_is) c.requires.back in
+    seats_back c.server.inside.service g.N.LockNaming.handlers c.args.self.passes c.args.self.helpers c.let_all_go.new.passes.items back c.server.invariant.0.seats c.let_all_go.ensures.knows
