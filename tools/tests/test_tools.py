@@ -1,0 +1,270 @@
+"""The tools beside the program, run on folders and texts whose answers follow from docs/FORMAT.md and docs/COMMANDS.md."""
+import fcntl
+import json
+import os
+import subprocess
+import sys
+import tempfile
+import unittest
+
+TOOLS = os.path.dirname(os.path.dirname(os.path.abspath(__file__)))
+sys.path.insert(0, TOOLS)
+from store_files import cells, logs, stores
+
+REPORT = """hwal 1
+region 1 base 0 0
+edit 1 1 1 done
+reply 1 1 put ok 1
+reply 1 2 scan 1 1
+cell 1 user%201 info - 17 put %FF
+reply 1 3 flush busy 2 1
+reply 1 4 put memory
+reply 1 5 put memory 3
+reply 1 6 roll ok 1 2
+reply 1 7 get memory
+end 0
+"""
+SHIPPED = """ship 1 1 2 1 1000 1
+table t
+cell 1 r f q 5 put v ab
+ship 1 2 1 1 1000 2
+cell 1 r f q 5 put -
+cell 1 %2D f q 5 delete -
+position 1 2
+end 0
+"""
+SCRIPT = """time 1000
+regions 2
+handlers 1
+table t
+put 1 2 sync 1
+cell r f q 5 put v ab
+put 1 1 sync 2
+cell r f q 5 put -
+cell %2D f q 5 delete -
+"""
+
+
+def entry(region, number, family=b"f", table=b"t"):
+    return logs.Entry(region, number, 1000, table, (cells.Cell(b"r%d" % number, family, b"q", 5, cells.PUT, b"v"),))
+
+
+def store(region, first, last, numbers, family=b""):
+    kept = [(number, entry(region, number, family or b"f").cells[0]) for number in numbers]
+    return stores.store_bytes(stores.StoreText(stores.SECOND, region, 0, family, first, last, kept))
+
+
+class Tool(unittest.TestCase):
+    def setUp(self):
+        self.room = tempfile.TemporaryDirectory(prefix="hwal-tools-")
+        self.store = os.path.join(self.room.name, "hwal-store")
+        os.mkdir(self.store)
+
+    def tearDown(self):
+        self.room.cleanup()
+
+    def lay(self, **files):
+        for name, data in files.items():
+            with open(os.path.join(self.store, name.replace("_", "-")), "wb") as file:
+                file.write(data)
+
+    def run_tool(self, name, *words, given=""):
+        """Status, output, standard error."""
+        tool = os.path.join(TOOLS, name)
+        ran = subprocess.run([sys.executable, "-B", tool, *words], cwd=self.room.name, input=given, capture_output=True, text=True, timeout=60)
+        return ran.returncode, ran.stdout, ran.stderr
+
+
+class Stat(Tool):
+    def stat(self, *words):
+        status, said, _ = self.run_tool("hwal-stat", "--json", *words)
+        return status, json.loads(said)
+
+    def test_what_is_flushed_and_who_holds_a_log(self):
+        self.lay(log_1=logs.log_bytes([entry(1, 1), entry(2, 1, b"g"), entry(1, 2)], 1, is_ended=True), log_2=logs.log_bytes([entry(1, 3)], 2))
+        self.lay(store_1_1=store(1, 1, 2, [1, 2]), store_2_1=store(2, 1, 1, [], b"f"), old_1=b"")
+        os.remove(os.path.join(self.store, "old-1"))
+        status, seen = self.stat()
+        self.assertEqual((status, seen["opening_refuses"]), (0, None))
+        self.assertEqual(seen["held_logs"], [{"name": "log-1", "by": [{"region": 2, "entries": 1}]}, {"name": "log-2", "by": [{"region": 1, "entries": 1}]}])
+        one, two = seen["regions"]
+        self.assertEqual((one["last"], one["cells"], one["flushed_to"], one["entries_in_logs_alone"]), (3, 3, 2, 1))
+        self.assertEqual((two["flushed_to"], two["families_flushed_further"]), (0, [{"family": "f", "to": 1}]))
+        # an entry of one cell with a table: gate 1, kind and length 5, body 20 + 2 + 4, cell 25 and tags' length 2
+        self.assertEqual((one["bytes_in_logs_alone"], two["bytes_in_logs_alone"]), (59, 59))
+
+    def test_every_damage_with_its_byte(self):
+        good = logs.log_bytes([entry(1, 1), entry(1, 2)], 1)
+        out_of_order = stores.store_bytes(stores.StoreText(stores.SECOND, 1, 0, b"", 1, 2, [(1, entry(1, 2).cells[0]), (2, entry(1, 1).cells[0])]))
+        self.lay(log_1=good[:-2], old_4=b"HWL1" + bytes(20), store_1_1=out_of_order, store_1_2=b"\xa5HWS3", edits_1_1=good)
+        status, seen = self.stat()
+        damaged = {file["name"]: file["damaged_at"] for file in seen["files"] if "damaged_at" in file}
+        # the second pair of the store stands after 35 bytes of fields, and 8 + 25 + 2 of the first pair
+        self.assertEqual((status, damaged), (7, {"log-1": 16 + 59, "old-4": 0, "store-1-1": 70, "store-1-2": 1}))
+        self.assertEqual(seen["opening_refuses"], "damaged log-1 75")
+
+    def test_the_lock(self):
+        lock = os.open(self.store, os.O_RDONLY)
+        fcntl.flock(lock, fcntl.LOCK_EX)
+        self.assertEqual(self.run_tool("hwal-stat")[0], 5)
+        fcntl.flock(lock, fcntl.LOCK_SH)
+        self.assertEqual(self.run_tool("hwal-stat")[0], 0)
+        os.close(lock)
+
+    def test_no_folder_and_wrong_words(self):
+        self.assertEqual(self.run_tool("hwal-stat", "nowhere")[0], 5)
+        self.assertEqual(self.run_tool("hwal-stat", "--jsn")[0], 2)
+
+    def test_a_follower(self):
+        self.lay(old_1=logs.log_bytes([entry(1, 1)], 1, is_ended=True), log_2=logs.log_bytes([entry(1, 2), entry(1, 3)], 2))
+        for position, wanted in (("2 1 77", (1, 59, None)), ("1 0", (3, 177, None)), ("1 2", (0, 0, "position 1 1")), ("4 0", (0, 0, None)), ("0 0", (0, 0, "position 0 0"))):
+            with open(os.path.join(self.room.name, "followed.position"), "w", encoding="ascii") as file:
+                file.write(position)
+            seen = self.stat("--follower", "followed.position")[1]["follower"]
+            self.assertEqual((seen["entries_behind"], seen["bytes_behind"], seen["refused"]), wanted, position)
+
+    def test_nothing_is_written(self):
+        self.lay(log_1=logs.log_bytes([entry(1, 1)], 1))
+        before = sorted((it.name, it.stat().st_mtime_ns) for it in os.scandir(self.store))
+        self.run_tool("hwal-stat")
+        self.assertEqual(sorted((it.name, it.stat().st_mtime_ns) for it in os.scandir(self.store)), before)
+
+
+class Backup(Tool):
+    def test_a_copy_and_its_sums(self):
+        self.lay(log_1=logs.log_bytes([entry(1, 1)], 1), notes=b"not of the store")
+        self.assertEqual(self.run_tool("hwal-backup", "copy")[0], 0)
+        copy = os.path.join(self.room.name, "copy")
+        self.assertEqual(sorted(os.listdir(copy)), ["SHA256SUMS", "log-1"])
+        self.assertEqual(self.run_tool("hwal-backup", "--check", "copy")[0], 0)
+        with open(os.path.join(copy, "log-1"), "r+b") as file:
+            file.seek(69)
+            file.write(b"w")
+        self.assertEqual(self.run_tool("hwal-stat", "copy")[0], 0)
+        status, said, _ = self.run_tool("hwal-backup", "--check", "copy")
+        self.assertEqual(status, 7)
+        self.assertIn("log-1 is another file than was copied", said)
+        self.assertEqual(self.run_tool("hwal-backup", "copy")[0], 2)
+
+    def test_a_store_that_is_written(self):
+        lock = os.open(self.store, os.O_RDONLY)
+        fcntl.flock(lock, fcntl.LOCK_EX)
+        self.assertEqual(self.run_tool("hwal-backup", "copy")[0], 5)
+        self.assertEqual(os.listdir(self.room.name), ["hwal-store"])
+        os.close(lock)
+
+    def test_a_damaged_store_is_copied_and_named(self):
+        self.lay(log_1=logs.log_bytes([entry(1, 1)], 2))
+        status, said, _ = self.run_tool("hwal-backup", "copy")
+        self.assertEqual(status, 7)
+        self.assertIn("log-1 is damaged at byte 0", said)
+
+
+class Json(Tool):
+    def objects(self, text):
+        status, said, _ = self.run_tool("hwal-json", given=text)
+        return status, [json.loads(line) for line in said.splitlines()]
+
+    def test_a_report(self):
+        status, seen = self.objects(REPORT)
+        self.assertEqual((status, len(seen)), (0, 12))
+        self.assertEqual(seen[1], {"line": "region", "region": 1, "last": 0, "count": 0})
+        wanted = {"line": "cell", "number": 1, "row": "user 1", "family": "info", "qualifier": "", "timestamp": 17, "kind": "put", "value": {"base64": "/w=="}}
+        self.assertEqual(seen[5], wanted)
+        self.assertEqual(seen[6], {"line": "reply", "handler": 1, "call": 3, "of": "flush", "answer": "busy", "of_handler": 2, "of_call": 1})
+        self.assertEqual(seen[8], {"line": "reply", "handler": 1, "call": 5, "of": "put", "answer": "memory", "number": 3})
+
+    def test_each_line_of_each_command(self):
+        text = SHIPPED + "log 1\nold 2\nnone\nentry 1 1 5 2\nended 7\nrecovered 1 2 3\nrecovered 3\ncompacted 1 2 3\ncompact nothing 1\nregion 7\n"
+        text += "load puts 2 scans 0 flushes 0 rolls 0\nvalue bytes 4\nrefused script 3 cell-6\nrefused damaged log-1 85\nrefused disagree log-1 log-2 1 1\n"
+        text += "refused store old-1\nrefused group 1 2\nrefused position 1 0\nrefused disk\nrefused memory\nrefused usage\nrefused source\n"
+        status, seen = self.objects(text)
+        self.assertEqual((status, len(seen)), (0, text.count("\n")))
+        self.assertEqual(seen[1], {"line": "table", "name": "t"})
+        self.assertEqual(seen[2]["tags"], "ab")
+
+    def test_a_line_of_another_program(self):
+        for line in ("hello", "entry 1 2", "cell 1 r f q 1 put v t t", "cell 1 r f q 1 put a%4", "reply 1 1 put late 3", ""):
+            self.assertEqual(self.objects(line + "\n"), (3, []), line)
+
+
+class ToScript(Tool):
+    def test_what_ship_prints(self):
+        one_table = SHIPPED.replace("ship 1 2 1 1 1000 2\n", "ship 1 2 1 1 1000 2\ntable t\n")
+        self.assertEqual(self.run_tool("to-script", given=one_table), (0, SCRIPT, ""))
+
+    def test_two_tables_want_two_scripts(self):
+        self.assertEqual(self.run_tool("to-script", given=SHIPPED)[:2], (3, ""))
+        self.assertEqual(self.run_tool("to-script", "--parts", "out", given=SHIPPED)[0], 0)
+        with open(os.path.join(self.room.name, "out-0002.script"), encoding="ascii") as file:
+            self.assertEqual(file.read().splitlines()[:4], ["time 1000", "regions 1", "handlers 1", "put 1 1 sync 2"])
+
+    def test_the_front_of_a_damaged_log(self):
+        whole = logs.log_bytes([entry(1, 1), entry(1, 2)], 1)
+        self.lay(old_1=whole[:-3])
+        status, said, cause = self.run_tool("to-script", "hwal-store/old-1")
+        self.assertEqual((status, said.count("put 1 1 sync 1")), (7, 1))
+        self.assertIn("damaged at byte 75: 1 entry before that", cause)
+
+    def test_logs_are_taken_by_number(self):
+        self.lay(log_1=logs.log_bytes([entry(1, 1)], 1), old_2=logs.log_bytes([entry(1, 2)], 2), log_10=logs.log_bytes([entry(1, 3)], 10))
+        status, said, cause = self.run_tool("to-script", "hwal-store/log-10", "hwal-store/log-1", "hwal-store/old-2")
+        self.assertEqual((status, cause), (0, ""))
+        self.assertEqual([line.split()[1] for line in said.splitlines() if line.startswith("cell")], ["r1", "r2", "r3"])
+
+    def test_an_entry_that_comes_twice(self):
+        self.lay(log_1=logs.log_bytes([entry(1, 1), entry(1, 2)], 1), edits_1_2=logs.log_bytes([entry(1, 1)], 2))
+        status, said, _ = self.run_tool("to-script", "hwal-store/log-1", "hwal-store/edits-1-2")
+        self.assertEqual((status, said.count("sync")), (0, 2))
+        self.lay(edits_1_2=logs.log_bytes([entry(1, 1, b"g")], 2))
+        self.assertEqual(self.run_tool("to-script", "hwal-store/log-1", "hwal-store/edits-1-2")[:2], (3, ""))
+
+    def test_what_is_missing_is_said(self):
+        self.lay(log_1=logs.log_bytes([entry(1, 3), entry(1, 6)], 1))
+        status, _, cause = self.run_tool("to-script", "hwal-store/log-1")
+        self.assertEqual((status, cause), (0, "to-script: region 1: edits 1 to 2 are not there\nto-script: region 1: edits 4 to 5 are not there\n"))
+        self.assertEqual(self.run_tool("to-script", given="ship 1 1 1 1 1000 2\ncell 1 r f q 5 put v\n")[0], 7)
+        self.assertEqual(self.run_tool("to-script", given="hello\n")[:2], (3, ""))
+
+
+class FromHbaseShell(Tool):
+    def script(self, text, *words):
+        status, said, cause = self.run_tool("from-hbase-shell", "--time", "1000", *words, given=text)
+        return (status, said.splitlines()) if status == 0 else (status, cause)
+
+    def test_calls(self):
+        text = """put 't', 'a', 'f:q', 'it\\'s', 7  # with a comment
+            put 't', "z\\x00", 'f:', "", 8
+
+            deleteall 't', 'a', 'f:q'
+            delete 't','a','f:q', 7
+            get 't', 'a', {VERSIONS => 3}
+            scan 't', {STARTROW => 'b', STOPROW => 'n'}
+            flush 't'"""
+        calls = ["put 1 1 sync 1", "cell a f q 7 put it's", "put 1 2 sync 1", "cell z%00 f - 8 put -", "put 1 1 sync 1", "cell a f q 1000 delete-column -"]
+        calls += ["put 1 1 sync 1", "cell a f q 7 delete -", "get 1 1 a 3", "scan 1 1 b n", "scan 1 2 b n", "flush 1 1", "flush 1 2"]
+        head = ["time 1000", "regions 2", "handlers 1", "table t"]
+        self.assertEqual(self.script(text, "--split", "m"), (0, head + calls))
+
+    def test_time_goes_on(self):
+        said = self.script("put 't','r','f:q','v'\ndeleteall 't','r','f:q'\nput 't','r','f:q','w'\n")[1]
+        self.assertEqual([line.split()[4] for line in said if line.startswith("cell")], ["1000", "1001", "1002"])
+
+    def test_what_has_no_counterpart(self):
+        for line in ("create 't', 'f'", "put 't', 'r', 'f:q'", "put 't', 'r', 'f:q', 'v', 'x'", "delete 't', 'r', 'f:q'", "deleteall 't', 'r'", "get 't'", "put 't', 'r"):
+            status, cause = self.script("# a comment\n" + line + "\n")
+            self.assertEqual((status, cause[:25]), (3, "from-hbase-shell: line 2:"), line)
+        self.assertEqual(self.script("flush 't'\nflush 'u'\n")[0], 3)
+        self.assertEqual(self.script("get 't', 'r', {COLUMN => 'f:q'}\n")[0], 3)
+
+
+class Help(Tool):
+    def test_each_tool_has_words(self):
+        for name in ("agree", "hwal-stat", "hwal-backup", "hwal-json", "to-script", "from-hbase-shell"):
+            status, said, _ = self.run_tool(name, "--help")
+            self.assertEqual(status, 0, name)
+            self.assertIn(f"tools/{name}", said)
+
+
+if __name__ == "__main__":
+    unittest.main()
