@@ -234,14 +234,15 @@ class FromHbaseShell(Tool):
 
     def test_calls(self):
         text = """put 't', 'a', 'f:q', 'it\\'s', 7  # with a comment
-            put 't', "z\\x00", 'f:', "", 8
+            put 't', "m\\x00", 'f:', "", 8
+            get 't', 'm'
 
             deleteall 't', 'a', 'f:q'
             delete 't','a','f:q', 7
             get 't', 'a', {VERSIONS => 3}
             scan 't', {STARTROW => 'b', STOPROW => 'n'}
             flush 't'"""
-        calls = ["put 1 1 sync 1", "cell a f q 7 put it's", "put 1 2 sync 1", "cell z%00 f - 8 put -", "put 1 1 sync 1", "cell a f q 1000 delete-column -"]
+        calls = ["put 1 1 sync 1", "cell a f q 7 put it's", "put 1 2 sync 1", "cell m%00 f - 8 put -", "get 1 2 m 1", "put 1 1 sync 1", "cell a f q 1000 delete-column -"]
         calls += ["put 1 1 sync 1", "cell a f q 7 delete -", "get 1 1 a 3", "scan 1 1 b n", "scan 1 2 b n", "flush 1 1", "flush 1 2"]
         head = ["time 1000", "regions 2", "handlers 1", "table t"]
         self.assertEqual(self.script(text, "--split", "m"), (0, head + calls))
