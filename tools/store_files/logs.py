@@ -31,7 +31,8 @@ class LogText(NamedTuple):
 
     def bytes_of(self, index):
         """How many bytes an entry takes, with the gate before it."""
-        return (self.gates + [self.last_gate])[index + 1] - self.gates[index]
+        after = self.gates[index + 1] if index + 1 < len(self.gates) else self.last_gate
+        return after - self.gates[index]
 
 
 class Reader:

@@ -7,20 +7,21 @@ from .recovery import is_left, look, refusal, regions_of, text_of
 
 def overview(folder, position=None):
     """Of a Folder, and of a follower's position (log, entries) where there is one. Every file is read, old logs too."""
-    sizes, files, texts = {}, [], {}
+    sizes, files, texts, names = {}, [], {}, set(folder.names)
     for name in folder.names:
         data = folder.read(name)
         sizes[name] = len(data)
-        text = look(name, folder.names, lambda _, data=data: data)
+        text = look(name, names, lambda _, data=data: data)
         if name.kind == "old" and not isinstance(text, Damaged):
             files.append(of_file(name, data, any_text(name, data)))
         else:
             files.append(of_file(name, data, text))
             texts[name] = text
     regions = regions_of(texts)
+    left = {name: left_in(text, regions) for name, text in texts.items() if isinstance(text, LogText)}
     seen = {"folder": folder.path, "bytes": sum(sizes.values()), "old_log_bytes": sum(size for name, size in sizes.items() if name.kind == "old")}
-    seen |= {"opening_refuses": refusal(texts), "files": files, "regions": [of_region(number, it, texts) for number, it in regions.items()]}
-    seen["held_logs"] = [held for held in (held_by(name, text, regions) for name, text in sorted(texts.items())) if held]
+    seen |= {"opening_refuses": refusal(texts), "files": files, "regions": [of_region(number, it, left) for number, it in regions.items()]}
+    seen["held_logs"] = held_logs(left)
     if position is not None:
         seen["follower"] = lag(folder, *position)
     return seen
@@ -60,32 +61,30 @@ def numbers_of(entries):
     return [{"region": region, "from": low, "to": high} for region, (low, high) in sorted(found.items())]
 
 
-def left_in(text, number, flushed):
-    """The places of the entries of this region in a log that have a cell above what is flushed of its family."""
+def left_in(text, regions):
+    """Of each region the entries of a log that have a cell above what is flushed of its family: {number: bytes}."""
+    flushed, left = {number: region.flushed() for number, region in regions.items()}, {}
     for at, entry in enumerate(text.entries):
-        if entry.region == number and any(is_left(entry.number, cell.family, flushed) for cell in entry.cells):
-            yield at
+        if any(is_left(entry.number, cell.family, flushed[entry.region]) for cell in entry.cells):
+            left.setdefault(entry.region, {})[entry.number] = text.bytes_of(at)
+    return left
 
 
-def of_region(number, region, texts):
-    flushed, counting = region.flushed(), region.counting()
-    left = {}
-    for text in texts.values():
-        if isinstance(text, LogText):
-            left.update({text.entries[at].number: text.bytes_of(at) for at in left_in(text, number, flushed)})
+def of_region(number, region, left):
+    """`left` has by log or edits file what `left_in` gives."""
+    flushed, counting, alone = region.flushed(), region.counting(), {}
+    for entries in left.values():
+        alone.update(entries.get(number, {}))
     families = [{"family": shown(family), "to": to} for family, to in sorted(flushed.items()) if family and to > flushed[b""]]
     seen = {"region": number, "last": region.last(), "cells": len(region.cells()), "flushed_to": flushed[b""], "families_flushed_further": families}
     seen |= {"stores_that_count": len(counting), "stores_that_do_not": len(region.stores) - len(counting)}
-    return seen | {"entries_in_logs_alone": len(left), "bytes_in_logs_alone": sum(left.values())}
+    return seen | {"entries_in_logs_alone": len(alone), "bytes_in_logs_alone": sum(alone.values())}
 
 
-def held_by(name, text, regions):
-    """Which regions keep a log from becoming an old one, or None."""
-    if name.kind != "log" or not isinstance(text, LogText):
-        return None
-    counts = {number: sum(1 for _ in left_in(text, number, region.flushed())) for number, region in regions.items()}
-    found = [{"region": number, "entries": count} for number, count in counts.items() if count]
-    return {"name": str(name), "by": found} if found else None
+def held_logs(left):
+    """Which regions keep which log from becoming an old one."""
+    held = [(name, entries) for name, entries in sorted(left.items()) if name.kind == "log" and entries]
+    return [{"name": str(name), "by": [{"region": region, "entries": len(them)} for region, them in sorted(entries.items())]} for name, entries in held]
 
 
 def lag(folder, file, entries):
