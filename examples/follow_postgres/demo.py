@@ -1,0 +1,3 @@
+class Demo:
+    def __init__(self, here):
+        pass
