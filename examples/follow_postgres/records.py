@@ -73,7 +73,7 @@ class Batch:
         """Takes an entry, and commits where the transaction is full."""
         if self.count == 0:
             self.records.session.send(f"begin;\ncopy hwal.cells ({COLUMNS}) from stdin;\n".encode())
-        text = rows(self.records.store, entry)
+        text = rows(b"%d" % self.records.store, entry)
         self.records.session.send(text)
         self.records.numbers[entry.region] = entry.number
         self.entry, self.count, self.bytes = entry, self.count + 1, self.bytes + len(text)

@@ -1,8 +1,9 @@
 """Reads what `hwal ship` prints."""
 from collections import namedtuple
 
-# Of an entry: where it stands, whose it is, and its lines as printed.
-Entry = namedtuple("Entry", "file place region number written count table cells lines")
+# Of an entry: where it stands, whose it is, and its lines as printed; the words of its first line, the name of its table, the lines of
+# its cells.
+Entry = namedtuple("Entry", "file place region number lines words table cells")
 
 
 class NotShipped(Exception):
@@ -20,30 +21,27 @@ class Reader:
         # An entry is whole once the next one or a position stands after it: the last lines of a call that was cut off are none.
         begun = None
         for line in self.lines:
-            if line.startswith(b"cell "):
+            word = line[:5]
+            if word == b"cell " or word == b"table":
                 begun.append(line)
-            elif line.startswith(b"ship "):
+            elif word == b"ship ":
                 if begun:
                     yield entry_of(begun)
                 begun = [line]
-            elif line.startswith(b"table "):
-                begun.append(line)
-            elif line.startswith(b"position ") and line.endswith(b"\n"):
+            elif word == b"posit" and line.endswith(b"\n"):
                 if begun:
                     yield entry_of(begun)
                 begun = None
                 _, file, entries = line.split()
                 self.position = int(file), int(entries)
-            elif line.startswith(b"refused "):
+            elif word == b"refus":
                 self.refusal = line.decode().split()[1:]
 
 
 def entry_of(lines):
     """Returns the entry that has these lines."""
-    _, file, place, region, number, written, count = lines[0].split()
-    named = len(lines) > 1 and lines[1].startswith(b"table ")
-    table = lines[1].split()[1] if named else b"-"
-    cells = lines[2:] if named else lines[1:]
-    if len(cells) != int(count):
-        raise NotShipped(f"entry {int(place)} of log {int(file)} has {len(cells)} of its {int(count)} cells")
-    return Entry(int(file), int(place), int(region), int(number), written, int(count), table, cells, lines)
+    words = lines[0].split()
+    table, first = (lines[1].split()[1], 2) if lines[1].startswith(b"table ") else (b"-", 1)
+    if len(lines) - first != int(words[6]):
+        raise NotShipped(f"entry {words[2].decode()} of log {words[1].decode()} has not its {words[6].decode()} cells")
+    return Entry(int(words[1]), int(words[2]), int(words[3]), int(words[4]), lines, words, table, lines[first:])
