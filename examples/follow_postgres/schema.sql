@@ -79,26 +79,44 @@ create or replace function hwal.masks(d hwal.cells, p hwal.cells) returns boolea
         or d.type = 8 and d.qualifier = p.qualifier and p.ts = d.ts
 $$;
 
--- The puts that a client of HBase sees. `version` counts the versions of a column from its newest one. A delete masks by its timestamp
--- alone, also what was put after it. Of two puts with one column and timestamp the later one hides the other.
-create or replace view hwal.versions as
-select s.name, p.region, p."row", p.family, p.qualifier, p.ts, p.number, p.value, p.tags, p.table_name,
-    row_number() over (partition by s.name, p.region, p."row", p.family, p.qualifier order by p.ts desc) as version
+-- The puts that a client of HBase sees. A delete masks by its timestamp alone, also what was put after it. Of two puts with one column and
+-- timestamp the later one hides the other.
+create or replace view hwal.shown as
+select s.name, p.*
 from hwal.stores s
 join hwal.cells p using (store)
 where p.type = 4
     and not exists (
         select from hwal.cells d
-        where d.store = p.store and d.region = p.region and d."row" = p."row" and d.family = p.family
-            and d.type <> 4 and hwal.masks(d, p))
+        where d.store = p.store and d.region = p.region and substring(d."row" from 1 for 256) = substring(p."row" from 1 for 256)
+            and d."row" = p."row" and d.family = p.family and d.type <> 4 and hwal.masks(d, p))
     and not exists (
         select from hwal.cells q
-        where q.store = p.store and q.region = p.region and q."row" = p."row" and q.family = p.family
-            and q.type = 4 and q.qualifier = p.qualifier and q.ts = p.ts and (q.number, q.item) > (p.number, p.item));
+        where q.store = p.store and q.region = p.region and substring(q."row" from 1 for 256) = substring(p."row" from 1 for 256)
+            and q."row" = p."row" and q.family = p.family and q.type = 4 and q.qualifier = p.qualifier and q.ts = p.ts
+            and (q.number, q.item) > (p.number, p.item));
+
+-- The same, counted in each column from its newest version on.
+create or replace view hwal.versions as
+select name, region, "row", family, qualifier, ts, number, value, tags, table_name,
+    row_number() over (partition by name, region, "row", family, qualifier order by ts desc) as version
+from hwal.shown;
 
 -- The newest version of each column.
 create or replace view hwal.newest as
 select name, region, "row", family, qualifier, ts, number, value, tags, table_name from hwal.versions where version = 1;
+
+-- A get of a row: of each column the newest so many versions, in order.
+create or replace function hwal.get(store_name text, of_region integer, of_row bytea, versions integer)
+    returns table (number bigint, "row" bytea, family bytea, qualifier bytea, ts bigint, value bytea, tags bytea) language sql stable as $$
+    select c.number, c."row", c.family, c.qualifier, c.ts, c.value, c.tags
+    from (
+        select *, row_number() over (partition by family, qualifier order by ts desc) as version
+        from hwal.shown
+        where name = store_name and region = of_region and substring("row" from 1 for 256) = substring(of_row from 1 for 256) and "row" = of_row) c
+    where version <= versions
+    order by family, qualifier, ts desc
+$$;
 
 -- How far each store's follower is behind. Logs below `keep_from` may be deleted.
 create or replace view hwal.lag as
