@@ -1,7 +1,9 @@
 """Compares the table with what `hwal dump` prints of a store's logs. It shares no code with the follower's way from lines to rows."""
 import subprocess
+import time
 from urllib.parse import unquote_to_bytes
 
+PATIENCE = 100
 CODES = {"put": 4, "delete": 8, "delete-family-version": 10, "delete-column": 12, "delete-family": 14}
 FIELDS = """file, place, item, region, number, written, encode(table_name, 'hex'), encode("row", 'hex'), encode(family, 'hex'),
     encode(qualifier, 'hex'), ts, type, encode(value, 'hex'), encode(tags, 'hex')"""
@@ -11,9 +13,20 @@ def hexadecimal(token):
     return b"".hex() if token == "-" else unquote_to_bytes(token).hex()
 
 
+def read(store, *words):
+    """Runs a command that reads; again, where a program has the store just then."""
+    for _ in range(PATIENCE):
+        ran = subprocess.run([store.hwal, *words], cwd=store.directory, stdin=subprocess.DEVNULL, capture_output=True, check=False)
+        if ran.returncode != 5:
+            break
+        time.sleep(0.1)
+    ran.check_returncode()
+    return ran
+
+
 def dumped(store, number):
     """Returns the lines that the table has to have of a log, as `hwal dump` prints it."""
-    ran = subprocess.run([store.hwal, "dump", str(number)], cwd=store.directory, stdin=subprocess.DEVNULL, capture_output=True, check=True)
+    ran = read(store, "dump", str(number))
     lines, place, item, entry, table = [], 0, 0, None, ""
     for words in (line.split(" ") for line in ran.stdout.decode().splitlines()):
         if words[0] == "entry":

@@ -28,7 +28,7 @@ class Waits(Exception):
 @dataclass
 class Settings:
     name: str
-    begin: int
+    begin: int | None
     batch: int
     recover: bool
 
@@ -51,7 +51,7 @@ class Follower:
             session.close()
             raise Waits("another follower has this store") from None
         self.known = None
-        self.say("has taken all before {} {}".format(*self.records.position))
+        self.say("the record is {} {}".format(*self.records.position))
 
     def close(self):
         if self.records:
@@ -165,7 +165,8 @@ class Follower:
             self.records.pass_on(max(self.records.position, end))
         elif status in (7, 10):
             words = f"`hwal ship` refused {' '.join(shipped.refusal or [])}"
-            raise Refused(status, f"{words}: {PUT_BACK}" if status == 10 else words)
+            why = PUT_BACK if self.records.last else "--from says with which log to begin"
+            raise Refused(status, f"{words}: {why}" if status == 10 else words)
         elif status is not None:
             raise Waits(f"`hwal ship` ended with {status}")
 
@@ -197,7 +198,7 @@ class Follower:
         batch.commit()
         batch.settle()
         if batch.taken:
-            self.say("{} entries taken, all before {} {}".format(batch.taken, *self.records.position))
+            self.say("{} entries taken, the record is {} {}".format(batch.taken, *self.records.position))
 
     def check(self, entry):
         """A region's numbers follow one another in its store's logs. Where they don't, entries are missing or come twice."""

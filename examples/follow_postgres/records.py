@@ -24,10 +24,12 @@ class Records:
         with open(SCHEMA, "rb") as schema:
             session.send(schema.read())
         session.wait(session.mark())
-        session.ask(f"insert into hwal.stores (name, file, entries) values ({quoted(name)}, {begin}, 0) on conflict do nothing")
+        session.ask(f"insert into hwal.stores (name, file, entries) values ({quoted(name)}, 1, 0) on conflict do nothing")
         self.store = int(session.ask(f"select store from hwal.stores where name = {quoted(name)}")[0][0])
         if session.ask(f"select pg_try_advisory_lock({FOLLOWERS}, {self.store})") != [["t"]]:
             raise Taken()
+        if begin:
+            session.ask(f"update hwal.stores set file = {begin}, entries = 0 where store = {self.store} and last_file is null")
         kept = session.ask(f"select file, entries, last_file, last_place, encode(last_digest, 'hex') from hwal.stores where store = {self.store}")[0]
         self.position = int(kept[0]), int(kept[1])
         self.last = Last(int(kept[2]), int(kept[3]), kept[4]) if kept[2] else None
