@@ -161,7 +161,8 @@ class Follower:
         except (NotShipped, KeyError, IndexError, ValueError) as why:
             raise Refused(6, f"`hwal ship` ended with {status}, and printed what it never prints: {why}") from None
         if status == 0:
-            end = min(shipped.position, (self.waiting, 0)) if self.waiting else shipped.position
+            # All lower logs are taken, and of the one that waits nothing.
+            end = (self.waiting, 0) if self.waiting else shipped.position
             self.records.pass_on(max(self.records.position, end))
         elif status in (7, 10):
             words = f"`hwal ship` refused {' '.join(shipped.refusal or [])}"
