@@ -4,6 +4,7 @@ pub mod Drafts
 pub mod Sorting
 pub mod Layering
 pub mod WalkSteps
+pub mod Leading
 pub mod Ranges
 pub mod Resuming
 pub mod Permuting

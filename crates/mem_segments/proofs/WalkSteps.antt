@@ -1,10 +1,9 @@
 -- A step of a walk over several lists.
-use Rattle.std.specs.Prelude.{◌≡◌, ◌↔◌, Bool, true, false, not, IsTrue, cond, List, [], ◌∷◌, map, Option, Some, None, option_map}
+use Rattle.std.specs.Prelude.{◌≡◌, cond, List, [], ◌∷◌, map, Option, Some, None}
 use Rattle.std.proofs.Common.{refl, sym, ap, subst, ◌∙◌}
 use Rattle.std.specs.declared.cmp.Ordering.{Ordering}
 use Rattle.std.specs.declared.cmp.Ordering.TheVariants.{Less, Equal, Greater}
 use Rattle.std.specs.Ordering.{is_eq, ordering_reverse}
-use Rattle.std.specs.Option.{is_some}
 use Rattle.std.proofs.lemmas.Cmp.{alike_right, tied_itself}
 use Rattle.cell_model.specs.Order.{NumberedCell, version_of, numbered_cmp}
 use Rattle.cell_model.specs.Merge.{by_turn, merge_into, merged}
@@ -20,7 +19,7 @@ reversed x y r e = version_cmp_total.antisymm (version_of y) (version_of x) ∙ 
 -- ---- lists whose heads all come later are left as they are
 
 -- a comes before it, where it is there
-abbrev Precedes : NumberedCell → Option NumberedCell → Type 0
+abbrev pub Precedes : NumberedCell → Option NumberedCell → Type 0
 Precedes a None = Unit {0}
 Precedes a (Some x) = numbered_cmp a x ≡ Less
 
@@ -34,11 +33,11 @@ precedes_both a (Some x) (Some y) h =
       | Greater ↦ λ e h. (version_cmp_total.trans (version_of a) (version_of y) (version_of x) h (reversed x y Greater e), h)
     ] refl h
 
-past_later : (a : NumberedCell) (xs : List NumberedCell) → Precedes a (head_of xs) → past a xs ≡ xs
+pub past_later : (a : NumberedCell) (xs : List NumberedCell) → Precedes a (head_of xs) → past a xs ≡ xs
 past_later a [] h = refl
 past_later a (x ∷ xs) h = ap (λ r. cond (is_eq r) xs (x ∷ xs)) (reversed a x Less h)
 
-all_later : (a : NumberedCell) (xss : List (List NumberedCell)) → Precedes a (least_of xss) → map (past a) xss ≡ xss
+pub all_later : (a : NumberedCell) (xss : List (List NumberedCell)) → Precedes a (least_of xss) → map (past a) xss ≡ xss
 all_later a [] h = refl
 all_later a (xs ∷ xss) h =
     let p = precedes_both a (head_of xs) (least_of xss) h in
@@ -116,10 +115,3 @@ one_list (Some y) (a ∷ as') x xss l next e = turn (numbered_cmp a y) a as' y x
 pub one_more : (xss : List (List NumberedCell)) (x : NumberedCell) → least_of xss ≡ Some x → merged_all xss ≡ x ∷ merged_all (map (past x) xss)
 one_more [] x e = absurd cc
 one_more (xs ∷ xss) x e = one_list (least_of xss) xs x xss refl (one_more xss) e
-
--- nothing is to come exactly where there is no least head
-pub done_is : {A : Type 0} (f : A → NumberedCell) (xss : List (List NumberedCell)) (xs : List NumberedCell) (o : Option A) (b : Bool) → xs ≡ merged_all xss → option_map f o ≡ least_of xss → is_some o ≡ not b → IsTrue b ↔ (xs ≡ [])
-done_is f xss xs None true v l e = ((λ t. v ∙ nothing_left xss (sym l)), (λ n. refl))
-done_is f xss xs None false v l e = absurd cc
-done_is f xss xs (Some a) true v l e = absurd cc
-done_is f xss xs (Some a) false v l e = ((λ t. absurd cc), (λ n. let more = sym n ∙ v ∙ one_more xss _ (sym l) in absurd cc))

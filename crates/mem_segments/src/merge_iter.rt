@@ -1,18 +1,20 @@
 //! A walk over several segments in one order, within a range of rows.
 
-ghost use Rattle.std.specs.Prelude.{◌≡◌, ◌↔◌, ◌≤◌, IsTrue, [], ◌∷◌, length, map, take, drop, filter, option_map, IfOk, MatchOption};
+ghost use Rattle.std.specs.Prelude.{◌≡◌, ◌↔◌, IsTrue, List, suc, [], ◌∷◌, map, filter, option_map, IfOk, MatchOption};
 ghost use Rattle.std.specs.Arc.{arc_value};
 ghost use Rattle.cell_model.specs.Join.{joined};
-ghost use Rattle.cell_model.specs.Order.{cells_of};
+ghost use Rattle.cell_model.specs.Order.{NumberedCell, cells_of};
 ghost use Rattle.region_model.specs.Journal.{is_in_range};
-ghost use Rattle.mem_segments.specs.Walk.{least_of, lesser, past, to_come};
+ghost use Rattle.mem_segments.specs.Leader.{Leads, IsLed};
+ghost use Rattle.mem_segments.specs.Walk.{past, to_come};
 
 use crate::cursor::Cursor;
-use crate::rest::{Rest, first_of_two};
+use crate::rest::Rest;
 use crate::row::Row;
 use crate::segment::Segment;
 use kv_cell::{Cell, NoMemory};
 use std::alloc::Global;
+use std::cmp::Ordering;
 use std::marker::Model;
 use std::sync::Arc;
 
@@ -65,7 +67,7 @@ impl<'a> MergeIter<'a> {
     pub fn is_done(&self) -> bool
         ensures { IsTrue result ↔ (self.now ≡ []) }
     {
-        least_head(&self.rests).is_none()
+        leader_of(&self.rests).is_none()
     }
 
     /// The next number and cell: none exactly after the last. With k segments it takes a time linear in k.
@@ -82,14 +84,24 @@ impl<'a> MergeIter<'a> {
     pub fn next_row(&mut self) -> Option<&'a Row>
         ensures { MatchOption result ((self.old ≡ []) × (self.new ≡ [])) (λ row. self.old ≡ row.now ∷ self.new) }
     {
-        match least_head(&self.rests) {
+        match leader_of(&self.rests) {
             None => None,
-            Some(least) => {
-                pass_all(&mut self.rests, least);
-                Some(least)
+            Some(leader) => {
+                pass_leader(&mut self.rests, leader);
+                Some(leader.row)
             }
         }
     }
+}
+
+/// The least head of a walk.
+#[derive(Clone, Copy)]
+pub(crate) struct Leader<'a> {
+    row: &'a Row,
+    // where the segment stands whose head it is
+    place: usize,
+    // whether no other head ties with it
+    is_alone: bool,
 }
 
 /// What each segment has within the range of rows, behind the row that was given last.
@@ -111,17 +123,56 @@ fn rests_of<'a>(
     Ok(rests)
 }
 
-/// The least of the heads; of those that tie the last one.
-fn least_head<'a>(rests: &[Rest<'a>]) -> Option<&'a Row>
-    ensures { option_map (λ row. row.now) result ≡ least_of rests.now }
+/// The least of the heads, and where it stands; of those that tie the last one.
+fn leader_of<'a>(rests: &[Rest<'a>]) -> Option<Leader<'a>>
+    ensures { IsLed 0 rests.now result }
 {
-    let mut least = None;
+    let mut leader = None;
     let mut left = rests.len();
     while left > 0 {
         left -= 1;
-        least = first_of_two(rests[left].head(), least);
+        leader = leading(&rests[left], left, leader);
     }
-    least
+    leader
+}
+
+/// The leader of this segment, which stands at `place`, and of those after it, whose leader is given.
+fn leading<'a>(rest: &Rest<'a>, place: usize, leader: Option<Leader<'a>>) -> Option<Leader<'a>>
+    ensures { (after : List (List NumberedCell)) → IsLed (suc place) after leader.entry → IsLed place (rest.now ∷ after) result }
+{
+    match (rest.head(), leader) {
+        (None, _) => leader,
+        (Some(row), None) => Some(Leader {
+            row,
+            place,
+            is_alone: true,
+        }),
+        (Some(row), Some(later)) => match row.compare(later.row) {
+            Ordering::Less => Some(Leader {
+                row,
+                place,
+                is_alone: true,
+            }),
+            Ordering::Equal => Some(Leader {
+                row: later.row,
+                place: later.place,
+                is_alone: false,
+            }),
+            Ordering::Greater => Some(later),
+        },
+    }
+}
+
+/// Goes past the leader, and past each head that ties with it.
+fn pass_leader(rests: &mut [Rest<'_>], leader: Leader<'_>)
+    requires { Leads 0 rests.old leader }
+    ensures { rests.new ≡ map (past leader.entry.row.now) rests.old }
+{
+    if leader.is_alone {
+        rests[leader.place].skip();
+    } else {
+        pass_all(rests, leader.row);
+    }
 }
 
 /// Goes past each head that ties with this row.

@@ -6,7 +6,7 @@ ghost use Rattle.std.specs.Cmp.Lexicographic.{slice_cmp};
 ghost use Rattle.cell_model.specs.Order.{NumberedCell, cells_of};
 ghost use Rattle.cell_model.specs.Merge.{IsRising};
 ghost use Rattle.region_model.specs.Journal.{is_in_range};
-ghost use Rattle.mem_segments.specs.Walk.{head_of, lesser, past, is_before, to_come};
+ghost use Rattle.mem_segments.specs.Walk.{head_of, past, is_before, to_come};
 
 use crate::row::Row;
 use crate::segment::Segment;
@@ -64,6 +64,15 @@ impl<'a> Rest<'a> {
         self.rows.first()
     }
 
+    /// Goes past the first row, where there is one.
+    pub(crate) fn skip(&mut self)
+        ensures { self.new ≡ drop 1 self.old }
+    {
+        if !self.rows.is_empty() {
+            self.rows = &self.rows[1..];
+        }
+    }
+
     /// Goes past the first row, where it ties with this one.
     pub(crate) fn pass(&mut self, least: &Row)
         ensures { self.new ≡ past least.now self.old }
@@ -93,15 +102,4 @@ fn given(rows: &[Row], last: &Row) -> usize
     ensures others { drop result rows.now ≡ to_come (Some last.now) rows.now }
 {
     rows.partition_point(|row| row.is_at_most(last))
-}
-
-/// The one that comes first in the order; of two that tie the second.
-pub(crate) fn first_of_two<'a>(x: Option<&'a Row>, y: Option<&'a Row>) -> Option<&'a Row>
-    ensures { option_map (λ row. row.now) result ≡ lesser (option_map (λ row. row.now) x.entry) (option_map (λ row. row.now) y.entry) }
-{
-    match (x, y) {
-        (Some(a), Some(b)) => Some(if a.compare(b).is_lt() { a } else { b }),
-        (Some(a), None) => Some(a),
-        (None, b) => b,
-    }
 }

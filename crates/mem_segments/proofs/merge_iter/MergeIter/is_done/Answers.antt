@@ -1,8 +1,7 @@
-use Rattle.std.proofs.Common.{sym, ap, Bor, ◌∙◌}
-use Rattle.cell_model.specs.Order.{NumberedCell}
-use Rattle.mem_segments.specs.Walk.{least_of}
-use Rattle.mem_segments.proofs.WalkSteps.{done_is}
+use Rattle.std.proofs.Common.{sym, subst}
+use Rattle.mem_segments.specs.Leader.{IsLed}
+use Rattle.mem_segments.proofs.Leading.{done_is}
 use Rattle.mem_segments.proofs.merge_iter.MergeIter.is_done.Goals as goal
 
 pub returns : goal.returns
-returns c = done_is (λ (row : Bor NumberedCell). row.now) c.self.inside.rests.items c.args.self.now _ c.is_none.result (sym c.self.view_is) (c.least_head.ensures ∙ ap least_of c.deref.ensures.value) c.is_none.ensures
+returns c = done_is c.self.inside.rests.items c.args.self.now c.leader_of.result c.is_none.result (sym c.self.view_is) (subst (λ lists. IsLed 0 lists c.leader_of.result) c.deref.ensures.value c.leader_of.ensures) c.is_none.ensures
