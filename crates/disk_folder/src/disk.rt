@@ -3,25 +3,27 @@
 ghost use Rattle.std.specs.Prelude.{◌≡◌, ◌≤◌, length, min, false, Ok, OnOk, IfOk, IsErr};
 ghost use Rattle.disk_images.specs.Calls.{Rose, HasCause};
 
+use crate::fault::Fault;
 use crate::folder::FolderDisk;
 use disk_images::{Disk, Failed, Name, NameList, NamesError};
 use std::alloc::Global;
 use std::fs::File;
-use std::io::{self, ErrorKind};
 use std::rt::Files;
-
-/// A file ends below this many bytes.
-const LIMIT: u64 = 1 << 63;
 
 impl<R: Eprint> FolderDisk<'_, R> {
     /// Hands on what a call on a file gave. An error is a fault.
-    fn answer<T: Copy>(&mut self, call: &str, name: Name, given: io::Result<T>) -> Result<T, Failed>
+    fn answer<T: Copy>(
+        &mut self,
+        call: &str,
+        name: Name,
+        given: Result<T, Fault>,
+    ) -> Result<T, Failed>
         ensures same { IfOk result (λ value. given ≡ Ok value) }
         ensures cause { HasCause self.old.faults self.new.faults (IsErr result) }
     {
         match given {
             Ok(value) => Ok(value),
-            Err(cause) => Err(self.fail(call, name, &cause)),
+            Err(fault) => Err(self.fail(call, Some(name), &fault)),
         }
     }
 }
@@ -40,9 +42,9 @@ impl<R: Files<File = File> + Eprint + AllocGlobal + Clone + Drop> Disk for Folde
     fn names(&mut self, _alloc: Global) -> Result<NameList, NamesError> {
         match self.list_files() {
             Ok(names) => Ok(NameList::of(names)),
-            Err(e) if e.kind() == ErrorKind::OutOfMemory => Err(NamesError::Memory),
-            Err(e) => {
-                let _ = self.fail_whole("list", &e);
+            Err(fault) if fault.is_memory() => Err(NamesError::Memory),
+            Err(fault) => {
+                let _ = self.fail("list", None, &fault);
                 Err(NamesError::Failed)
             }
         }
@@ -64,10 +66,6 @@ impl<R: Files<File = File> + Eprint + AllocGlobal + Clone + Drop> Disk for Folde
     }
 
     fn write_at(&mut self, name: Name, at: u64, bytes: &[u8]) -> Result<(), Failed> {
-        if at >= LIMIT || (bytes.len() as u64) >= LIMIT - at {
-            let cause = io::Error::from(ErrorKind::FileTooLarge);
-            return Err(self.fail("write", name, &cause));
-        }
         let given = self.write_file(name, at, bytes);
         self.answer("write", name, given)
     }
@@ -90,7 +88,7 @@ impl<R: Files<File = File> + Eprint + AllocGlobal + Clone + Drop> Disk for Folde
     fn settle(&mut self) -> Result<(), Failed> {
         match self.sync_folder() {
             Ok(()) => Ok(()),
-            Err(e) => Err(self.fail_whole("sync", &e)),
+            Err(fault) => Err(self.fail("sync", None, &fault)),
         }
     }
 }

@@ -6,10 +6,14 @@
 //! folder's own sync.
 #![tactic(auto)]
 
+mod calls;
 mod disk;
 mod entries;
+mod fault;
 mod folder;
+mod holding;
 mod laws;
+mod mending;
 mod open_files;
 mod spelling;
 mod streams;

@@ -8,49 +8,53 @@ use std::alloc::Global;
 use std::fs;
 use std::test::*;
 
-/// One disk writes, and while it is there it holds off the two others.
+/// Whether the step is done on a disk that is made for it.
+fn does(rt: &HostRuntime, access: Access, step: Step) -> bool {
+    first_wrong_of(rt, access, &[(step, true)]).is_none()
+}
+
+/// One disk writes, and while it is there it holds off each other one, also one that has looked before.
 fn holds_off(
+    rt: &HostRuntime,
     first: &mut Folder<'_>,
     second: &mut Folder<'_>,
-    reader: &mut Folder<'_>,
     alloc: Global,
 ) -> bool {
     done(second, alloc, Lists(&[]))
         && done(first, alloc, Create(Log(1)))
         && !done(second, alloc, Create(Log(2)))
-        && !done(reader, alloc, Lists(&[Log(1)]))
+        && !does(rt, Access::Writing, Create(Log(2)))
+        && !does(rt, Access::Reading, Lists(&[Log(1)]))
 }
 
-/// The same of a disk that is there for this long.
-fn held_off(
-    rt: &HostRuntime,
-    second: &mut Folder<'_>,
-    reader: &mut Folder<'_>,
-    alloc: Global,
-) -> bool {
+/// The same of disks that are there for this long.
+fn held_off(rt: &HostRuntime) -> bool {
+    let alloc = rt.alloc();
     let mut first = FolderDisk::new(rt, alloc, Access::Writing);
-    holds_off(&mut first, second, reader, alloc)
+    let mut second = FolderDisk::new(rt, alloc, Access::Writing);
+    holds_off(rt, &mut first, &mut second, alloc)
 }
 
-/// The reader holds off the one that writes, and writes nothing itself.
-fn reads_alone(second: &mut Folder<'_>, reader: &mut Folder<'_>, alloc: Global) -> bool {
+/// One that reads holds off those that write, and no other that reads. It writes nothing itself.
+fn reads_beside(rt: &HostRuntime, reader: &mut Folder<'_>, alloc: Global) -> bool {
     done(reader, alloc, Lists(&[Log(1)]))
-        && !done(second, alloc, Lacks(Log(2)))
+        && !does(rt, Access::Writing, Lacks(Log(2)))
+        && does(rt, Access::Reading, Lists(&[Log(1)]))
         && !done(reader, alloc, Create(Log(2)))
 }
 
-/// Whether one of three disks writes at a time.
-fn one_writes(rt: &HostRuntime) -> bool {
+/// The same of a disk that is made for it.
+fn reads_alone(rt: &HostRuntime) -> bool {
     let alloc = rt.alloc();
-    let mut second = FolderDisk::new(rt, alloc, Access::Writing);
     let mut reader = FolderDisk::new(rt, alloc, Access::Reading);
-    held_off(rt, &mut second, &mut reader, alloc) && reads_alone(&mut second, &mut reader, alloc)
+    reads_beside(rt, &mut reader, alloc)
 }
 
 #[test]
 fn one_program_writes(rt: HostRuntime) {
     clear(&rt);
-    assert!(rt; one_writes(&rt));
+    assert!(rt; held_off(&rt));
+    assert!(rt; reads_alone(&rt));
     clear(&rt);
 }
 

@@ -28,6 +28,8 @@ mod one_file;
 #[cfg(test)]
 mod reading;
 #[cfg(test)]
+mod refusing;
+#[cfg(test)]
 mod sharing;
 #[cfg(test)]
 mod spellings;

@@ -1,5 +1,5 @@
 use Rattle.std.proofs.Common.{◌≤◌, length}
-use Rattle.disk_folder.proofs.folder.read_from.Given as goal
+use Rattle.disk_folder.proofs.calls.read_from.Given as goal
 
 abbrev pub invariant-loop : goal.invariant-loop
 invariant-loop l = l.filled ≤ length l.into
