@@ -1,16 +1,16 @@
 #!/usr/bin/env python3
 """Measures hwal by clock beside RocksDB, LevelDB and the C++ shape of its path, in rounds that alternate.
 
-usage: bench/rounds.py PROGRAM [--former PROGRAM] [--rounds N] [--parts puts,busy,scans,openings,loads,memory,groups]
-       [--dir DISK] [--shm RAM] [--realtime]
+usage: bench/rounds.py PROGRAM [--former PROGRAM] [--groups PROGRAM] [--rounds N]
+       [--parts puts,busy,scans,openings,loads,memory,groups] [--dir DISK] [--shm RAM] [--realtime]
 
 PROGRAM is a built hwal (crates/hwal/out/hwal); --former is another one, which has rows of its own. The peers come from
 bench/build.sh. DISK is a folder on a real disk (/var/tmp), RAM one in memory (/dev/shm). With 11 rounds it takes some six
 minutes on four processors with nothing else to do; a busy machine shows its scheduler, unless each row runs with --realtime
 (root; `chrt -r 10`). It prints tables.
 
-The part `groups` is not among the parts that are measured unless it is named: 16 handlers over one folder and over four folders
-of one disk, on DISK and in RAM, puts and commits a second.
+--groups is a built hwal_groups (crates/hwal_groups/out/hwal_groups), which the part `groups` wants: 16 handlers over one folder
+and over four folders of one disk, on DISK and in RAM, puts and commits a second. It is measured only where it is named.
 
 Puts of hwal are told in two ways. "run" is the time of a whole `hwal run` less one with no puts, so the reading of the script
 and the printing of the report are in it. "handlers" goes from the making of the log's file to its last write, as the file
@@ -141,12 +141,14 @@ class Bench:
 
     def groups(self):
         """The same puts over one folder and over four, each with a log of its own; beside them hwal over its one folder."""
+        if not self.given.groups:
+            sys.exit("rounds: the part groups wants --groups PROGRAM")
         count, table = 32_000, "16 handlers, 8 regions: {} a second, {}"
         script = puts(16, 8, count // 16)
         rows = [("hwal, one folder", self.programs["hwal"], "run", ["hwal-store"])]
         for many in (1, 4):
             folders = [f"hwal-store-{k}" for k in range(1, many + 1)]
-            rows.append((f"groups, {'four folders' if many == 4 else 'one folder'}", self.programs["hwal"], f"groups {many}", folders))
+            rows.append((f"groups, {'four folders' if many == 4 else 'one folder'}", os.path.abspath(self.given.groups), str(many), folders))
         for _ in range(self.given.rounds):
             for where, within in (("on a disk", self.disk), ("in memory", self.ram)):
                 for row, program, word, folders in rows:
@@ -163,7 +165,7 @@ class Bench:
         counted = {**os.environ, "LD_PRELOAD": f"{HERE}/bin/syncs.so", "SYNCS": f"{self.ram}/syncs"}
         if os.path.exists(counted["SYNCS"]):
             os.remove(counted["SYNCS"])
-        ran = subprocess.run([*self.front, program, *word.split()], cwd=at, input=script.encode(), capture_output=True, check=False, env=counted)
+        ran = subprocess.run([*self.front, program, word], cwd=at, input=script.encode(), capture_output=True, check=False, env=counted)
         if ran.returncode:
             sys.exit(f"rounds: {program} {word} ended with {ran.returncode}: {ran.stdout[-200:]} {ran.stderr[-200:]}")
         times = [times_of(f"{at}/{it}/log-1") for it in folders if os.path.exists(f"{at}/{it}/log-1")]
@@ -278,6 +280,7 @@ def main():
     parser = argparse.ArgumentParser(description=__doc__, formatter_class=argparse.RawDescriptionHelpFormatter)
     parser.add_argument("program")
     parser.add_argument("--former")
+    parser.add_argument("--groups")
     parser.add_argument("--rounds", type=int, default=11)
     parser.add_argument("--parts", default="puts,busy,scans,openings,loads,memory")
     parser.add_argument("--dir", default="/var/tmp")

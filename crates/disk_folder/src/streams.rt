@@ -11,11 +11,21 @@ use std::io::{self, ErrorKind, Read, Write};
 pub struct ReaderSource<R> {
     reader: R,
     faults: u64,
+    cause: Option<io::Error>,
 }
 
 impl<R> ReaderSource<R> {
     pub fn new(reader: R) -> Self {
-        ReaderSource { reader, faults: 0 }
+        ReaderSource {
+            reader,
+            faults: 0,
+            cause: None,
+        }
+    }
+
+    /// Why the last read failed that did.
+    pub fn cause(&self) -> Option<io::Error> {
+        self.cause
     }
 }
 
@@ -29,8 +39,9 @@ impl<R: Read> Source for ReaderSource<R> {
     fn read(&mut self, into: &mut [u8]) -> Result<usize, Failed> {
         match read_some(&mut self.reader, into) {
             Ok(n) => Ok(n),
-            Err(_) => {
+            Err(cause) => {
                 self.faults = self.faults.saturating_add(1);
+                self.cause = Some(cause);
                 Err(Failed)
             }
         }
@@ -42,11 +53,21 @@ impl<R: Read> Source for ReaderSource<R> {
 pub struct WriterSink<W> {
     writer: W,
     faults: u64,
+    cause: Option<io::Error>,
 }
 
 impl<W> WriterSink<W> {
     pub fn new(writer: W) -> Self {
-        WriterSink { writer, faults: 0 }
+        WriterSink {
+            writer,
+            faults: 0,
+            cause: None,
+        }
+    }
+
+    /// Why the last write failed that did.
+    pub fn cause(&self) -> Option<io::Error> {
+        self.cause
     }
 }
 
@@ -58,13 +79,14 @@ impl<W: Write> Sink for WriterSink<W> {
     ghost faults = { λ sink. sink.faults };
 
     fn write(&mut self, bytes: &[u8]) -> Result<usize, Failed> {
-        match write_some(&mut self.writer, bytes) {
-            Ok(n) if n > 0 || bytes.is_empty() => Ok(n),
-            _ => {
-                self.faults = self.faults.saturating_add(1);
-                Err(Failed)
-            }
-        }
+        let cause = match write_some(&mut self.writer, bytes) {
+            Ok(n) if n > 0 || bytes.is_empty() => return Ok(n),
+            Ok(_) => io::Error::from(ErrorKind::WriteZero),
+            Err(cause) => cause,
+        };
+        self.faults = self.faults.saturating_add(1);
+        self.cause = Some(cause);
+        Err(Failed)
     }
 }
 

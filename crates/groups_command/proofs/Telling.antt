@@ -9,7 +9,7 @@ use Rattle.script_model.specs.Fields.{Why}
 use Rattle.script_model.specs.Why.{why_of}
 use Rattle.script_model.specs.declared.why.ScriptWhy.{ScriptWhy}
 use Rattle.script_model.specs.Outputs.{refused_memory}
-use Rattle.script_model.specs.declared.command.Command.TheVariants.{Run}
+use Rattle.script_model.specs.declared.command.Command.TheVariants.{Groups}
 use Rattle.run_model.proofs.KeepsFound.{one_last}
 use Rattle.command_base.specs.Invocation.{taken_of}
 use Rattle.command_base.specs.Prints.{Prints}
@@ -184,7 +184,7 @@ parsed_each P done memory fault sink damaged spent wrong statuses.Usage may = ab
 parsed_each P done memory fault sink damaged spent wrong (statuses.Script line why) may = absurd may
 parsed_each P done memory fault sink damaged spent wrong statuses.SourceFault may = absurd may
 
-pub run_ends : (groups : ℕ) (script : Script) (text had has : List ℕ) (before after : ℕ → DiskView) (rose sank : Type 0) → Says Run text script → (status : GroupsStatus) → IsParsedEnd status
+pub run_ends : (groups : ℕ) (script : Script) (text had has : List ℕ) (before after : ℕ → DiskView) (rose sank : Type 0) → Says Groups text script → (status : GroupsStatus) → IsParsedEnd status
     → EndsGroups status groups script before after rose sank (taken_of had has) → GroupsEnd status (groups_invocation groups text before after had has) rose sank
 run_ends groups script text had has before after rose sank says =
     parsed_each (λ s. EndsGroups s groups script before after rose sank (taken_of had has) → GroupsEnd s (groups_invocation groups text before after had has) rose sank)

@@ -4,7 +4,7 @@ use Rattle.cell_model.specs.Lists.{IsPrefix}
 use Rattle.disk_images.specs.Crash.{DiskView}
 use Rattle.script_model.specs.Calls.{Script, Says}
 use Rattle.script_model.specs.Outputs.{refused_memory, refused_disk}
-use Rattle.script_model.specs.declared.command.Command.TheVariants.{Run}
+use Rattle.script_model.specs.declared.command.Command.TheVariants.{Groups}
 use Rattle.run_model.specs.declared.spent.Spent.{Spent}
 use Rattle.run_model.specs.Spent.{IsFirstSpent}
 use Rattle.run_model.specs.Headline.{report_of, KeepsFound, IsHalfOpened}
@@ -68,7 +68,7 @@ EndsGroups _ groups script before after rose sank taken = ⊥
 
 -- a run of the script that the source has
 abbrev pub RunsGroups : GroupsStatus → GroupsInvocation → (rose sank : Type 0) → Type 0
-RunsGroups status o rose sank = (script : Script) × Says Run o.script script × EndsGroups status o.groups script o.before o.after rose sank o.taken
+RunsGroups status o rose sank = (script : Script) × Says Groups o.script script × EndsGroups status o.groups script o.before o.after rose sank o.taken
 
 -- What stands with each status. With no script nothing was run: memory for it was refused, or it is told why there is none.
 abbrev pub GroupsEnd : GroupsStatus → GroupsInvocation → (rose sank : Type 0) → Type 0

@@ -6,7 +6,7 @@ ghost use Rattle.disk_images.specs.Calls.{Rose};
 ghost use Rattle.script_model.specs.Calls.{IsScript};
 ghost use Rattle.script_model.specs.Fields.{Why};
 ghost use Rattle.script_model.specs.Script.{script_fault};
-ghost use Rattle.script_model.specs.declared.command.Command.TheVariants.{Run};
+ghost use Rattle.script_model.specs.declared.command.Command.TheVariants.{Groups};
 ghost use Rattle.command_base.specs.Invocation.{taken_of, GoesOn, IsUnchanged};
 ghost use Rattle.command_base.specs.Prints.{Prints};
 ghost use Rattle.run_model.specs.Headline.{KeepsThroughout};
@@ -35,10 +35,10 @@ use std::alloc::Global;
 use std::sync::Wait;
 use std::thread::Threads;
 
-/// Carries out `run` on one to four disks, each with a log of its own for the regions of its group. The one word is their number. It reads a script,
-/// opens a store on each disk, runs the script's handlers, each in a thread of its own, closes the stores, and prints the report of what each call
-/// was answered and of each region's edits. A fault of one disk refuses no put of another group. The gate can hold the handlers; it changes nothing
-/// of what the command says.
+/// Carries out `run` on one to four disks, each with a log of its own for the regions of its group. The one word is their number. It reads a script
+/// without gets, opens a store on each disk, runs the script's handlers, each in a thread of its own, closes the stores, and prints the report of
+/// what each call was answered and of each region's edits. A fault of one disk refuses no put of another group. The gate can hold the handlers; it
+/// changes nothing of what the command says.
 pub fn run_groups<R: Threads + Wait + Sync, D: Disk + Send, S: Source, K: Sink, G: Gate + Sync>(
     rt: &R,
     alloc: Global,
@@ -69,7 +69,7 @@ pub fn run_groups<R: Threads + Wait + Sync, D: Disk + Send, S: Source, K: Sink, 
 
     // Which status comes only where. Out of memory is free.
     ensures usage_only { result.status ≡ GroupsStatus.Usage → disks_named (map (λ w. w.now) words.now) ≢ Some (count_of disks) }
-    ensures script_only { IsTrue S.told → IsScriptFault result.status (λ line why. script_fault Run (S.left script.old) ≡ Some (line, why)) }
+    ensures script_only { IsTrue S.told → IsScriptFault result.status (λ line why. script_fault Groups (S.left script.old) ≡ Some (line, why)) }
     ensures source_cause { result.status ≡ GroupsStatus.SourceFault → Rose (S.faults script.old) (S.faults script.new) }
     ensures disk_cause { result.status ≡ GroupsStatus.DiskFault → SomeRose D.faults disks result.disks }
     ensures sink_cause { result.status ≡ GroupsStatus.SinkFault → Rose (K.faults out.old) (K.faults out.new) }
@@ -80,21 +80,21 @@ pub fn run_groups<R: Threads + Wait + Sync, D: Disk + Send, S: Source, K: Sink, 
     ensures usage { disks_named (map (λ w. w.now) words.now) ≢ Some (count_of disks)
         → (result.status ≡ GroupsStatus.Usage) × (script.new ≡ script.old) }
     ensures script { IsTrue S.told → (line : ℕ) (why : Why) → disks_named (map (λ w. w.now) words.now) ≡ Some (count_of disks)
-        → script_fault Run (S.left script.old) ≡ Some (line, why)
+        → script_fault Groups (S.left script.old) ≡ Some (line, why)
         → IsScriptAt result.status line why ⊎ Contains (GroupsStatus.Memory ∷ GroupsStatus.SourceFault ∷ []) result.status }
     ensures damage { IsTrue S.told → IsTrue D.told → (disk : ℕ) (damage : TheDamage)
-        → disks_named (map (λ w. w.now) words.now) ≡ Some (count_of disks) → script_fault Run (S.left script.old) ≡ None
+        → disks_named (map (λ w. w.now) words.now) ≡ Some (count_of disks) → script_fault Groups (S.left script.old) ≡ None
         → IsFirstDamaged (count_of disks) (views D.view disks) disk damage
         → IsOrEarlier result.status (GroupsStatus.Damaged disk damage) (GroupsStatus.SourceFault ∷ GroupsStatus.DiskFault ∷ []) }
     ensures wrong_group { IsTrue S.told → IsTrue D.told → (disk region : ℕ)
-        → disks_named (map (λ w. w.now) words.now) ≡ Some (count_of disks) → script_fault Run (S.left script.old) ≡ None
+        → disks_named (map (λ w. w.now) words.now) ≡ Some (count_of disks) → script_fault Groups (S.left script.old) ≡ None
         → AreSound (count_of disks) (views D.view disks) → IsFirstWrong (count_of disks) (views D.view disks) disk region
         → IsOrEarlier result.status (GroupsStatus.WrongGroup disk region) (GroupsStatus.SourceFault ∷ GroupsStatus.DiskFault ∷ []) }
 
     // With the disks' number, a right script, sound stores of which none has another group's region, and no fault, it is done, or memory was refused
     // or a region's numbers were spent.
     ensures complete { IsTrue S.told → IsTrue D.told → disks_named (map (λ w. w.now) words.now) ≡ Some (count_of disks)
-        → script_fault Run (S.left script.old) ≡ None
+        → script_fault Groups (S.left script.old) ≡ None
         → AreSound (count_of disks) (views D.view disks) → HaveNoOthers (count_of disks) (views D.view disks)
         → (Rose (S.faults script.old) (S.faults script.new) → ⊥) → (SomeRose D.faults disks result.disks → ⊥)
         → (Rose (K.faults out.old) (K.faults out.new) → ⊥) → IsComplete result.status }
@@ -105,7 +105,7 @@ pub fn run_groups<R: Threads + Wait + Sync, D: Disk + Send, S: Source, K: Sink, 
             disks,
         };
     }
-    match read_script(alloc, script, Command::Run) {
+    match read_script(alloc, script, Command::Groups) {
         Ok(script) => run_parsed(rt, alloc, script, disks, out, gate),
         Err(status) => GroupsOutcome {
             status: refuse(out, status_of(status)),

@@ -1,15 +1,10 @@
-//! Carries out the command that its words name, on the folder `hwal-store`, standard input and standard output. The command
-//! `groups N` runs a script on the folders `hwal-store-1` to `hwal-store-N`, each with a log of its own for a group of the regions.
+//! Carries out the command that its words name, on the folder `hwal-store`, standard input and standard output.
 //!
-//! It makes the outside and hands it to the two top calls: what is proved is proved there. What real folders and the streams
+//! It makes the outside and hands it to the top call: what is proved is proved there. What a real folder and the streams
 //! hold is known to no proof.
 #![tactic(auto)]
 
-mod folders;
-
 use disk_folder::{Access, FolderDisk, ReaderSource, WriterSink};
-use folders::folders;
-use groups_command::{GroupsStatus, disks_in, run_groups};
 use load_run::{FreeGate, Status, refuse, run};
 use std::alloc::AllocError;
 use std::fs::File;
@@ -33,13 +28,6 @@ fn access_of(words: &[&str]) -> Access {
         [word, _] if *word == "dump" => Access::Reading,
         [word, _, _] if *word == "ship" => Access::Reading,
         _ => Access::Writing,
-    }
-}
-
-/// Says which of several folders is damaged.
-fn tell_damage<R: Eprint + AllocGlobal>(rt: &R, status: &GroupsStatus) {
-    if let GroupsStatus::Damaged { disk, damage: _ } = status {
-        let _ = eprintln!(rt; "hwal: hwal-store-{disk} is damaged");
     }
 }
 
@@ -75,19 +63,7 @@ fn main(rt: HostRuntime) -> ExitCode {
         return ExitCode::from(refuse(&mut out, Status::Memory).number());
     };
     let mut script = ReaderSource::new(rt.reader());
-    let number = match words.as_slice() {
-        [word, counts @ ..] if *word == "groups" => {
-            let disks = folders(&rt, alloc, disks_in(counts).unwrap_or(1));
-            let outcome = run_groups(&rt, alloc, counts, &mut script, disks, &mut out, &FreeGate);
-            tell_damage(&rt, &outcome.status);
-            outcome.status.number()
-        }
-        words => {
-            let disk = FolderDisk::new(&rt, alloc, access_of(words));
-            run(&rt, alloc, words, &mut script, disk, &mut out, &FreeGate)
-                .status
-                .number()
-        }
-    };
-    ExitCode::from(number)
+    let disk = FolderDisk::new(&rt, alloc, access_of(&words));
+    let outcome = run(&rt, alloc, &words, &mut script, disk, &mut out, &FreeGate);
+    ExitCode::from(outcome.status.number())
 }

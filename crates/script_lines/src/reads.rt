@@ -11,7 +11,7 @@ ghost use Rattle.script_lines.specs.Why.{Tells};
 use crate::calls::{Spoken, handler_of, region_of};
 use crate::faults::{CellField, LineError, ScriptWhy};
 use crate::fields::{any_token, ranged, sized};
-use crate::not_here::here;
+use crate::not_here::{get_here, here};
 use script_calls::Call;
 use script_model::Command;
 use std::alloc::Global;
@@ -61,7 +61,7 @@ pub(crate) fn get_line(
     let region = region_of(r, regions)?;
     let row = sized(alloc, row, 1, 32_767, CellField::Row)?;
     let versions = ranged(versions, 1, 1_000_000, ScriptWhy::Count)?;
-    here(command)?;
+    get_here(command)?;
     Ok(Spoken::Calls {
         handler,
         call: Call::Get {

@@ -5,7 +5,7 @@ use Rattle.cell_model.specs.Cell.{Cell, is_kind}
 use Rattle.cell_model.specs.Batch.{Batch, body_length}
 use Rattle.script_model.specs.Text.{is_number, number_of, token_of}
 use Rattle.script_model.specs.declared.command.Command.{Command}
-use Rattle.script_model.specs.declared.command.Command.TheVariants.{Log, Run}
+use Rattle.script_model.specs.declared.command.Command.TheVariants.{Log, Run, Groups}
 
 -- the causes: word 1, number 2, token 3, region 4, handler 5, count 6, too-long 7, a cell's 8 with its number,
 -- not-here 9, entry-length 10, table-length 12
@@ -101,15 +101,25 @@ table_name_fault word = first_why ((has_no_token word, why 3) ∷ (is_out 1 255 
 unfoldable pub mode_fault : List ℕ → Option Why
 mode_fault word = first_why ((not (is word (codes "sync") || is word (codes "async")), why 1) ∷ [])
 
--- ---- what `log` does not take
+-- ---- what `log` does not take, and a run on several logs
 
 abbrev pub is_log : Command → Bool
 is_log Log = true
 is_log Run = false
+is_log Groups = false
+
+abbrev pub has_gets : Command → Bool
+has_gets Log = false
+has_gets Run = true
+has_gets Groups = false
 
 -- any call but a put, the name of a table, and tags
 unfoldable pub here_fault : Command → Option Why
 here_fault command = first_why ((is_log command, why 9) ∷ [])
+
+-- a get
+unfoldable pub get_here_fault : Command → Option Why
+get_here_fault command = first_why ((not (has_gets command), why 9) ∷ [])
 
 -- more than one region or handler
 unfoldable pub one_here_fault : Command → ℕ → Option Why

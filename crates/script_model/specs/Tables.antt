@@ -1,11 +1,11 @@
--- What is wrong with a line, and what a right one says: a field at a time from the left, and behind all others what `log` does not take.
+-- What is wrong with a line, and what a right one says: a field at a time from the left, and after all others what the command does not take.
 use Rattle.std.specs.Prelude.{ℕ, Bool, false, if◌then◌else◌, List, [], ◌∷◌, Option, Some, None, codes}
 use Rattle.cell_model.specs.Cell.{Cell}
 use Rattle.cell_model.specs.Batch.{Batch}
 use Rattle.region_model.specs.Calls.{Call, Scan, Raw, Flush, Roll, get_call}
 use Rattle.script_model.specs.Text.{number_of}
 use Rattle.script_model.specs.declared.command.Command.{Command}
-use Rattle.script_model.specs.Fields.{Why, why, first_of, is, bytes_of, cell_of, tagged_with, number_fault, token_fault, sized_fault, ts_fault, kind_fault, room_fault, table_name_fault, mode_fault, here_fault, one_here_fault, mode_here_fault, kind_here_fault}
+use Rattle.script_model.specs.Fields.{Why, why, first_of, is, bytes_of, cell_of, tagged_with, number_fault, token_fault, sized_fault, ts_fault, kind_fault, room_fault, table_name_fault, mode_fault, here_fault, get_here_fault, one_here_fault, mode_here_fault, kind_here_fault}
 
 -- a line whose first word is unknown or not allowed here, or that has another number of words
 abbrev pub misplaced : Option Why
@@ -57,7 +57,7 @@ family_fault command handlers regions h r family =
 abbrev pub get_fault : Command → (handlers regions : ℕ) (h r row versions : List ℕ) → Option Why
 get_fault command handlers regions h r row versions =
     first_of (handler_fault handlers h) (first_of (region_fault regions r)
-    (first_of (sized_fault 1 1 32767 row) (first_of (number_fault 1 1000000 (why 6) versions) (here_fault command))))
+    (first_of (sized_fault 1 1 32767 row) (first_of (number_fault 1 1000000 (why 6) versions) (get_here_fault command))))
 
 -- a line of calls, by its words
 abbrev pub call_fault : Command → (handlers regions : ℕ) → List (List ℕ) → Option Why

@@ -46,7 +46,7 @@ pub enum ScriptWhy {
     TooLong,
     /// `cell-1` to `cell-7`: a field of a cell is out of its limits.
     Cell(CellField),
-    /// `not-here`: a right line that the command `log` does not take.
+    /// `not-here`: a right line that the command does not take: `log` a part of them, a run on several logs no get.
     NotHere,
     /// `entry-length`: with this cell the body of the put's log entry passes 1,048,576 bytes.
     EntryLength,

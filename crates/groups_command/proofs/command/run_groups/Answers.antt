@@ -1,7 +1,7 @@
 use Rattle.std.proofs.Common.{◌≡◌, ◌⊎◌, [], ◌∷◌, Contains, Some, Err, sym, ap, ◌∙◌, subst}
 use Rattle.disk_images.specs.Calls.{Rose}
 use Rattle.script_model.specs.Script.{script_fault}
-use Rattle.script_model.specs.declared.command.Command.TheVariants.{Run}
+use Rattle.script_model.specs.declared.command.Command.TheVariants.{Groups}
 use Rattle.command_base.proofs.Endings.{same_disk, time_of}
 use Rattle.run_command.proofs.Leaving.{stays_throughout}
 use Rattle.run_model.specs.Headline.{MayKeep}
@@ -93,7 +93,7 @@ returns-in-Err-clause-usage_only g c is = absurd (input_usage c.in-Err.status c.
 
 pub returns-in-Err-clause-script_only : goal.returns-in-Err-clause-script_only
 returns-in-Err-clause-script_only g c told =
-    subst (λ (s : GroupsStatus). IsScriptFault s (λ line why. script_fault Run (g.S.Source.left c.args.script.now) ≡ Some (line, why))) (sym (c.refuse-in-Err.ensures.status ∙ c.status_of.ensures)) (input_script _ c.in-Err.status c.in-Err.ensures.refused (c.in-Err.ensures.script told))
+    subst (λ (s : GroupsStatus). IsScriptFault s (λ line why. script_fault Groups (g.S.Source.left c.args.script.now) ≡ Some (line, why))) (sym (c.refuse-in-Err.ensures.status ∙ c.status_of.ensures)) (input_script _ c.in-Err.status c.in-Err.ensures.refused (c.in-Err.ensures.script told))
 
 pub returns-in-Err-clause-source_cause : goal.returns-in-Err-clause-source_cause
 returns-in-Err-clause-source_cause g c is =
@@ -108,22 +108,22 @@ returns-in-Err-clause-sink_cause g c is = absurd (input_sink c.in-Err.status c.i
 pub returns-in-Err-clause-script : goal.returns-in-Err-clause-script
 returns-in-Err-clause-script g c told line why named wrong =
     subst (λ (s : GroupsStatus). IsScriptAt s line why ⊎ Contains (Memory ∷ SourceFault ∷ []) s) (sym (c.refuse-in-Err.ensures.status ∙ c.status_of.ensures))
-    (input_at (script_fault Run (g.S.Source.left c.args.script.now)) line why wrong c.in-Err.status c.in-Err.ensures.refused (c.in-Err.ensures.script told))
+    (input_at (script_fault Groups (g.S.Source.left c.args.script.now)) line why wrong c.in-Err.status c.in-Err.ensures.refused (c.in-Err.ensures.script told))
 
 pub returns-in-Err-clause-damage : goal.returns-in-Err-clause-damage
 returns-in-Err-clause-damage g c told told_disk disk damage named right first =
     subst (λ (s : GroupsStatus). IsOrEarlier s (Damaged disk damage) (SourceFault ∷ DiskFault ∷ [])) (sym (c.refuse-in-Err.ensures.status ∙ c.status_of.ensures))
-    (input_first (script_fault Run (g.S.Source.left c.args.script.now)) (Damaged disk damage) (DiskFault ∷ []) right c.in-Err.status c.in-Err.ensures.refused (c.in-Err.ensures.script told))
+    (input_first (script_fault Groups (g.S.Source.left c.args.script.now)) (Damaged disk damage) (DiskFault ∷ []) right c.in-Err.status c.in-Err.ensures.refused (c.in-Err.ensures.script told))
 
 pub returns-in-Err-clause-wrong_group : goal.returns-in-Err-clause-wrong_group
 returns-in-Err-clause-wrong_group g c told told_disk disk region named right sound first =
     subst (λ (s : GroupsStatus). IsOrEarlier s (WrongGroup disk region) (SourceFault ∷ DiskFault ∷ [])) (sym (c.refuse-in-Err.ensures.status ∙ c.status_of.ensures))
-    (input_first (script_fault Run (g.S.Source.left c.args.script.now)) (WrongGroup disk region) (DiskFault ∷ []) right c.in-Err.status c.in-Err.ensures.refused (c.in-Err.ensures.script told))
+    (input_first (script_fault Groups (g.S.Source.left c.args.script.now)) (WrongGroup disk region) (DiskFault ∷ []) right c.in-Err.status c.in-Err.ensures.refused (c.in-Err.ensures.script told))
 
 pub returns-in-Err-clause-complete : goal.returns-in-Err-clause-complete
 returns-in-Err-clause-complete g c told told_disk named right sound clear no_source no_disk no_sink =
     subst IsComplete (sym (c.refuse-in-Err.ensures.status ∙ c.status_of.ensures))
-    (input_complete (script_fault Run (g.S.Source.left c.args.script.now)) (Rose (g.S.Source.faults c.args.script.now) (g.S.Source.faults c.read_script.new.source)) right no_source c.in-Err.status
+    (input_complete (script_fault Groups (g.S.Source.left c.args.script.now)) (Rose (g.S.Source.faults c.args.script.now) (g.S.Source.faults c.read_script.new.source)) right no_source c.in-Err.status
     c.in-Err.ensures.refused (c.in-Err.ensures.script told) (λ is. c.in-Err.ensures.cause (ap Err is)))
 
 -- ---- other words
