@@ -61,7 +61,7 @@ impl<R: Files<File = File> + AllocGlobal + Clone + Drop> FolderDisk<'_, R> {
         self.hold(Access::Writing)?;
         let count = bytes.len() as u64;
         if at >= LIMIT || count >= LIMIT - at || count > self.most.saturating_sub(at) {
-            return Err(Fault::Call(io::Error::from_raw_os_error(libc::EFBIG)));
+            return Err(Fault::Call(io::Error::from(ErrorKind::FileTooLarge)));
         }
         self.open_file(name, true)?;
         self.open.latest()?.write_all_at(bytes, at)?;
@@ -124,7 +124,7 @@ impl<R: Files<File = File> + AllocGlobal + Clone + Drop> FolderDisk<'_, R> {
 }
 
 /// Reads from this offset on until the slice is full or the file ends, and again where a signal came between.
-fn read_from(file: &File, at: u64, into: &mut [u8]) -> io::Result<usize>
+pub(crate) fn read_from(file: &File, at: u64, into: &mut [u8]) -> io::Result<usize>
     ensures within { IfOk result (λ n. n ≤ length into.old) }
 {
     let mut filled = 0;

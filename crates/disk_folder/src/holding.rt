@@ -5,14 +5,12 @@ ghost use Rattle.std.specs.Prelude.{◌≡◌};
 use crate::entries::{AROUND, names_in, open_folder, path_of};
 use crate::fault::Fault;
 use crate::folder::{Access, FolderDisk};
-use crate::mending::{is_mended_at_once, mend_file, mend_folder, mend_read_only};
+use crate::limits::longest_file;
+use crate::mending::mend_folder;
 use disk_images::Name;
 use std::fs::{self, File, OpenOptions, TryLockError};
 use std::io;
 use std::rt::Files;
-
-/// What getrlimit is asked for: the greatest length of a file that the process may write.
-const RLIMIT_FSIZE: i32 = 1;
 
 impl<R: Files<File = File> + AllocGlobal + Clone + Drop> FolderDisk<'_, R> {
     /// Comes before each call of the system on a file or the folder. After a fault nothing is called: an fsync after one that
@@ -43,8 +41,8 @@ impl<R: Files<File = File> + AllocGlobal + Clone + Drop> FolderDisk<'_, R> {
     {
         lock(&folder, self.access)?;
         if self.access == Access::Writing {
-            mend_folder(self.rt, self.alloc, self.folder, &folder)?;
-            self.most = longest_file();
+            self.most = longest_file(self.rt, self.alloc)?;
+            mend_folder(self.rt, self.alloc, self.folder, &folder, self.most)?;
         }
         self.held = Some(folder);
         Ok(())
@@ -79,8 +77,7 @@ impl<R: Files<File = File> + AllocGlobal + Clone + Drop> FolderDisk<'_, R> {
         Ok(())
     }
 
-    /// Opens the file of this name, for writing where that is asked for. It is the one used last then. What the folder's
-    /// mending left out is made sure of here.
+    /// Opens the file of this name, for writing where that is asked for. It is the one used last then.
     pub(crate) fn open_file(&mut self, name: Name, for_writing: bool) -> Result<(), Fault>
         ensures faults { self.new.faults ≡ self.old.faults }
     {
@@ -88,11 +85,6 @@ impl<R: Files<File = File> + AllocGlobal + Clone + Drop> FolderDisk<'_, R> {
             return Ok(());
         }
         let file = self.opened(name, for_writing, false)?;
-        if self.access == Access::Reading {
-            mend_read_only(name, &file)?;
-        } else if !is_mended_at_once(name) {
-            mend_file(name, &file)?;
-        }
         self.open.keep(name, file, for_writing)?;
         Ok(())
     }
@@ -105,18 +97,6 @@ impl<R: Files<File = File> + AllocGlobal + Clone + Drop> FolderDisk<'_, R> {
             .write(for_writing)
             .create_new(is_new)
             .open(self.rt, path.as_str())
-    }
-}
-
-/// The greatest length of a file that this process may write (RLIMIT_FSIZE), in bytes.
-fn longest_file() -> u64 {
-    let mut limit = libc::types::rlimit {
-        rlim_cur: u64::MAX,
-        rlim_max: u64::MAX,
-    };
-    match libc::getrlimit(RLIMIT_FSIZE, &mut limit) {
-        0 => limit.rlim_cur,
-        _ => u64::MAX,
     }
 }
 

@@ -13,6 +13,7 @@ mod fault;
 mod folder;
 mod holding;
 mod laws;
+mod limits;
 mod mending;
 mod open_files;
 mod spelling;

@@ -1,43 +1,45 @@
 //! What is done before a read is believed, since a sync of an earlier program may have failed.
 //!
-//! After a failed fsync Linux takes the pages of the file for clean, and keeps them: a later program would read from memory
-//! what the disk doesn't have, and its own fsync would answer Ok and write nothing. So a file is synced and its pages are
-//! dropped first. What is read then is what the disk has.
+//! After a failed fsync Linux takes the pages of the file for clean, and keeps them: a later program reads from memory what the
+//! disk doesn't have, and its own fsync answers Ok and writes nothing. A new file has no such past. So each file that an earlier
+//! program may have left so is written anew beside itself, synced, and put in its own place.
 
+use crate::calls::read_from;
 use crate::entries::{names_in, path_of};
 use crate::fault::Fault;
 use disk_images::{Name, NameKind};
 use std::alloc::Global;
-use std::fs::File;
+use std::fs::{self, File, OpenOptions, Permissions};
 use std::io::{self, ErrorKind};
-use std::os::fd::AsRawFd;
+use std::os::unix::fs::{FileExt, MetadataExt, PermissionsExt, fchown};
 use std::rt::Files;
 
-/// Makes sure of the folder that this handle has locked: its names are durable, and each file reads as the disk has it. Old
-/// logs are made sure of where they are opened: nobody who writes reads one.
+/// How many bytes are copied at a time.
+const PIECE: usize = 65_536;
+
+/// Makes sure of the folder that this handle has locked: each log, edits file and store is one that no sync failed of, and their
+/// names are durable. A store is written anew once: it is read-only from then on. No old log is: a log is made sure of
+/// before the opening renames it, and one that a running program archives was synced by that program.
 ///
-/// It changes nothing, so it may be killed or fail at any moment, and is done again by the next opening.
+/// A file has its old bytes or its new ones, which are the same as they read, at each moment: it may be stopped or fail at any
+/// call, and is done again by the next opening. `most` is the greatest length that a file may get.
 pub fn mend_folder<R: Files<File = File> + AllocGlobal + Clone + Drop>(
     rt: &R,
     alloc: Global,
     folder: &str,
     held: &File,
+    most: u64,
 ) -> Result<(), Fault> {
-    if let Err(e) = held.sync_all() {
-        return Err(Fault::on_folder("sync", e));
-    }
     let names = names_in(rt, alloc, folder)?;
     for name in names.iter() {
-        if is_mended_at_once(*name) {
-            mend_named(rt, alloc, folder, *name)?;
+        if let Err(e) = mend_named(rt, alloc, folder, *name, most) {
+            return Err(Fault::on_file("renew", *name, e));
         }
     }
-    Ok(())
-}
-
-/// Whether a disk for writing makes sure of this file when it takes the folder.
-pub fn is_mended_at_once(name: Name) -> bool {
-    name.kind != NameKind::Old
+    match held.sync_all() {
+        Ok(()) => Ok(()),
+        Err(e) => Err(Fault::on_folder("sync", e)),
+    }
 }
 
 fn mend_named<R: Files<File = File>>(
@@ -45,36 +47,93 @@ fn mend_named<R: Files<File = File>>(
     alloc: Global,
     folder: &str,
     name: Name,
-) -> Result<(), Fault> {
+    most: u64,
+) -> io::Result<()> {
     let path = path_of(alloc, folder, name)?;
-    let file = match File::open(rt, path.as_str()) {
-        Ok(file) => file,
-        Err(e) => return Err(Fault::on_file("sync", name, e)),
-    };
-    mend_file(name, &file)
-}
-
-/// Makes sure of one file.
-pub fn mend_file(name: Name, file: &File) -> Result<(), Fault> {
-    match sync_and_drop_pages(file) {
-        Ok(()) => Ok(()),
-        Err(e) => Err(Fault::on_file("sync", name, e)),
+    let found = fs::metadata(rt, path.as_str())?;
+    if name.kind == NameKind::Old
+        || (name.kind == NameKind::Store && found.permissions().readonly())
+    {
+        return Ok(());
+    }
+    if found.len() > most {
+        return Err(io::Error::from(ErrorKind::FileTooLarge));
+    }
+    let is_store = name.kind == NameKind::Store;
+    if fs::symlink_metadata(rt, path.as_str())?.is_symlink() {
+        renew_linked(rt, alloc, path.as_str(), is_store)
+    } else {
+        renew(rt, alloc, path.as_str(), is_store)
     }
 }
 
-/// The same for who reads. Where the file system knows no fsync (squashfs, ISO 9660, EROFS) nobody can have written.
-pub fn mend_read_only(name: Name, file: &File) -> Result<(), Fault> {
-    match sync_and_drop_pages(file) {
-        Ok(()) => Ok(()),
-        Err(e) if e.kind() == ErrorKind::InvalidInput => Ok(()),
-        Err(e) => Err(Fault::on_file("sync", name, e)),
+/// Renews the file that a link leads to, where it lies.
+fn renew_linked<R: Files<File = File>>(
+    rt: &R,
+    alloc: Global,
+    link: &str,
+    is_store: bool,
+) -> io::Result<()> {
+    let mut real = rt.canonicalize(alloc, link)?;
+    renew(rt, alloc, real.as_str(), is_store)?;
+    real.pop();
+    File::open(rt, real.as_str())?.sync_all()
+}
+
+/// Writes a file anew, and puts it in its own place once it is durable: no crash leaves a part of it under its name.
+fn renew<R: Files<File = File>>(
+    rt: &R,
+    alloc: Global,
+    path: &str,
+    is_store: bool,
+) -> io::Result<()> {
+    let part = format!(in alloc; "{path}.part")?;
+    remove_former(rt, part.as_str())?;
+    let old = File::open(rt, path)?;
+    let new = OpenOptions::new()
+        .write(true)
+        .create_new(true)
+        .open(rt, part.as_str())?;
+    copy_bytes(alloc, &old, &new)?;
+    copy_access(&old, &new, is_store)?;
+    new.sync_all()?;
+    fs::rename(rt, part.as_str(), path)
+}
+
+/// Removes what an opening left that was stopped.
+fn remove_former<R: Files>(rt: &R, part: &str) -> io::Result<()> {
+    match fs::remove_file(rt, part) {
+        Err(e) if e.kind() == ErrorKind::NotFound => Ok(()),
+        given => given,
     }
 }
 
-fn sync_and_drop_pages(file: &File) -> io::Result<()> {
-    file.sync_all()?;
-    match libc::posix_fadvise(file.as_raw_fd(), 0, 0, libc::POSIX_FADV_DONTNEED) {
-        0 => Ok(()),
-        code => Err(io::Error::from_raw_os_error(code)),
+fn copy_bytes(alloc: Global, old: &File, new: &File) -> io::Result<()> {
+    let mut piece = vec![in alloc; 0u8; PIECE]?;
+    let mut at = 0u64;
+    for _ in 0..u64::MAX {
+        let count = read_from(old, at, &mut piece)?;
+        if count == 0 {
+            return Ok(());
+        }
+        new.write_all_at(&piece[..count], at)?;
+        at = at.saturating_add(count as u64);
+    }
+    Ok(())
+}
+
+/// Gives the new file the old one's owner, group and mode, where this process may set them. A store is written no more.
+fn copy_access(old: &File, new: &File, is_store: bool) -> io::Result<()> {
+    let found = old.metadata()?;
+    let mode = found.mode() & if is_store { 0o555 } else { 0o777 };
+    unless_denied(fchown(new, None, Some(found.gid())))?;
+    unless_denied(fchown(new, Some(found.uid()), None))?;
+    unless_denied(new.set_permissions(Permissions::from_mode(mode)))
+}
+
+fn unless_denied(given: io::Result<()>) -> io::Result<()> {
+    match given {
+        Err(e) if e.kind() == ErrorKind::PermissionDenied => Ok(()),
+        other => other,
     }
 }
