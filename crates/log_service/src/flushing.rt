@@ -39,8 +39,8 @@ impl<D: Disk, N: ServiceNaming> LogService<D, N> {
         ensures nothing { (n : ℕ) → result ≡ Err (DeviceFlush.Nothing n)
             → HadNothing self.now.regions region (option_map (λ f. f.now) family.entry) upto n seat.new.device.knows }
         // Unless the log is broken, all that was moved is committed, and the seat has seen so.
-        ensures moved { seat.new.device.knows.broken ≡ false → HasMovedAll N.lasts }
-        ensures saw { seat.new.device.knows.broken ≡ false → SawAllLoads N.lasts seat.new.device.knows }
+        ensures moved { seat.new.device.knows.broken ≡ false → HasMovedAll N.ServiceNaming }
+        ensures saw { seat.new.device.knows.broken ≡ false → SawAllLoads D.Disk N.ServiceNaming seat.new.device.knows }
         ensures fault { IsErrOf result DeviceFlush.WriteFault ↔ (seat.new.device.knows.broken ≡ true) }
     {
         let (mut mover, mut turn) = self.take_both(rt, seat);

@@ -35,8 +35,8 @@ impl<D: Disk, N: ServiceNaming> LogService<D, N> {
         ensures nothing { (n : ℕ) → result ≡ Err (RollRefusal.NothingToRoll n) → (r : ℕ) → 0 < r → r ≤ self.now.regions
             → seen_synced seat.old.device.knows r ≤ seen_closed self.now.regions seat.new.device.knows r }
         // Unless the log is broken, all that was moved is committed, and the seat has seen so.
-        ensures moved { seat.new.device.knows.broken ≡ false → HasMovedAll N.lasts }
-        ensures saw { seat.new.device.knows.broken ≡ false → SawAllLoads N.lasts seat.new.device.knows }
+        ensures moved { seat.new.device.knows.broken ≡ false → HasMovedAll N.ServiceNaming }
+        ensures saw { seat.new.device.knows.broken ≡ false → SawAllLoads D.Disk N.ServiceNaming seat.new.device.knows }
         ensures fault { IsErrOf result RollRefusal.WriteFault ↔ (seat.new.device.knows.broken ≡ true) }
     {
         let (mut mover, mut turn) = self.take_both(rt, seat);

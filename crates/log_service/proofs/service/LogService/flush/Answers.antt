@@ -54,13 +54,8 @@ returns-clause-nothing g c n is =
 
 pub returns-clause-moved : goal.returns-clause-moved
 returns-clause-moved g c whole =
-    let mover = c.flush-flushed.new.self in
-    let unbroken = has_file (log_of c.flush-flushed.new.committer.device) (c.give_both.ensures.broken ∙ whole) in record {
-      before = view c.take_both-mover.result.0.ware.consumer.pass;
-      pass = view mover.consumer.pass;
-      from = mover.ring.1;
-      moved = c.flush-flushed.ensures.moved unbroken;
-    }
+    let unbroken = has_file (log_of c.flush-flushed.new.committer.device) (c.give_both.ensures.broken ∙ whole) in
+    record { old = c.take_both-mover.result.0.ware; new = c.flush-flushed.new.self; moved = c.flush-flushed.ensures.moved unbroken }
 
 pub returns-clause-saw : goal.returns-clause-saw
 returns-clause-saw g c whole =
@@ -68,8 +63,8 @@ returns-clause-saw g c whole =
     let unbroken = has_file (log_of ware.device) (c.give_both.ensures.broken ∙ whole) in
     let n_is : c.args.self.now.regions ≡ ware.regions = sym (ware.all.0 ∙ (sym c.self.invariant.6 ∙ ap (λ (p : ServiceId). p.regions) c.self.view_is)) in
     record {
-      pass = view ware.consumer.pass;
-      from = ware.from.1;
+      half = ware;
+      broken = c.give_both.ensures.broken;
       empty = (c.flush-flushed.ensures.drained unbroken).1;
       saw =
           sees_all g.N.ServiceNaming.lasts c.args.self.now.regions (numbers_of ware.device) (view ware.consumer.pass).popped (n_is ∙ ware.all.0) (ware.synced unbroken) (ware.drawn unbroken)
