@@ -1,12 +1,15 @@
 -- Where the evidence of turns is false: a log whose first item came from no region, and a device without a disk.
 use Rattle.std.proofs.Common.{◌≡◌, inl, inr, ◌<◌, ℕ, List, [], ◌∷◌, ◌++◌, length, true, sym, ap, ◌∙◌, subst, arith}
-use Rattle.std.specs.Prelude.{Option, Some, None}
+use Rattle.std.specs.Prelude.{Option, Some, None, Result}
 use Rattle.std.proofs.Math.Logic.{∥∥₁_elim}
 use Rattle.crossbeam_queue.specs.Passes.{view}
 use Rattle.append_ring.specs.declared.knows.Knows.{Knows}
 use Rattle.append_ring.specs.Rules.{Possible, of}
 use Rattle.disk_images.specs.declared.disk.Disk.{Ghosts as Disks}
 use Rattle.log_berth.specs.declared.known.Known.{Known}
+use Rattle.log_device.specs.declared.error.Rolled.{Rolled}
+use Rattle.log_device.specs.declared.error.RollRefusal.{RollRefusal}
+use Rattle.log_device.specs.declared.error.DeviceFlush.{DeviceFlush}
 use Rattle.log_device.specs.Whole.{disk_of}
 use Rattle.log_halves.specs.declared.item.Item.{Item}
 use Rattle.log_halves.specs.declared.item.Item.TheVariants as items
@@ -14,7 +17,7 @@ use Rattle.log_halves.specs.declared.name.ServiceNaming.{Ghosts}
 use Rattle.log_halves.specs.declared.consumer.ConsumerHalf.{ConsumerHalf}
 use Rattle.log_halves.specs.Items.{region_of, number_of, IsWholeItem, held_in}
 use Rattle.log_halves.specs.Moves.{WasEmpty}
-use Rattle.log_service.specs.Turns.{HasMovedItems, FoundEmpty, FoundTooLong, HasMovedAll, HasSynced, FoundNoLoad, SawAllLoads}
+use Rattle.log_service.specs.Turns.{HasMovedItems, FoundEmpty, FoundTooLong, HasMovedAll, HasSynced, FoundNoLoad, SawAllLoads, HasRolledFile, HasFlushedFamily}
 
 -- ---- the consumer's evidence, of a log whose ring let out an item of region 0
 
@@ -81,3 +84,9 @@ module _ {N : Type 0} (d : Disks ⊥) (g : Ghosts N) where
 
   pub none_drained : (k : Known) → SawAllLoads d g k → ⊥
   none_drained k e = disk_of e.half.device
+
+  pub none_rolled : (n : ℕ) (result : Result Rolled RollRefusal) (k : Known) → HasRolledFile d g n result k → ⊥
+  none_rolled n result k e = disk_of e.half.device
+
+  pub none_flushed : (n r : ℕ) (family : Option (List ℕ)) (result : Result ℕ DeviceFlush) (k : Known) → HasFlushedFamily d g n r family result k → ⊥
+  none_flushed n r family result k e = disk_of e.half.device

@@ -1,5 +1,5 @@
 -- What the answers of turns tell. A half lies in its berth before and after a turn, so these say what its work has shown of it, and of the words that the seat has seen.
-use Rattle.std.specs.Prelude.{◌≡◌, ◌⊎◌, ℕ, ◌+◌, ◌<◌, ◌≤◌, List, [], ◌∷◌, ◌++◌, length}
+use Rattle.std.specs.Prelude.{◌≡◌, ◌⊎◌, ℕ, ◌+◌, ◌<◌, ◌≤◌, List, [], ◌∷◌, ◌++◌, length, Option, Result}
 use Rattle.crossbeam_queue.specs.Passes.{view}
 use Rattle.append_ring.specs.Rules.{base_of}
 use Rattle.log_berth.specs.declared.known.Known.{Known}
@@ -7,6 +7,9 @@ use Rattle.log_berth.specs.Words.{NoMore}
 use Rattle.log_trucks.specs.Held.{Held}
 use Rattle.log_halves.specs.declared.item.Item.{Item}
 use Rattle.disk_images.specs.declared.disk.Disk.{Ghosts as Disks}
+use Rattle.log_device.specs.declared.error.Rolled.{Rolled}
+use Rattle.log_device.specs.declared.error.RollRefusal.{RollRefusal}
+use Rattle.log_device.specs.declared.error.DeviceFlush.{DeviceFlush}
 use Rattle.log_device.specs.Whole.{numbers_of}
 use Rattle.log_halves.specs.declared.name.ServiceNaming.{Ghosts}
 use Rattle.log_halves.specs.declared.consumer.ConsumerHalf.{ConsumerHalf}
@@ -15,7 +18,8 @@ use Rattle.log_halves.specs.Halves.{broken_of}
 use Rattle.log_halves.specs.Trucks.{come_to}
 use Rattle.log_halves.specs.Chains.{all_trucks, AreInOrder}
 use Rattle.log_halves.specs.Moves.{bench_of, HasMoved, IsTooLong, WasEmpty, WasFull}
-use Rattle.log_halves.specs.Numbers.{told_numbers, seen_synced}
+use Rattle.log_halves.specs.Numbers.{told_numbers, seen_synced, HasSeen}
+use Rattle.log_halves.specs.Steps.{RollsFile, FlushesFamily}
 
 -- ---- turns of the consumer
 
@@ -80,3 +84,17 @@ pub record SawAllLoads {D N : Type 0} (d : Disks D) (g : Ghosts N) (k : Known) :
   pub broken : broken_of half.device ≡ k.broken
   pub empty : WasFull 0 (view half.consumer.pass)
   pub saw : SawCommitted g.lasts k (view half.consumer.pass).popped
+
+-- ---- rolls and flushes, where there are n regions: what was answered is of a half of this service, each word of which the seat has seen
+
+pub record HasRolledFile {D N : Type 0} (d : Disks D) (g : Ghosts N) (n : ℕ) (result : Result Rolled RollRefusal) (k : Known) : Type 0 where
+  pub half : DeviceHalf D N d g
+  pub broken : broken_of half.device ≡ k.broken
+  pub sees : HasSeen n k (numbers_of half.device)
+  pub rolls : RollsFile d g result half
+
+pub record HasFlushedFamily {D N : Type 0} (d : Disks D) (g : Ghosts N) (n r : ℕ) (family : Option (List ℕ)) (result : Result ℕ DeviceFlush) (k : Known) : Type 0 where
+  pub half : DeviceHalf D N d g
+  pub broken : broken_of half.device ≡ k.broken
+  pub sees : HasSeen n k (numbers_of half.device)
+  pub flushes : FlushesFamily d g r family result half

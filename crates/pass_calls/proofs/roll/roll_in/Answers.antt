@@ -19,3 +19,15 @@ pub returns-in-Err-clause-rolls : goal.returns-in-Err-clause-rolls
 returns-in-Err-clause-rolls g c =
     let is = c.in-Err.is in
     refused c.args.service.now.regions c.in-Err.refusal c.args.seat.now c.roll.new.seat c.roll.ensures.later (λ m e. c.roll.ensures.nothing m (is ∙ ap Err e)) (λ e. c.roll.ensures.fault.0 (is ∙ ap Err e))
+
+pub returns-in-Ok-clause-rolled : goal.returns-in-Ok-clause-rolled
+returns-in-Ok-clause-rolled g c whole = c.in-Ok.ensures.rolled whole
+
+pub returns-in-Err-clause-rolled : goal.returns-in-Err-clause-rolled
+returns-in-Err-clause-rolled g c whole = c.in-Err.ensures.rolled whole
+
+pub returns-in-Ok-clause-counted : goal.returns-in-Ok-clause-counted
+returns-in-Ok-clause-counted g c = c.in-Ok.ensures.counted
+
+pub returns-in-Err-clause-counted : goal.returns-in-Err-clause-counted
+returns-in-Err-clause-counted g c = c.in-Err.ensures.counted

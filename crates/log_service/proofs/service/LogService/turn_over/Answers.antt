@@ -59,7 +59,7 @@ returns-in-WriteFault-clause-later g c =
 
 pub returns-in-Committed-clause-synced : goal.returns-in-Committed-clause-synced
 returns-in-Committed-clause-synced g c n is =
-    let after : LogSeat = record { consumer = c.commit_and_raise-commit.new.seat.consumer; device = c.end_turn-2.new.seat } in
+    let after : LogSeat = record { consumer = c.commit_and_raise-commit.new.seat.consumer; device = c.end_turn-2.new.seat; written = c.args.seat.now.written } in
     let held = c.in-Ok.ensures.taken.1 in
     let ware = c.in-Ok.turn.ware in
     let lasts = g.N.ServiceNaming.lasts in
@@ -86,7 +86,7 @@ returns-in-Committed-clause-synced g c n is =
 
 pub returns-in-Clean-clause-clean : goal.returns-in-Clean-clause-clean
 returns-in-Clean-clause-clean g c is =
-    let after : LogSeat = record { consumer = c.commit_and_raise-commit.new.seat.consumer; device = c.end_turn-2.new.seat } in
+    let after : LogSeat = record { consumer = c.commit_and_raise-commit.new.seat.consumer; device = c.end_turn-2.new.seat; written = c.args.seat.now.written } in
     let held = c.in-Ok.ensures.taken.1 in
     let ware = c.commit_and_raise-commit.new.turn.ware in
     let same = c.commit_and_raise-commit.ensures.seat in
@@ -104,7 +104,7 @@ returns-in-Clean-clause-clean g c is =
 
 pub returns-in-WriteFault-clause-fault : goal.returns-in-WriteFault-clause-fault
 returns-in-WriteFault-clause-fault g c is =
-    let after : LogSeat = record { consumer = c.commit_and_raise-commit.new.seat.consumer; device = c.end_turn-2.new.seat } in
+    let after : LogSeat = record { consumer = c.commit_and_raise-commit.new.seat.consumer; device = c.end_turn-2.new.seat; written = c.args.seat.now.written } in
     let held = c.in-Ok.ensures.taken.1 in
     let same = c.commit_and_raise-commit.ensures.seat in
     let ended = c.end_turn-2.ensures.1 in
