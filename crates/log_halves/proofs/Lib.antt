@@ -11,4 +11,5 @@ pub mod Tied
 pub mod Elapsed
 pub mod Popped
 pub mod Stored
+pub mod Stores
 pub mod Crossing

@@ -10,6 +10,8 @@ pub mod Moments
 pub mod Halves
 pub mod Moves
 pub mod Ends
+pub mod Steps
+pub mod Counts
 pub mod Commits
 pub mod Ties
 pub mod Begun

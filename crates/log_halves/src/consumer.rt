@@ -37,6 +37,8 @@ pub struct ConsumerHalf<N: ServiceNaming> {
     ghost tie: { all_trucks (view chain_key.pass).pushed ++ (chain ++ appended (held_in held)) ≡ appended (view consumer.pass).popped },
     ghost spelled: { AreSpelled (chain ++ appended (held_in held)) } by { spelled_prop (chain ++ appended (held_in held)) },
     ghost alone: { (truck : _) → held ≡ Some (items.Append truck) → truck.value.behind ≡ [] },
+    // It all came out of the ring.
+    ghost came: { ∥ N.came (view consumer.pass).popped held ∥₁ },
     ghost follow: { FollowFrom N.lasts (appended (view consumer.pass).popped) } by { follow_prop (length N.lasts) (base_of N.lasts) (appended (view consumer.pass).popped) },
 }
 

@@ -2,11 +2,12 @@
 ghost use Rattle.std.specs.Prelude.{◌≡◌, ◌<◌, ◌≤◌, ◌+◌, ◌⊎◌, ◌↔◌, ℕ, [], length, get_or, Err, IsTrue, IsFalse, IfOk, IfSome, OnOk, IsErrOf};
 ghost use Rattle.std.specs.Option.{option_map};
 ghost use Rattle.crossbeam_queue.specs.Passes.{view};
-ghost use Rattle.log_file.specs.Open.{OpenLog};
-ghost use Rattle.log_device.specs.Whole.{IsBroken, log_of, numbers_of};
+ghost use Rattle.log_device.specs.Whole.{IsBroken, numbers_of};
 ghost use Rattle.log_halves.specs.Numbers.{TellsLater};
 ghost use Rattle.log_halves.specs.Moves.{WasEmpty, WasFull};
-ghost use Rattle.log_halves.specs.Ends.{HasRolled, HasNoEntry, IsFlushedTo, HasNoneAbove};
+ghost use Rattle.log_halves.specs.Ends.{IsFlushedTo, HasNoneAbove};
+ghost use Rattle.log_halves.specs.Steps.{RollsFile, FlushesFamily};
+ghost use Rattle.log_halves.specs.Counts.{flushed_by, rolled_by};
 
 use crate::chain::FrameChain;
 use crate::committer::DeviceHalf;
@@ -15,6 +16,7 @@ use crate::consumer::ConsumerHalf;
 use crate::item::Item;
 use crate::moving::Moves;
 use crate::name::ServiceNaming;
+use crate::written::Written;
 use append_ring::Ring;
 use disk_images::Disk;
 use log_device::{DeviceFlush, RollRefusal, Rolled};
@@ -137,14 +139,16 @@ impl<N: ServiceNaming> ConsumerHalf<N> {
         alloc: Global,
         rings: (&Ring<Item>, &Ring<FrameChain>),
         committer: &mut DeviceHalf<D, N>,
+        written: &mut Written,
     ) -> Result<Rolled, RollRefusal>
         requires rings { (rings.0.now.id ≡ N.ring) × (rings.1.now.id ≡ N.chain_ring) }
         requires unbroken { IsBroken committer.old.device → ⊥ }
-        ensures rolled { IfOk result (λ rolled. (file : OpenLog) × HasRolled file rolled (log_of committer.new.device)) }
-        ensures none { (n : ℕ) → result ≡ Err (RollRefusal.NothingToRoll n) → (file : OpenLog) × HasNoEntry file n }
+        // What it answers is of the file that the half had once all that was moved was committed.
+        ensures rolls { (IsBroken committer.new.device → ⊥) → RollsFile D.Disk N.ServiceNaming result committer.new }
         ensures closed { OnOk result ((numbers_of committer.new.device).closed ≡ (numbers_of committer.new.device).synced) }
         ensures nothing { (n : ℕ) → result ≡ Err (RollRefusal.NothingToRoll n)
             → (numbers_of committer.new.device).closed ≡ (numbers_of committer.new.device).synced }
+        ensures counted { written.new ≡ rolled_by result written.old }
         ensures broken { IsErrOf result RollRefusal.WriteFault ↔ IsBroken committer.new.device }
         ensures later { TellsLater committer.old.regions committer.old.device committer.new.regions committer.new.device }
         // The chains in the ring were committed until it was empty at one moment, and the own chain with them.
@@ -160,7 +164,7 @@ impl<N: ServiceNaming> ConsumerHalf<N> {
         if self.drain(rt, chain_ring, committer) {
             return Err(RollRefusal::WriteFault);
         }
-        committer.roll(alloc)
+        committer.roll(alloc, written)
     }
 
     /// Moves and commits the region's entries up to a number, moves on until the ring was empty at one moment or 1,024 items were moved, commits
@@ -174,6 +178,7 @@ impl<N: ServiceNaming> ConsumerHalf<N> {
         region: u32,
         upto: u64,
         family: Option<&[u8]>,
+        written: &mut Written,
     ) -> Result<u64, DeviceFlush>
         requires rings { (rings.0.now.id ≡ N.ring) × (rings.1.now.id ≡ N.chain_ring) }
         requires unbroken { IsBroken committer.old.device → ⊥ }
@@ -184,6 +189,10 @@ impl<N: ServiceNaming> ConsumerHalf<N> {
             (numbers_of committer.old.device) (numbers_of committer.new.device)) }
         ensures nothing { (n : ℕ) → result ≡ Err (DeviceFlush.Nothing n)
             → (upto ≤ n) × HasNoneAbove region (option_map (λ f. f.now) family.entry) n (numbers_of committer.new.device) }
+        // What it answers is of what the half kept once all that was moved was committed.
+        ensures flushes { (IsBroken committer.new.device → ⊥)
+            → FlushesFamily D.Disk N.ServiceNaming region (option_map (λ f. f.now) family.entry) result committer.new }
+        ensures counted { written.new ≡ flushed_by result written.old }
         ensures broken { IsErrOf result DeviceFlush.WriteFault ↔ IsBroken committer.new.device }
         ensures later { TellsLater committer.old.regions committer.old.device committer.new.regions committer.new.device }
         // The chains in the ring were committed until it was empty at one moment, and the own chain with them.
@@ -202,6 +211,6 @@ impl<N: ServiceNaming> ConsumerHalf<N> {
         if self.drain(rt, chain_ring, committer) {
             return Err(DeviceFlush::WriteFault);
         }
-        committer.flush(alloc, region, family)
+        committer.flush(alloc, region, family, written)
     }
 }

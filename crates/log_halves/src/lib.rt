@@ -20,6 +20,7 @@ mod raising;
 mod settling;
 mod staging;
 mod starting;
+mod written;
 
 pub use chain::FrameChain;
 pub use committer::DeviceHalf;
@@ -31,3 +32,4 @@ pub use name::ServiceNaming;
 pub use raising::{raise_all, tell_all};
 pub use settling::{settle_chains, settle_items};
 pub use starting::{first_half, second_half};
+pub use written::Written;

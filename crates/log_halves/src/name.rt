@@ -3,9 +3,13 @@ use std::marker::Brand;
 
 /// Which rings they are, and with what a service began. Contracts alone see it, and a call picks it.
 pub trait ServiceNaming {
-    ghost use Rattle.std.specs.Prelude.{ℕ, List};
+    ghost use Rattle.std.specs.Prelude.{◌≡◌, ℕ, List, Option, Some, None, true};
     ghost use Rattle.atomic_table.specs.Seated.{TableId};
+    ghost use Rattle.append_ring.specs.declared.knows.Knows.{Knows};
+    ghost use Rattle.append_ring.specs.Rules.{HasPopped};
     ghost use Rattle.log_model.specs.Files.{Files};
+    ghost use Rattle.log_halves.specs.declared.item.Item.{Item as TheItem};
+    ghost use Rattle.log_halves.specs.Items.{region_of, number_of, IsWholeItem};
 
     /// The ring of the regions, and the ring of chains.
     ghost ring: { TableId };
@@ -24,6 +28,17 @@ pub trait ServiceNaming {
 
     /// What a crash could leave at each moment up to the start.
     ghost past: { ℕ → Files → Type 0 };
+
+    /// These items came out of the ring, in this order, and the last of them may be held. Nothing but a pop of that ring shows that more came:
+    /// whoever has a name knows no more of it than the two laws say.
+    ghost came: { List TheItem → Option TheItem → Type 0 };
+
+    /// The item that the ring's consumer popped is held.
+    ghost came_out: { (v w : Knows TheItem) (x : TheItem) → v.pops ≡ true → came v.popped None
+        → HasPopped region_of number_of IsWholeItem (λ _ _. Unit {0}) v x w → came w.popped (Some x) };
+
+    /// The held item is put into the chain, or noted.
+    ghost came_in: { (xs : List TheItem) (x : TheItem) → came xs (Some x) → came xs None };
 }
 
 impl ServiceNaming for Brand {
@@ -43,4 +58,10 @@ impl ServiceNaming for Brand {
     ghost faults = { 0 };
 
     ghost past = { no_past };
+
+    ghost came = { λ _ _. Unit {0} };
+
+    ghost came_out = { λ v w x pops was got. tt };
+
+    ghost came_in = { λ xs x was. tt };
 }

@@ -1,5 +1,5 @@
 //! The halves at the start.
-ghost use Rattle.std.specs.Prelude.{◌≡◌, ◌≤◌, ℕ, [], length, IsTrue};
+ghost use Rattle.std.specs.Prelude.{◌≡◌, ◌≤◌, ℕ, [], None, length, IsTrue};
 ghost use Rattle.crossbeam_queue.specs.Passes.{view};
 ghost use Rattle.append_ring.specs.Parts.{IsNew, AreNewAfter};
 ghost use Rattle.log_model.specs.Files.{Files};
@@ -25,6 +25,7 @@ pub fn first_half<N: ServiceNaming>(
 ) -> ConsumerHalf<N>
     requires ring { consumer.pass.table_id ≡ N.ring }
     requires consumer { ((view consumer.pass).lasts ≡ N.lasts) × ((view consumer.pass).popped ≡ []) }
+    requires came { N.came [] None }
     requires chain_key { IsNew N.chain_ring N.lasts 1 chain_key }
     requires idle { AreNewAfter N.chain_ring N.lasts 0 1 idle × (length idle ≡ length N.lasts) }
 {

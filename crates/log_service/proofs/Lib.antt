@@ -8,3 +8,4 @@ pub mod IdlePasses
 pub mod Popped
 pub mod FilesLeft
 pub mod Crossing
+mod EvidenceRows

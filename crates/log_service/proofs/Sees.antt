@@ -8,7 +8,7 @@ use Rattle.log_ledger.specs.Numbers.{Numbers}
 use Rattle.log_halves.specs.Trucks.{come_to}
 use Rattle.log_halves.specs.Chains.{all_trucks}
 use Rattle.log_halves.specs.Numbers.{told_numbers, seen_closed, HasSeen}
-use Rattle.log_service.specs.Turns.{SawAtMost, SawCommitted}
+use Rattle.log_service.specs.Turns.{SawCommitted}
 use Rattle.log_halves.proofs.Numbers.{told_synced, told_stored, told_closed}
 use Rattle.log_service.proofs.Numbers.{synced_low}
 
@@ -29,11 +29,6 @@ has_seen n k b raised = record {
 -- the numbers that a device tells, all of which it has committed, are those that the chains popped come to
 module _ (lasts : List ℕ) (n : ℕ) (b : Numbers) (chains : List (List Held)) (all : n ≡ length lasts) (synced : b.synced ≡ b.drawn)
     (drawn : (r : ℕ) → 0 < r → r ≤ length lasts → get_or b.drawn r 0 ≡ come_to (base_of lasts) (all_trucks chains) r) where
-  pub saw_at_most : (k : Known) → NoMore k.seen (told_numbers n b) → SawAtMost lasts k chains
-  saw_at_most k low r above within =
-      let is = ap (λ (l : List ℕ). get_or l r 0) synced ∙ drawn r above within in
-      omega (arith, synced_low n b k.seen r low above (omega (arith, all, within)), is)
-
   pub saw_committed : (k : Known) → ((i : ℕ) → i < n → get_or k.seen i 0 ≡ get_or (told_numbers n b) i 0) → SawCommitted lasts k chains
   saw_committed k raised r above within =
       let here : (r - 1) + 1 ≡ r = omega (arith, above) in

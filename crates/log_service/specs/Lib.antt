@@ -8,6 +8,8 @@ pub use Rattle.log_halves.specs.Moments as Moments
 pub use Rattle.log_halves.specs.Halves as Halves
 pub use Rattle.log_halves.specs.Moves as Moves
 pub use Rattle.log_halves.specs.Ends as Ends
+pub use Rattle.log_halves.specs.Steps as Steps
+pub use Rattle.log_halves.specs.Counts as Counts
 pub use Rattle.log_halves.specs.Begun as Begun
 pub mod Places
 pub mod Turns

@@ -1,9 +1,10 @@
 //! A region's entries, or their cells of one family, go into a store file.
 ghost use Rattle.std.specs.Prelude.{◌≡◌, ◌≤◌, ◌<◌, ◌↔◌, ℕ, true, false, length, Err, IfOk, IfSome, IsErrOf};
 ghost use Rattle.std.specs.Option.{option_map};
-ghost use Rattle.log_service.specs.Places.{IsSeatOf, IsLaterSeat};
-ghost use Rattle.log_service.specs.Turns.{HasMovedAll, SawAllLoads};
+ghost use Rattle.log_service.specs.Places.{IsSeatOf, IsLaterSeat, written_of};
+ghost use Rattle.log_service.specs.Turns.{HasMovedAll, SawAllLoads, HasFlushedFamily};
 ghost use Rattle.log_halves.specs.Ends.{HasFlushed, HadNothing};
+ghost use Rattle.log_halves.specs.Counts.{flushed_by};
 
 use crate::seats::LogSeat;
 use crate::service::LogService;
@@ -38,9 +39,14 @@ impl<D: Disk, N: ServiceNaming> LogService<D, N> {
             (λ n. HasFlushed self.now.regions region (option_map (λ f. f.now) family.entry) upto n seat.old.device.knows seat.new.device.knows) }
         ensures nothing { (n : ℕ) → result ≡ Err (DeviceFlush.Nothing n)
             → HadNothing self.now.regions region (option_map (λ f. f.now) family.entry) upto n seat.new.device.knows }
+        // What it answers, unless the log is broken, is of what the log kept of the family once all that was moved was committed.
+        ensures family { seat.new.device.knows.broken ≡ false
+            → HasFlushedFamily D.Disk N.ServiceNaming self.now.regions region (option_map (λ f. f.now) family.entry) result seat.new.device.knows }
         // Unless the log is broken, all that was moved is committed, and the seat has seen so.
-        ensures moved { seat.new.device.knows.broken ≡ false → HasMovedAll N.lasts }
-        ensures saw { seat.new.device.knows.broken ≡ false → SawAllLoads N.lasts seat.new.device.knows }
+        ensures moved { seat.new.device.knows.broken ≡ false → HasMovedAll N.ServiceNaming }
+        ensures saw { seat.new.device.knows.broken ≡ false → SawAllLoads D.Disk N.ServiceNaming seat.new.device.knows }
+        // After Ok the flushes of this seat have written a store file more, and else none.
+        ensures counted { written_of seat.new ≡ flushed_by result (written_of seat.old) }
         ensures fault { IsErrOf result DeviceFlush.WriteFault ↔ (seat.new.device.knows.broken ≡ true) }
     {
         let (mut mover, mut turn) = self.take_both(rt, seat);
@@ -51,9 +57,16 @@ impl<D: Disk, N: ServiceNaming> LogService<D, N> {
             return Err(DeviceFlush::WriteFault);
         }
         let rings = (&self.ring, &self.chain_ring);
-        let flushed = mover
-            .ware
-            .flush(rt, alloc, rings, &mut turn.ware, region, upto, family);
+        let flushed = mover.ware.flush(
+            rt,
+            alloc,
+            rings,
+            &mut turn.ware,
+            region,
+            upto,
+            family,
+            &mut seat.written,
+        );
         self.give_both(seat, mover, turn);
         flushed
     }

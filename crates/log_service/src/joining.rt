@@ -1,5 +1,5 @@
 //! What a start makes: the consumer's berth, and the service of its rings and berths.
-ghost use Rattle.std.specs.Prelude.{◌≡◌, ◌<◌, ◌≤◌, ◌*◌, [], length, replicate, IfOk};
+ghost use Rattle.std.specs.Prelude.{◌≡◌, ◌<◌, ◌≤◌, ◌*◌, [], None, length, replicate, IfOk};
 ghost use Rattle.crossbeam_queue.specs.Passes.{view};
 ghost use Rattle.append_ring.specs.Parts.{AreNew};
 ghost use Rattle.log_berth.specs.Words.{starts};
@@ -44,6 +44,7 @@ pub(crate) fn first_berth<N: ServiceNaming>(
     requires seats { 0 < seats }
     requires ring { consumer.pass.table_id ≡ N.ring }
     requires consumer { ((view consumer.pass).lasts ≡ N.lasts) × ((view consumer.pass).popped ≡ []) }
+    requires came { N.came [] None }
     requires idle { (0 < length idle) × (length idle ≡ length N.lasts) × AreNew N.chain_ring N.lasts 0 idle }
     ensures berth { IfOk result (λ p. (p.berth.regions ≡ 1) × (p.berth.seats ≡ seats)) }
     ensures seats { IfOk result (λ p. (p.seats.seats ≡ replicate seats (fresh p.berth.id (starts 1 []))) × (seats ≤ p.seats.room)) }

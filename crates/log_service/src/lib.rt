@@ -26,7 +26,9 @@ pub use closing::ServiceClosed;
 pub use helping::Helped;
 pub use log_device;
 pub use log_halves;
-pub use log_halves::{Commit, ConsumerHalf, DeviceHalf, FrameChain, Item, Moves, ServiceNaming};
+pub use log_halves::{
+    Commit, ConsumerHalf, DeviceHalf, FrameChain, Item, Moves, ServiceNaming, Written,
+};
 pub use seats::{LogSeat, LogSeats};
 pub use service::LogService;
 pub use starting::{Rings, ServiceParts, ServiceRefusal};

@@ -5,7 +5,7 @@ ghost use Rattle.log_berth.specs.Turns.{turn_id};
 ghost use Rattle.log_device.specs.Whole.{numbers_of};
 ghost use Rattle.log_halves.specs.Halves.{broken_of};
 ghost use Rattle.log_halves.specs.Numbers.{told_numbers, HasSeen};
-ghost use Rattle.log_service.specs.Places.{IsSeatOf, IsLaterSeat};
+ghost use Rattle.log_service.specs.Places.{IsSeatOf, IsLaterSeat, written_of};
 
 use crate::seats::LogSeat;
 use crate::service::LogService;
@@ -31,6 +31,7 @@ impl<D: Disk, N: ServiceNaming> LogService<D, N> {
         ensures device { (broken_of result.1.ware.device ≡ seat.new.device.knows.broken)
             × NoMore seat.new.device.knows.seen (told_numbers result.1.ware.regions (numbers_of result.1.ware.device)) }
         ensures later { IsLaterSeat seat.old seat.new }
+        ensures written { written_of seat.new ≡ written_of seat.old }
     {
         for _try in rt.forever() {
             let turns = self.turns();
@@ -64,6 +65,7 @@ impl<D: Disk, N: ServiceNaming> LogService<D, N> {
         requires device { NoMore seat.old.device.knows.seen (told_numbers turn.ware.regions (numbers_of turn.ware.device)) }
         ensures seat { IsSeatOf self.now seat.new }
         ensures later { IsLaterSeat seat.old seat.new }
+        ensures written { written_of seat.new ≡ written_of seat.old }
         ensures broken { broken_of turn.ware.device ≡ seat.new.device.knows.broken }
         ensures saw { seat.new.device.knows.broken ≡ false → HasSeen self.now.regions seat.new.device.knows (numbers_of turn.ware.device) }
     {

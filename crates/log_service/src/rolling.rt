@@ -1,10 +1,9 @@
 //! From one log file to the next.
-ghost use Rattle.std.specs.Prelude.{◌≡◌, ◌≤◌, ◌<◌, ◌↔◌, ℕ, true, false, Option, Err, IfOk, IsErrOf};
-ghost use Rattle.log_file.specs.Open.{OpenLog};
+ghost use Rattle.std.specs.Prelude.{◌≡◌, ◌≤◌, ◌<◌, ◌↔◌, ℕ, true, false, Err, IfOk, IsErrOf};
 ghost use Rattle.log_halves.specs.Numbers.{seen_synced, seen_closed};
-ghost use Rattle.log_service.specs.Places.{IsSeatOf, IsLaterSeat};
-ghost use Rattle.log_service.specs.Turns.{HasMovedAll, SawAllLoads};
-ghost use Rattle.log_halves.specs.Ends.{HasRolled};
+ghost use Rattle.log_halves.specs.Counts.{rolled_by};
+ghost use Rattle.log_service.specs.Places.{IsSeatOf, IsLaterSeat, written_of};
+ghost use Rattle.log_service.specs.Turns.{HasMovedAll, SawAllLoads, HasRolledFile};
 
 use crate::seats::LogSeat;
 use crate::service::LogService;
@@ -29,14 +28,17 @@ impl<D: Disk, N: ServiceNaming> LogService<D, N> {
         requires seat { IsSeatOf self.now seat.old }
         ensures seat { IsSeatOf self.now seat.new }
         ensures later { IsLaterSeat seat.old seat.new }
-        ensures rolled { IfOk result (λ rolled. (file : OpenLog) × (log : Option OpenLog) × HasRolled file rolled log) }
+        // What it answers, unless the log is broken, is of the file that the log had once all that was moved was committed.
+        ensures rolled { seat.new.device.knows.broken ≡ false → HasRolledFile D.Disk N.ServiceNaming self.now.regions result seat.new.device.knows }
         ensures closed { IfOk result (λ _. (r : ℕ) → 0 < r → r ≤ self.now.regions
             → seen_synced seat.old.device.knows r ≤ seen_closed self.now.regions seat.new.device.knows r) }
         ensures nothing { (n : ℕ) → result ≡ Err (RollRefusal.NothingToRoll n) → (r : ℕ) → 0 < r → r ≤ self.now.regions
             → seen_synced seat.old.device.knows r ≤ seen_closed self.now.regions seat.new.device.knows r }
         // Unless the log is broken, all that was moved is committed, and the seat has seen so.
-        ensures moved { seat.new.device.knows.broken ≡ false → HasMovedAll N.lasts }
-        ensures saw { seat.new.device.knows.broken ≡ false → SawAllLoads N.lasts seat.new.device.knows }
+        ensures moved { seat.new.device.knows.broken ≡ false → HasMovedAll N.ServiceNaming }
+        ensures saw { seat.new.device.knows.broken ≡ false → SawAllLoads D.Disk N.ServiceNaming seat.new.device.knows }
+        // After Ok the rolls of this seat have closed a log file more, and else none.
+        ensures counted { written_of seat.new ≡ rolled_by result (written_of seat.old) }
         ensures fault { IsErrOf result RollRefusal.WriteFault ↔ (seat.new.device.knows.broken ≡ true) }
     {
         let (mut mover, mut turn) = self.take_both(rt, seat);
@@ -47,7 +49,9 @@ impl<D: Disk, N: ServiceNaming> LogService<D, N> {
             return Err(RollRefusal::WriteFault);
         }
         let rings = (&self.ring, &self.chain_ring);
-        let rolled = mover.ware.roll(rt, alloc, rings, &mut turn.ware);
+        let rolled = mover
+            .ware
+            .roll(rt, alloc, rings, &mut turn.ware, &mut seat.written);
         self.give_both(seat, mover, turn);
         rolled
     }

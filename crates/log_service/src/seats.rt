@@ -3,12 +3,15 @@ ghost use Rattle.std.specs.Prelude.{◌≡◌, ◌<◌, [], length, MatchOption}
 ghost use Rattle.log_service.specs.Bundles.{IsBehind, IsHandedOut};
 
 use log_berth::{LogSeat as BerthSeat, LogSeats as BerthSeats};
+use log_halves::Written;
 
-/// Two seats, one of the consumer's berth and one of the device's.
+/// Two seats, one of the consumer's berth and one of the device's, with what the flushes and rolls of both have written since they were
+/// handed out.
 #[derive(Drop)]
 pub struct LogSeat {
     pub consumer: BerthSeat,
     pub device: BerthSeat,
+    pub(crate) written: Written,
 }
 
 /// The seats that are not handed out.
@@ -28,7 +31,13 @@ impl LogSeats {
         let consumer = self.consumers.next();
         let device = self.devices.next();
         match (consumer, device) {
-            (Some(consumer), Some(device)) => Some(LogSeat { consumer, device }),
+            (Some(consumer), Some(device)) => {
+                Some(LogSeat {
+                    consumer,
+                    device,
+                    written: Written::none(),
+                })
+            }
             _ => None,
         }
     }
@@ -39,7 +48,11 @@ impl LogSeats {
         ensures back { IsBehind self.old.consumers self.new.consumers self.old.devices self.new.devices seat }
         ensures rooms { (self.new.consumers.room ≡ self.old.consumers.room) × (self.new.devices.room ≡ self.old.devices.room) }
     {
-        let LogSeat { consumer, device } = seat;
+        let LogSeat {
+            consumer,
+            device,
+            written: _,
+        } = seat;
         self.consumers.put_back(consumer);
         self.devices.put_back(device);
     }

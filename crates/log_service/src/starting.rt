@@ -1,5 +1,5 @@
 //! How a service is started: first its rings, without a name, and then the service, over a name that names them.
-ghost use Rattle.std.specs.Prelude.{◌≡◌, ◌<◌, ◌≤◌, ◌*◌, ℕ, [], length, replicate, IsTrue, IfOk, IfErr};
+ghost use Rattle.std.specs.Prelude.{◌≡◌, ◌<◌, ◌≤◌, ◌*◌, ℕ, [], None, length, replicate, IsTrue, IfOk, IfErr};
 ghost use Rattle.crossbeam_queue.specs.Passes.{view};
 ghost use Rattle.log_berth.specs.Words.{starts};
 ghost use Rattle.log_berth.specs.Standing.{fresh};
@@ -74,6 +74,8 @@ impl<D: Disk, N: ServiceNaming> LogService<D, N> {
             × AreParts N.ring N.lasts rings.items.ring.id rings.items.consumer.pass.table_id (view rings.items.consumer.pass) rings.items.passes }
         requires chains { (rings.chains.ring.capacity ≡ 2)
             × AreParts N.chain_ring N.lasts rings.chains.ring.id rings.chains.consumer.pass.table_id (view rings.chains.consumer.pass) rings.chains.passes }
+        // Nothing came out of the ring of items yet.
+        requires came { N.came [] None }
         requires device { IsFresh N.lasts device }
         requires whole { IsTrue D.told → ∥ ((h : History) × BeginsAs N.begun N.lasts device (D.view (disk_of device)) h) ∥₁ }
         requires start { IsTrue D.told → N.start ≡ (D.view (disk_of device)).clock }

@@ -63,9 +63,9 @@ impl<D: Disk, N: ServiceNaming> LogService<D, N> {
             × (result ≡ ConsumerTurn.Empty → HadTurn seat.old.consumer.knows seat.new.consumer.knows)
             × (result ≡ ConsumerTurn.StageFull → HadTurn seat.old.consumer.knows seat.new.consumer.knows) }
         // What the work has shown.
-        ensures items { (n : ℕ) → result ≡ ConsumerTurn.Moved n → HasMovedItems N.lasts n }
-        ensures empty { result ≡ ConsumerTurn.Empty → FoundEmpty N.lasts }
-        ensures full { result ≡ ConsumerTurn.StageFull → FoundTooLong N.lasts }
+        ensures items { (n : ℕ) → result ≡ ConsumerTurn.Moved n → HasMovedItems N.ServiceNaming n }
+        ensures empty { result ≡ ConsumerTurn.Empty → FoundEmpty N.ServiceNaming }
+        ensures full { result ≡ ConsumerTurn.StageFull → FoundTooLong N.ServiceNaming }
         ensures busy { result ≡ ConsumerTurn.Busy → FoundTaken seat.old.consumer.knows seat.new.consumer.knows }
         ensures looked { seat.new.device.knows.tally ≡ looked seat.old.device.knows.tally }
         ensures broken { (result ≡ ConsumerTurn.Broken) ↔ (seat.new.device.knows.broken ≡ true) }
@@ -101,8 +101,8 @@ impl<D: Disk, N: ServiceNaming> LogService<D, N> {
         ensures seat { IsSeatOf self.now seat.new }
         ensures later { IsLaterSeat seat.old seat.new }
         ensures synced { (n : ℕ) → result ≡ SyncTurn.Synced n → HadBothTurns seat.old seat.new
-            × HasSynced N.lasts seat.old.device.knows seat.new.device.knows n }
-        ensures clean { result ≡ SyncTurn.Clean → HadBothTurns seat.old seat.new × FoundNoLoad N.lasts seat.new.device.knows }
+            × HasSynced D.Disk N.ServiceNaming seat.old.device.knows seat.new.device.knows n }
+        ensures clean { result ≡ SyncTurn.Clean → HadBothTurns seat.old seat.new × FoundNoLoad D.Disk N.ServiceNaming seat.new.device.knows }
         ensures busy { result ≡ SyncTurn.Busy → FoundOneTaken seat.old seat.new }
         ensures fault { result ≡ SyncTurn.WriteFault → HadBothTurns seat.old seat.new
             × (seat.old.device.knows.broken ≡ false) × (seat.new.device.knows.broken ≡ true) }
@@ -125,8 +125,8 @@ impl<D: Disk, N: ServiceNaming> LogService<D, N> {
         ensures seat { IsSeatOf self.now seat.new }
         ensures later { IsLaterSeat seat.old seat.new }
         ensures synced { (n : ℕ) → result ≡ SyncTurn.Synced n → HadBothTurns seat.old seat.new
-            × HasSynced N.lasts seat.old.device.knows seat.new.device.knows n }
-        ensures clean { result ≡ SyncTurn.Clean → HadBothTurns seat.old seat.new × FoundNoLoad N.lasts seat.new.device.knows }
+            × HasSynced D.Disk N.ServiceNaming seat.old.device.knows seat.new.device.knows n }
+        ensures clean { result ≡ SyncTurn.Clean → HadBothTurns seat.old seat.new × FoundNoLoad D.Disk N.ServiceNaming seat.new.device.knows }
         ensures busy { result ≡ SyncTurn.Busy → FoundOneTaken seat.old seat.new }
         ensures fault { result ≡ SyncTurn.WriteFault → HadBothTurns seat.old seat.new
             × (seat.old.device.knows.broken ≡ false) × (seat.new.device.knows.broken ≡ true) }

@@ -14,6 +14,9 @@ use Rattle.region_lock.specs.log_service.Places.{IsLaterSeat}
 use Rattle.region_lock.specs.log_service.Ends.{HasFlushed, HadNothing}
 use Rattle.server_model.specs.Steps.{IsFlushedTo, IsNothingAbove}
 use Rattle.region_lock.specs.Calls.{FlushesAt}
+use Rattle.region_lock.specs.Logged.{IsOfLog, FlushesLog, refused_as}
+use Rattle.disk_images.specs.declared.disk.Disk.{Ghosts as Disks}
+use Rattle.region_lock.specs.log_service.log_halves.declared.name.ServiceNaming.{Ghosts as Names}
 use Rattle.hand_register.specs.declared.known.Record.{Record}
 use Rattle.region_state.specs.States.{write_point}
 use Rattle.region_lock.specs.Marks.{IsLooked, IsLookedAt}
@@ -96,3 +99,10 @@ module _ {N : Type 0} {g : Ghosts N} where
       (refused_at n base flushes family caller refusal old.viewer.region new.viewer.region old.hand.record.list new.hand.record.list old.viewer.lines new.viewer.lines old.told.record.list new.told.record.list seat seat' upto
       (ap (λ (b : Beginning). b.region) viewer) (cleared.2 ∙ marked.2) (ap (λ (h : HandView ℕ). h.record.list) (cleared.3 ∙ marked.3)) (subst (λ (b : Beginning). IsPrefix old.viewer.lines b.lines) (sym viewer) (prefix_self old.viewer.lines)) words above below
       (λ m is. subst (λ (r : ℕ). HadNothing n r family upto m seat'.device.knows) of (number m is)) fault)
+
+-- what the log refused is of the log
+pub log_refused : {D N : Type 0} (d : Disks D) (g : Names N) (n r : ℕ) (family : Option (List ℕ)) (seat : LogSeat) (refusal : DeviceFlush)
+    → IsOfLog d g n r family seat (Err refusal) → FlushesLog d g n r family seat (Err (refused_as refusal))
+log_refused d g n r family seat device.Memory said = said
+log_refused d g n r family seat device.WriteFault said = said
+log_refused d g n r family seat (device.Nothing m) said = said

@@ -4,9 +4,11 @@ ghost use Rattle.std.specs.Prelude.{◌≡◌, ◌≤◌, length, Err, IfSome, C
 ghost use Rattle.std.specs.Option.{option_map};
 ghost use Rattle.hand_register.specs.Desks.{with_mark};
 ghost use Rattle.region_model.specs.Lines.{last_in};
-ghost use Rattle.region_lock.specs.log_service.Places.{IsSeatOf, IsLaterSeat};
+ghost use Rattle.region_lock.specs.log_service.Places.{IsSeatOf, IsLaterSeat, written_of};
+ghost use Rattle.region_lock.specs.log_service.Counts.{flushed_by};
 ghost use Rattle.region_lock.specs.Answers.{flush_answer, refused_flush};
 ghost use Rattle.region_lock.specs.Calls.{FlushesAt};
+ghost use Rattle.region_lock.specs.Logged.{FlushesLog, refused_as};
 ghost use Rattle.region_lock.specs.Marks.{IsLookedAt};
 ghost use Rattle.region_lock.specs.Passes.{IsAtService, SameButMark, SamePass, known_of};
 
@@ -78,6 +80,11 @@ pub fn flush_in<
         (option_map (λ f. f.now) family.entry) by (flush_answer result)
         (known_of service.now.regions at.old seat.old) (known_of service.now.regions at.new seat.new)
         seat.old.device.knows.broken seat.new.device.knows.broken }
+    // Unless the log is broken, what it answers is of what the log kept of the family.
+    ensures family { FlushesLog D.Disk N.ServiceNaming service.now.regions at.old.viewer.region (option_map (λ f. f.now) family.entry)
+        seat.new result }
+    // After Ok the flushes of this seat have written a store file more, and else none.
+    ensures counted { written_of seat.new ≡ flushed_by result (written_of seat.old) }
     ensures same { SamePass at.old at.new }
     ensures seat { IsSeatOf service.now seat.new }
     ensures later { IsLaterSeat seat.old seat.new }
@@ -98,7 +105,8 @@ pub fn flush_in<
 
 /// The log's refusal as the flush's.
 fn refusal_of(refusal: DeviceFlush) -> FlushRefusal
-    ensures { flush_answer (Err result) ≡ refused_flush refusal }
+    ensures answer { flush_answer (Err result) ≡ refused_flush refusal }
+    ensures same { result ≡ refused_as refusal }
 {
     match refusal {
         DeviceFlush::Memory => FlushRefusal::Memory,

@@ -38,6 +38,9 @@ service_named disk store = record {
   start = (disk.view (disk_now store)).clock;
   faults = disk.faults (disk_now store);
   past = (disk.view (disk_now store)).image;
+  came = λ items held. Unit {0};
+  came_out = λ v w x pops was got. tt;
+  came_in = λ items x was. tt;
 }
 
 -- its versions
@@ -55,5 +58,6 @@ own_name disk flushes store = record {
   tables_are = λ r low high. record { desk_is = refl; spent_is = refl; book_is = refl; base_is = refl };
   begins = (refl, refl, refl);
   past_is = λ t J before. ((λ left. left), (λ left. left));
+  came_none = tt;
   found_is = (refl, refl);
 }

@@ -1,5 +1,5 @@
 -- Names of servers.
-use Rattle.std.specs.Prelude.{◌≡◌, ℕ, ◌≤◌, List, [], length}
+use Rattle.std.specs.Prelude.{◌≡◌, ℕ, ◌≤◌, List, [], None, length}
 use Rattle.atomic_table.specs.Seated.{TableId}
 use Rattle.logbook.specs.Pages.{Book}
 use Rattle.log_model.specs.Files.{Files}
@@ -46,5 +46,7 @@ pub record IsNameOf {D N : Type 0} (disk : Disks D) (server : ServerNames N) (lo
   pub begins : (service.begun ≡ (disk.view (disk_begun store)).files) × (service.start ≡ (disk.view (disk_now store)).clock) × (service.faults ≡ disk.faults (disk_now store))
   -- what a crash could leave at each moment up to the start is what the disk says
   pub past_is : (t : ℕ) (J : Files) → t ≤ service.start → ((disk.view (disk_now store)).image t J → service.past t J) × (service.past t J → (disk.view (disk_now store)).image t J)
+  -- nothing came out of the ring of items yet
+  pub came_none : service.came [] None
   -- the opening found these files, and by then the disk had failed so often
   pub found_is : (server.found ≡ (disk.view (disk_found store)).files) × (server.found_faults ≡ disk.faults (disk_found store))

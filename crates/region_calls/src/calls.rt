@@ -1,12 +1,15 @@
 //! A server's calls, each on one region.
 
-ghost use Rattle.std.specs.Prelude.{◌≡◌, ◌-◌, ◌≤◌, ◌<◌, ◌^◌, ◌⊎◌, length, IfSome, Contains, true};
+ghost use Rattle.std.specs.Prelude.{◌≡◌, ◌-◌, ◌≤◌, ◌<◌, ◌^◌, ◌⊎◌, length, IfSome, Contains, true, false};
 ghost use Rattle.std.specs.Option.{option_map};
-ghost use Rattle.pass_calls.specs.log_service.Places.{IsSeatOf, IsLaterSeat, FoundTaken, HadTurn, LastFoundTaken, LastHadTurn};
+ghost use Rattle.pass_calls.specs.log_service.Places.{IsSeatOf, IsLaterSeat, written_of, FoundTaken, HadTurn, LastFoundTaken, LastHadTurn};
 ghost use Rattle.server_model.specs.Pass.{IsLater};
 ghost use Rattle.region_model.specs.Calls.{Raw};
 ghost use Rattle.server_model.specs.Steps.{IsQuietPass, Puts, Scans, Flushes, Rolls};
 ghost use Rattle.pass_calls.specs.region_lock.Puts.{IsFaultExact};
+ghost use Rattle.pass_calls.specs.region_lock.Logged.{FlushesLog};
+ghost use Rattle.pass_calls.specs.log_service.Turns.{HasRolledFile};
+ghost use Rattle.pass_calls.specs.log_service.Counts.{flushed_by, rolled_by};
 ghost use Rattle.region_calls.specs.Answers.{is_sync, put_answer, scan_answer, begun_answer, point_seen, flush_answer, roll_answer};
 ghost use Rattle.region_calls.specs.Passes.{knows, IsPassOf};
 
@@ -167,6 +170,11 @@ impl<
         ensures flushes { Flushes N.name region (option_map (λ f. f.now) family.entry)
             (record { handler = (knows pass.old).handler; call = call }) (flush_answer result)
             (knows pass.old) (knows pass.new) }
+        // Unless the log is broken, what it answers is of what the log kept of the family.
+        ensures family { FlushesLog D.Disk N.ServiceNaming self.now.regions region (option_map (λ f. f.now) family.entry)
+            pass.new.seat result }
+        // After Ok the flushes of this pass have written a store file more, and else none.
+        ensures counted { written_of pass.new.seat ≡ flushed_by result (written_of pass.old.seat) }
         ensures of { IsPassOf self.now pass.new }
     {
         let by = Caller {
@@ -197,6 +205,11 @@ impl<
     ) -> Result<Rolled, RollRefusal>
         requires of { IsPassOf self.now pass.old }
         ensures rolls { Rolls (roll_answer result) (knows pass.old) (knows pass.new) }
+        // Unless the log is broken, what it answers is of the file that the log had.
+        ensures rolled { pass.new.seat.device.knows.broken ≡ false
+            → HasRolledFile D.Disk N.ServiceNaming self.now.regions result pass.new.seat.device.knows }
+        // After Ok the rolls of this pass have closed a log file more, and else none.
+        ensures counted { written_of pass.new.seat ≡ rolled_by result (written_of pass.old.seat) }
         ensures of { IsPassOf self.now pass.new }
     {
         roll_in(rt, alloc, &self.service, &mut pass.seat)

@@ -10,4 +10,5 @@ pub mod Passes
 pub mod Puts
 pub mod Calls
 pub mod Answers
+pub mod Logged
 pub mod Met

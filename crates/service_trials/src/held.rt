@@ -1,6 +1,6 @@
 //! A service of sixteen regions and seats, from its start to its close, over an empty disk whose syncs can be held back.
 
-ghost use Rattle.std.specs.Prelude.{◌≡◌, ◌≤◌, ℕ, [], length, replicate, vec_capacity, All, IfOk};
+ghost use Rattle.std.specs.Prelude.{◌≡◌, ◌≤◌, ℕ, [], None, length, replicate, vec_capacity, All, IfOk};
 ghost use Rattle.crossbeam_queue.specs.Passes.{view};
 ghost use Rattle.log_model.specs.Files.{Files, IsAbsent};
 ghost use Rattle.log_ledger.specs.History.{History};
@@ -78,6 +78,7 @@ fn over_held<N: ServiceNaming + Send + Sync, R: Wait + Threads + Sync + Abort>(
         × AreParts N.ring N.lasts rings.items.ring.id rings.items.consumer.pass.table_id (view rings.items.consumer.pass) rings.items.passes }
     requires chains { (rings.chains.ring.capacity ≡ 2)
         × AreParts N.chain_ring N.lasts rings.chains.ring.id rings.chains.consumer.pass.table_id (view rings.chains.consumer.pass) rings.chains.passes }
+    requires came { N.came [] None }
     requires device { IsFresh N.lasts device }
     requires whole { ∥ ((h : History) × BeginsAs N.begun N.lasts device (view_of (watched (disk_of device))) h) ∥₁ }
     requires start { N.start ≡ (view_of (watched (disk_of device))).clock }

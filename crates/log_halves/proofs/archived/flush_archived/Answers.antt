@@ -1,11 +1,13 @@
-use Rattle.std.proofs.Common.{ℕ, List, length, get_or, refl, inr, sym, ap, ◌∙◌}
+use Rattle.std.proofs.Common.{ℕ, List, length, get_or, refl, inr, sym, ap, ◌∙◌, arith}
 use Rattle.std.specs.Option.{option_map}
 use Rattle.std.proofs.Math.Logic.{∥∥₁_map}
-use Rattle.log_ledger.specs.History.{committed_in, flushed_in, family_in}
+use Rattle.log_ledger.specs.History.{committed_in, flushed_in, family_in, with_logs}
 use Rattle.log_device.specs.Whole.{disk_of, numbers_of}
+use Rattle.log_halves.specs.Counts.{with_stores}
 use Rattle.log_halves.proofs.Tied.{ties_committed, ties_archived, one_higher}
 use Rattle.log_halves.proofs.Stored.{numbers_flushed, numbers_archived}
 use Rattle.log_halves.proofs.Faults.{no_flush_fault}
+use Rattle.log_halves.proofs.Stores.{one_more}
 use Rattle.log_halves.proofs.archived.flush_archived.Goals as goal
 
 pub returns-in-Err-clause-numbers : goal.returns-in-Err-clause-numbers
@@ -87,3 +89,45 @@ returns-in-Err-clause-nothing g c n is =
     let said = c.in-Err.ensures.numbers in
     let synced = ap (λ (l : List ℕ). get_or l r 0) (said.synced (λ broken. no_flush_fault n is (c.in-Err.ensures.broken.1 broken))) in
     record { last = synced ∙ sym (said.nothing_number n is); stored = λ all. said.stored_nothing all n is }
+
+pub returns-in-Ok-archive-clause-flush : goal.returns-in-Ok-archive-clause-flush
+returns-in-Ok-archive-clause-flush g c =
+    let r = c.args.region in
+    let family = family_in (option_map (λ (f : _). f.now) c.args.family) in
+    let numbers = c.in-Ok.ensures.numbers in
+    let after = c.archive.ensures.numbers in record {
+      stores = λ whole. ap (λ (l : List ℕ). get_or l r 0) after.next_store ∙ one_more (numbers_of c.args.device.now).next_store r (numbers_of c.flush.new.self).next_store c.requires.served numbers.next_store;
+      alone = λ f one. after.stored ∙ numbers.stored_of_one f one;
+      flushed = λ told.
+          ∥∥₁_map (c.requires.whole told) (λ x.
+          let did = (c.in-Ok.ensures.flushes told x.0 x.1).flushed in
+          let flushed = flushed_in (committed_in x.0) r family c.in-Ok.number in
+          let left = (c.in-Ok-archive.ensures.archives told flushed did.2).archived in
+          (x.0, with_logs flushed left.0, x.1, left.3, record { some = did.1; flushed = refl }));
+      nothing = λ told n is. absurd (cc is);
+    }
+
+pub returns-in-Err-clause-flush : goal.returns-in-Err-clause-flush
+returns-in-Err-clause-flush g c =
+    let r = c.args.region in
+    let numbers = c.in-Err.ensures.numbers in record {
+      stores = λ whole. let still = ap (λ (l : List ℕ). get_or l r 0) numbers.next_store_still in omega (arith, still);
+      alone = λ f one. numbers.stored_of_one f one;
+      flushed = λ told. tt;
+      nothing = λ told n is.
+          ∥∥₁_map (c.requires.whole told) (λ x.
+          let did = c.in-Err.ensures.flushes told x.0 x.1 in
+          (x.0, x.1, did.refused (λ broken. no_flush_fault n is (c.in-Err.ensures.broken.1 broken)), (did.nothing n is).1));
+    }
+
+pub returns-in-Err-archive-clause-flush : goal.returns-in-Err-archive-clause-flush
+returns-in-Err-archive-clause-flush g c =
+    let numbers = c.in-Ok.ensures.numbers in record {
+      stores = λ whole. absurd (whole (c.in-Err-archive.ensures.broken.0 refl));
+      alone = λ f one. c.archive.ensures.numbers.stored ∙ numbers.stored_of_one f one;
+      flushed = λ told. tt;
+      nothing = λ told n is. absurd (no_flush_fault n is refl);
+    }
+
+pub returns-in-Ok-archive-clause-counted : goal.returns-in-Ok-archive-clause-counted
+returns-in-Ok-archive-clause-counted g c = ap (with_stores c.args.written.now) c.saturating_add-written.ensures

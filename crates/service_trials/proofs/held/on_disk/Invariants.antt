@@ -13,4 +13,7 @@ ghosts-over_held g a = record {
   start = (view_of (watched (disk_of a.device))).clock;
   faults = faults_of (watched (disk_of a.device));
   past = (view_of (watched (disk_of a.device))).image;
+  came = λ items held. Unit {0};
+  came_out = λ v w x pops was got. tt;
+  came_in = λ items x was. tt;
 }

@@ -3,4 +3,4 @@ use Rattle.log_halves.proofs.consumer.ConsumerHalf.drop.Goals as goal
 pub invariant_of-self : goal.invariant_of-self
 invariant_of-self g c =
     let s = c.args.self in
-    record { ring = s.ring; to = s.to; rest = s.rest; tie = s.tie; spelled = s.spelled; alone = s.alone; follow = s.follow }
+    record { ring = s.ring; to = s.to; rest = s.rest; tie = s.tie; spelled = s.spelled; alone = s.alone; came = s.came; follow = s.follow }

@@ -94,3 +94,15 @@ returns-then-move_all-clause-drained g c whole = absurd (whole (c.if-move_all.en
 
 pub returns-then-move_all-clause-moved : goal.returns-then-move_all-clause-moved
 returns-then-move_all-clause-moved g c whole = absurd (whole (c.if-move_all.ensures.failed refl))
+
+pub returns-clause-flushes : goal.returns-clause-flushes
+returns-clause-flushes g c whole = record { before = c.drain.new.committer; popped = sym c.flush.ensures.same.1; flush = c.flush.ensures.flush }
+
+pub returns-then-drain-clause-flushes : goal.returns-then-drain-clause-flushes
+returns-then-drain-clause-flushes g c whole = absurd (whole (c.if-drain.ensures.failed refl))
+
+pub returns-then-move_all-clause-flushes : goal.returns-then-move_all-clause-flushes
+returns-then-move_all-clause-flushes g c whole = absurd (whole (c.if-move_all.ensures.failed refl))
+
+pub returns-then-move_up_to-clause-flushes : goal.returns-then-move_up_to-clause-flushes
+returns-then-move_up_to-clause-flushes g c whole = absurd (whole (c.if-move_up_to.ensures.failed refl))

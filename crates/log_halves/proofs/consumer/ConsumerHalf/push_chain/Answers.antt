@@ -36,5 +36,6 @@ invariant_of-self g c =
           ∙ (ap (λ (l : List Held). all_trucks (pushed ++ s.chain ∷ []) ++ (l ++ held)) empty ∙ tie_handed pushed s.chain held (appended (view s.consumer.pass).popped) s.tie);
       spelled = subst (λ (l : List Held). AreSpelled (l ++ held)) (sym empty) (spelled_back s.chain held s.spelled);
       alone = s.alone;
+      came = s.came;
       follow = s.follow;
     }

@@ -1,6 +1,7 @@
 use Rattle.std.proofs.Common.{◌≡◌, ◌≤◌, ℕ, List, [], ◌∷◌, ◌++◌, None, length, sym, ap, ◌∙◌, subst}
 use Rattle.std.specs.Prelude.{Option}
 use Rattle.std.proofs.lemmas.Option.{same_Some}
+use Rattle.std.proofs.Math.Logic.{∥∥₁_map}
 use Rattle.crossbeam_queue.specs.Passes.{view}
 use Rattle.append_ring.specs.Rules.{base_of, of, end_of, Follows}
 use Rattle.log_trucks.specs.Held.{Held}
@@ -31,6 +32,8 @@ invariant_of-self-2 g c =
       tie = tie_popped pushed s.chain popped x tie ∙ ap appended (sym more);
       spelled = spelled_both s.chain (appended (x ∷ [])) (spelled_front s.chain (appended (held_in s.held)) s.spelled) (item_spelled x got.good.0);
       alone = λ truck is. (subst IsWholeItem (same_Some x (items.Append truck) is) got.good.0).1;
+      came = ∥∥₁_map s.came (λ was.
+          g.N.ServiceNaming.came_out (view s.consumer.pass) (view c.pop.new.pass.pass) x s.consumer.pops (subst (λ (o : Option Item). g.N.ServiceNaming.came popped o) none was) got);
       follow = subst (λ (l : List Item). FollowFrom lasts (appended l)) (sym more)
           (item_follows lasts popped x s.follow got.good.1 (subst (λ (l : List ℕ). region_of x ≤ length l) s.ring.1 got.good.2)
           (subst (λ (l : List ℕ). Follows number_of (end_of number_of (base_of l (region_of x)) (of region_of (region_of x) popped)) x) s.ring.1 got.follows));

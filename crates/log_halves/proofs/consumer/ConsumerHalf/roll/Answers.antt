@@ -1,22 +1,30 @@
 use Rattle.std.proofs.Common.{refl, sym, subst, arith}
 use Rattle.crossbeam_queue.specs.Passes.{view}
 use Rattle.log_device.specs.Whole.{log_of}
-use Rattle.log_device.proofs.Results.{then}
 use Rattle.log_halves.specs.Moves.{WasFull}
 use Rattle.log_halves.proofs.ItemLaws.{moved_since}
 use Rattle.log_halves.proofs.Numbers.{told_trans}
 use Rattle.log_halves.proofs.Faults.{from_some}
 use Rattle.log_halves.proofs.consumer.ConsumerHalf.roll.Goals as goal
 
-pub returns-clause-rolled : goal.returns-clause-rolled
-returns-clause-rolled g c =
-    from_some (log_of c.drain.new.committer.device) (c.if-drain.ensures.unbroken refl)
-    (λ file is. then c.roll.result (λ rolled said. (file, said)) (c.roll.ensures.rolled file is))
+pub returns-clause-rolls : goal.returns-clause-rolls
+returns-clause-rolls g c whole =
+    let late = c.drain.new.committer in
+    from_some (log_of late.device) (c.if-drain.ensures.unbroken refl) (λ file is. record {
+      before = late;
+      popped = sym c.roll.ensures.same.1;
+      file = file;
+      is = is;
+      rolled = c.roll.ensures.rolled file is;
+      none = λ n nothing. c.roll.ensures.none file n is nothing;
+      empty = λ none. c.roll.ensures.empty file is none whole;
+    })
 
-pub returns-clause-none : goal.returns-clause-none
-returns-clause-none g c n is =
-    from_some (log_of c.drain.new.committer.device) (c.if-drain.ensures.unbroken refl)
-    (λ file some. (file, c.roll.ensures.none file n some is))
+pub returns-then-drain-clause-rolls : goal.returns-then-drain-clause-rolls
+returns-then-drain-clause-rolls g c whole = absurd (whole (c.if-drain.ensures.failed refl))
+
+pub returns-then-move_all-clause-rolls : goal.returns-then-move_all-clause-rolls
+returns-then-move_all-clause-rolls g c whole = absurd (whole (c.if-move_all.ensures.failed refl))
 
 pub returns-clause-later : goal.returns-clause-later
 returns-clause-later g c =

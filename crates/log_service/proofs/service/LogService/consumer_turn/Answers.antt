@@ -1,6 +1,4 @@
 use Rattle.std.proofs.Common.{◌≡◌, ℕ, refl, sym}
-use Rattle.crossbeam_queue.specs.Passes.{view}
-use Rattle.log_halves.specs.Moves.{bench_of}
 use Rattle.log_service.specs.declared.turning.ConsumerTurn.TheVariants as turns
 use Rattle.log_service.proofs.service.LogService.consumer_turn.Goals as goal
 
@@ -16,27 +14,18 @@ moved_full n is = absurd (cc is)
 
 pub returns-in-Moved-clause-items : goal.returns-in-Moved-clause-items
 returns-in-Moved-clause-items g c n is =
-    let old = c.in-Ok.turn.ware in
-    let new = c.move_items-moves.new.self in
-    let said = c.in-Moved.ensures.moved n (cc is) in record {
-      old = bench_of old;
-      new = bench_of new;
-      items = said.2.0;
-      old_is = record { tie = old.tie; follow = old.follow };
-      new_is = record { tie = new.tie; follow = new.follow };
-      count = said.2.1;
-      moved = said.2.2;
-    }
+    let said = c.in-Moved.ensures.moved n (cc is) in
+    record { old = c.in-Ok.turn.ware; new = c.move_items-moves.new.self; items = said.2.0; count = said.2.1; moved = said.2.2 }
 
 pub returns-in-Empty-clause-empty : goal.returns-in-Empty-clause-empty
 returns-in-Empty-clause-empty g c is =
-    let new = c.move_items-moves.new.self in
-    record { pass = view new.consumer.pass; from = new.ring.1; empty = (c.in-Empty.ensures.empty refl).1 }
+    let said = c.in-Empty.ensures.empty refl in
+    record { old = c.in-Ok.turn.ware; new = c.move_items-moves.new.self; moved = said.0; empty = said.1 }
 
 pub returns-in-StageFull-clause-full : goal.returns-in-StageFull-clause-full
 returns-in-StageFull-clause-full g c is =
-    let new = c.move_items-moves.new.self in
-    record { bench = bench_of new; is = record { tie = new.tie; follow = new.follow }; long = (c.in-StageFull.ensures.full refl).1 }
+    let said = c.in-StageFull.ensures.full refl in
+    record { old = c.in-Ok.turn.ware; new = c.move_items-moves.new.self; moved = said.0; long = said.1 }
 
 pub returns-in-Moved-clause-empty : goal.returns-in-Moved-clause-empty
 returns-in-Moved-clause-empty g c is = absurd (moved_empty _ is)

@@ -6,10 +6,13 @@ use Rattle.log_device.specs.declared.error.DeviceFlush.TheVariants as refusals
 use Rattle.log_device.specs.Whole.{log_of, numbers_of}
 use Rattle.log_halves.specs.Numbers.{told_numbers}
 use Rattle.log_service.specs.Places.{ServiceId}
+use Rattle.log_service.specs.declared.seats.LogSeat.{LogSeat}
 use Rattle.log_service.proofs.Numbers.{stored_low}
 use Rattle.log_service.proofs.SeatLaws.{later_trans, given_later}
 use Rattle.log_halves.proofs.Faults.{has_file, is_broken, not_broken, no_flush_fault, then_whole}
 use Rattle.log_service.proofs.Sees.{sees_all}
+use Rattle.log_halves.specs.declared.written.Written.{Written}
+use Rattle.log_halves.specs.Counts.{flushed_by}
 use Rattle.log_service.proofs.service.LogService.flush.Goals as goal
 
 pub give_both-requires-clause-device : goal.give_both-requires-clause-device
@@ -54,13 +57,8 @@ returns-clause-nothing g c n is =
 
 pub returns-clause-moved : goal.returns-clause-moved
 returns-clause-moved g c whole =
-    let mover = c.flush-flushed.new.self in
-    let unbroken = has_file (log_of c.flush-flushed.new.committer.device) (c.give_both.ensures.broken ∙ whole) in record {
-      before = view c.take_both-mover.result.0.ware.consumer.pass;
-      pass = view mover.consumer.pass;
-      from = mover.ring.1;
-      moved = c.flush-flushed.ensures.moved unbroken;
-    }
+    let unbroken = has_file (log_of c.flush-flushed.new.committer.device) (c.give_both.ensures.broken ∙ whole) in
+    record { old = c.take_both-mover.result.0.ware; new = c.flush-flushed.new.self; moved = c.flush-flushed.ensures.moved unbroken }
 
 pub returns-clause-saw : goal.returns-clause-saw
 returns-clause-saw g c whole =
@@ -68,8 +66,8 @@ returns-clause-saw g c whole =
     let unbroken = has_file (log_of ware.device) (c.give_both.ensures.broken ∙ whole) in
     let n_is : c.args.self.now.regions ≡ ware.regions = sym (ware.all.0 ∙ (sym c.self.invariant.6 ∙ ap (λ (p : ServiceId). p.regions) c.self.view_is)) in
     record {
-      pass = view ware.consumer.pass;
-      from = ware.from.1;
+      half = ware;
+      broken = c.give_both.ensures.broken;
       empty = (c.flush-flushed.ensures.drained unbroken).1;
       saw =
           sees_all g.N.ServiceNaming.lasts c.args.self.now.regions (numbers_of ware.device) (view ware.consumer.pass).popped (n_is ∙ ware.all.0) (ware.synced unbroken) (ware.drawn unbroken)
@@ -77,7 +75,11 @@ returns-clause-saw g c whole =
     }
 
 pub returns-clause-later : goal.returns-clause-later
-returns-clause-later g c = later_trans c.args.seat.now c.take_both-mover.new.seat c.give_both.new.seat c.take_both-mover.ensures.later c.give_both.ensures.later
+returns-clause-later g c =
+    let taken = c.take_both-mover.new.seat in
+    let seat : LogSeat = record { consumer = taken.consumer; device = taken.device; written = c.flush-flushed.new.written } in
+    let later = c.take_both-mover.ensures.later in
+    later_trans c.args.seat.now seat c.give_both.new.seat (record { words = later.words; fault = later.fault; looks = later.looks }) c.give_both.ensures.later
 
 pub returns-then-broken-clause-later : goal.returns-then-broken-clause-later
 returns-then-broken-clause-later g c = given_later c.args.seat.now c.take_both-mover.new.seat _ c.take_both-mover.ensures.later c.give.ensures.1
@@ -90,3 +92,12 @@ returns-clause-fault g c =
 
 pub returns-then-broken-clause-nothing : goal.returns-then-broken-clause-nothing
 returns-then-broken-clause-nothing g c n is = absurd (no_flush_fault n is refl)
+
+pub returns-clause-family : goal.returns-clause-family
+returns-clause-family g c whole =
+    let ware = c.flush-flushed.new.committer in
+    let unbroken = has_file (log_of ware.device) (c.give_both.ensures.broken ∙ whole) in
+    record { half = ware; broken = c.give_both.ensures.broken; sees = c.give_both.ensures.saw whole; flushes = c.flush-flushed.ensures.flushes unbroken }
+
+pub returns-clause-counted : goal.returns-clause-counted
+returns-clause-counted g c = c.give_both.ensures.written ∙ (c.flush-flushed.ensures.counted ∙ ap (λ (w : Written). flushed_by c.flush-flushed.result w) c.take_both-mover.ensures.written)

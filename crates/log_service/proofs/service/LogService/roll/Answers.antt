@@ -6,9 +6,12 @@ use Rattle.log_device.specs.declared.error.RollRefusal.TheVariants as refusals
 use Rattle.log_device.specs.Whole.{log_of, numbers_of}
 use Rattle.log_halves.specs.Numbers.{told_numbers}
 use Rattle.log_service.specs.Places.{ServiceId}
+use Rattle.log_service.specs.declared.seats.LogSeat.{LogSeat}
 use Rattle.log_service.proofs.SeatLaws.{later_trans, given_later}
 use Rattle.log_halves.proofs.Faults.{has_file, is_broken, not_broken, no_roll_fault, then_whole}
 use Rattle.log_service.proofs.Sees.{sees_all, closed_over}
+use Rattle.log_halves.specs.declared.written.Written.{Written}
+use Rattle.log_halves.specs.Counts.{rolled_by}
 use Rattle.log_service.proofs.service.LogService.roll.Goals as goal
 
 pub give_both-requires-clause-device : goal.give_both-requires-clause-device
@@ -18,18 +21,15 @@ give_both-requires-clause-device g c =
     no_more-trans c.take_both-mover.new.seat.device.knows.seen (told_numbers a.regions (numbers_of a.device)) (told_numbers b.regions (numbers_of b.device)) c.take_both-mover.ensures.device.1 c.roll-rolled.ensures.later
 
 pub returns-clause-rolled : goal.returns-clause-rolled
-returns-clause-rolled g c =
-    then_whole c.roll-rolled.result refusals.WriteFault c.roll-rolled.ensures.broken.1 (λ rolled unbroken said. (said.0, log_of c.roll-rolled.new.committer.device, said.1)) c.roll-rolled.ensures.rolled
+returns-clause-rolled g c whole =
+    let ware = c.roll-rolled.new.committer in
+    let unbroken = has_file (log_of ware.device) (c.give_both.ensures.broken ∙ whole) in
+    record { half = ware; broken = c.give_both.ensures.broken; sees = c.give_both.ensures.saw whole; rolls = c.roll-rolled.ensures.rolls unbroken }
 
 pub returns-clause-moved : goal.returns-clause-moved
 returns-clause-moved g c whole =
-    let mover = c.roll-rolled.new.self in
-    let unbroken = has_file (log_of c.roll-rolled.new.committer.device) (c.give_both.ensures.broken ∙ whole) in record {
-      before = view c.take_both-mover.result.0.ware.consumer.pass;
-      pass = view mover.consumer.pass;
-      from = mover.ring.1;
-      moved = c.roll-rolled.ensures.moved unbroken;
-    }
+    let unbroken = has_file (log_of c.roll-rolled.new.committer.device) (c.give_both.ensures.broken ∙ whole) in
+    record { old = c.take_both-mover.result.0.ware; new = c.roll-rolled.new.self; moved = c.roll-rolled.ensures.moved unbroken }
 
 pub returns-clause-saw : goal.returns-clause-saw
 returns-clause-saw g c whole =
@@ -37,8 +37,8 @@ returns-clause-saw g c whole =
     let unbroken = has_file (log_of ware.device) (c.give_both.ensures.broken ∙ whole) in
     let n_is : c.args.self.now.regions ≡ ware.regions = sym (ware.all.0 ∙ (sym c.self.invariant.6 ∙ ap (λ (p : ServiceId). p.regions) c.self.view_is)) in
     record {
-      pass = view ware.consumer.pass;
-      from = ware.from.1;
+      half = ware;
+      broken = c.give_both.ensures.broken;
       empty = (c.roll-rolled.ensures.drained unbroken).1;
       saw =
           sees_all g.N.ServiceNaming.lasts c.args.self.now.regions (numbers_of ware.device) (view ware.consumer.pass).popped (n_is ∙ ware.all.0) (ware.synced unbroken) (ware.drawn unbroken)
@@ -74,7 +74,11 @@ returns-clause-nothing g c n is =
     closed_over ware.regions c.args.self.now.regions n_is c.give_both.new.seat.device.knows (numbers_of ware.device) old low saw (c.roll-rolled.ensures.nothing n is)
 
 pub returns-clause-later : goal.returns-clause-later
-returns-clause-later g c = later_trans c.args.seat.now c.take_both-mover.new.seat c.give_both.new.seat c.take_both-mover.ensures.later c.give_both.ensures.later
+returns-clause-later g c =
+    let taken = c.take_both-mover.new.seat in
+    let seat : LogSeat = record { consumer = taken.consumer; device = taken.device; written = c.roll-rolled.new.written } in
+    let later = c.take_both-mover.ensures.later in
+    later_trans c.args.seat.now seat c.give_both.new.seat (record { words = later.words; fault = later.fault; looks = later.looks }) c.give_both.ensures.later
 
 pub returns-then-broken-clause-later : goal.returns-then-broken-clause-later
 returns-then-broken-clause-later g c = given_later c.args.seat.now c.take_both-mover.new.seat _ c.take_both-mover.ensures.later c.give.ensures.1
@@ -87,3 +91,6 @@ returns-clause-fault g c =
 
 pub returns-then-broken-clause-nothing : goal.returns-then-broken-clause-nothing
 returns-then-broken-clause-nothing g c n is = absurd (no_roll_fault n is refl)
+
+pub returns-clause-counted : goal.returns-clause-counted
+returns-clause-counted g c = c.give_both.ensures.written ∙ (c.roll-rolled.ensures.counted ∙ ap (λ (w : Written). rolled_by c.roll-rolled.result w) c.take_both-mover.ensures.written)

@@ -6,7 +6,7 @@ pub returns-clause-synced : goal.returns-clause-synced
 returns-clause-synced g c n is =
     let said = c.turn_over.ensures.synced n is in (
       both_since c.args.seat.now c.broken.new.seat c.turn_over.new.seat c.broken.ensures.same.0 c.broken.ensures.looked said.0,
-      synced_since g.N.ServiceNaming.lasts c.args.seat.now.device.knows c.broken.new.seat.device.knows c.turn_over.new.seat.device.knows n c.broken.ensures.same.1 said.1,
+      synced_since g.D.Disk g.N.ServiceNaming c.args.seat.now.device.knows c.broken.new.seat.device.knows c.turn_over.new.seat.device.knows n c.broken.ensures.same.1 said.1,
     )
 
 pub returns-clause-clean : goal.returns-clause-clean

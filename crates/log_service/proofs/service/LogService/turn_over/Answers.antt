@@ -1,4 +1,4 @@
-use Rattle.std.proofs.Common.{◌≡◌, ◌∷◌, ◌++◌, [], ℕ, true≢false, refl, sym, ap, ◌∙◌, subst}
+use Rattle.std.proofs.Common.{◌≡◌, ℕ, true≢false, refl, sym, ap, ◌∙◌, subst}
 use Rattle.crossbeam_queue.specs.Passes.{view}
 use Rattle.log_berth.specs.declared.known.Known.{Known}
 use Rattle.log_berth.specs.Words.{NoMore, looked}
@@ -7,13 +7,11 @@ use Rattle.log_device.specs.Whole.{log_of, numbers_of}
 use Rattle.log_halves.specs.declared.committing.Commit.TheVariants as commits
 use Rattle.log_service.specs.declared.seats.LogSeat.{LogSeat}
 use Rattle.log_service.specs.declared.turning.SyncTurn.TheVariants as turns
-use Rattle.log_halves.specs.Chains.{AreInOrder}
 use Rattle.log_halves.specs.Moves.{WasFull}
 use Rattle.log_halves.specs.Numbers.{told_numbers}
 use Rattle.log_service.specs.Turns.{SawCommitted}
 use Rattle.log_service.proofs.SeatLaws.{turn_later, had_both, not_set}
 use Rattle.log_halves.proofs.Faults.{has_file}
-use Rattle.log_service.proofs.Sees.{saw_at_most}
 use Rattle.log_service.proofs.service.LogService.turn_over.Goals as goal
 
 -- each answer is no other
@@ -61,55 +59,52 @@ returns-in-WriteFault-clause-later g c =
 
 pub returns-in-Committed-clause-synced : goal.returns-in-Committed-clause-synced
 returns-in-Committed-clause-synced g c n is =
-    let after : LogSeat = record { consumer = c.commit_and_raise-commit.new.seat.consumer; device = c.end_turn-2.new.seat } in
+    let after : LogSeat = record { consumer = c.commit_and_raise-commit.new.seat.consumer; device = c.end_turn-2.new.seat; written = c.args.seat.now.written } in
     let held = c.in-Ok.ensures.taken.1 in
     let ware = c.in-Ok.turn.ware in
     let lasts = g.N.ServiceNaming.lasts in
     let same = c.commit_and_raise-commit.ensures.seat in
     let knows = c.commit_and_raise-commit.new.seat.device.knows in
     let ended = c.end_turn-2.ensures.1 in
-    let before = (view ware.consumer.pass).popped in
     let now = (view c.commit_and_raise-commit.new.turn.ware.consumer.pass).popped in
-    let unbroken = has_file (log_of ware.device) (held.broken ∙ (sym (c.broken.ensures.exact held.turn) ∙ c.if-broken.false)) in
     let of : commits.Committed c.in-Committed.count ≡ commits.Committed n = cc (is) in
     let got = c.in-Committed.ensures.committed n of in (
       had_both c.args.seat.now after c.hand_chain.new.seat c.take.new.seat.knows c.broken.new.seat.knows knows (search (c.if-not-hand_chain.ensures.had)) same.0 held.tally c.broken.ensures.known.1 same.3 ended,
       record {
-        before = before;
+        before = ware;
+        after = c.commit_and_raise-commit.new.turn.ware;
         chain = got.0;
         count = got.2;
         some = c.in-Committed.ensures.some n of;
-        in_order = subst (AreInOrder lasts) got.1 (c.in-Committed.ensures.ordered n of);
-        saw = saw_at_most lasts ware.regions (numbers_of ware.device) before ware.all.0 (ware.synced unbroken) (ware.drawn unbroken) c.args.seat.now.device.knows
-            (no_more-trans c.args.seat.now.device.knows.seen c.take.new.seat.knows.seen (told_numbers ware.regions (numbers_of ware.device)) held.seen held.below);
-        sees = subst (λ (k : Known). SawCommitted lasts k (before ++ got.0 ∷ [])) (sym ended) (subst (SawCommitted lasts knows) got.1 (c.in-Committed.ensures.sees n of));
+        popped = got.1;
+        in_order = c.in-Committed.ensures.ordered n of;
+        below = no_more-trans c.args.seat.now.device.knows.seen c.take.new.seat.knows.seen (told_numbers ware.regions (numbers_of ware.device)) held.seen held.below;
+        broken = c.commit_and_raise-commit.ensures.broken ∙ sym (ap (λ (k : Known). k.broken) ended);
+        sees = subst (λ (k : Known). SawCommitted lasts k now) (sym ended) (c.in-Committed.ensures.sees n of);
       },
     )
 
 pub returns-in-Clean-clause-clean : goal.returns-in-Clean-clause-clean
 returns-in-Clean-clause-clean g c is =
-    let after : LogSeat = record { consumer = c.commit_and_raise-commit.new.seat.consumer; device = c.end_turn-2.new.seat } in
+    let after : LogSeat = record { consumer = c.commit_and_raise-commit.new.seat.consumer; device = c.end_turn-2.new.seat; written = c.args.seat.now.written } in
     let held = c.in-Ok.ensures.taken.1 in
     let ware = c.commit_and_raise-commit.new.turn.ware in
-    let lasts = g.N.ServiceNaming.lasts in
     let same = c.commit_and_raise-commit.ensures.seat in
     let knows = c.commit_and_raise-commit.new.seat.device.knows in
     let ended = c.end_turn-2.ensures.1 in
-    let unbroken = has_file (log_of ware.device) (c.commit_and_raise-commit.ensures.broken ∙ c.in-Clean.ensures.whole.1 refl) in
     let none = c.in-Clean.ensures.clean refl in (
       had_both c.args.seat.now after c.hand_chain.new.seat c.take.new.seat.knows c.broken.new.seat.knows knows (search (c.if-not-hand_chain.ensures.had)) same.0 held.tally c.broken.ensures.known.1 same.3 ended,
       record {
-        pass = view ware.consumer.pass;
-        from = ware.from.1;
+        half = ware;
+        broken = c.commit_and_raise-commit.ensures.broken ∙ sym (ap (λ (k : Known). k.broken) ended);
+        below = subst (λ (k : Known). NoMore k.seen (told_numbers ware.regions (numbers_of ware.device))) (sym ended) c.commit_and_raise-commit.ensures.below;
         empty = subst (WasFull 0) (sym none.1) none.2;
-        saw = saw_at_most lasts ware.regions (numbers_of ware.device) (view ware.consumer.pass).popped ware.all.0 (ware.synced unbroken) (ware.drawn unbroken) c.end_turn-2.new.seat.knows
-            (subst (λ (k : Known). NoMore k.seen (told_numbers ware.regions (numbers_of ware.device))) (sym ended) c.commit_and_raise-commit.ensures.below);
       },
     )
 
 pub returns-in-WriteFault-clause-fault : goal.returns-in-WriteFault-clause-fault
 returns-in-WriteFault-clause-fault g c is =
-    let after : LogSeat = record { consumer = c.commit_and_raise-commit.new.seat.consumer; device = c.end_turn-2.new.seat } in
+    let after : LogSeat = record { consumer = c.commit_and_raise-commit.new.seat.consumer; device = c.end_turn-2.new.seat; written = c.args.seat.now.written } in
     let held = c.in-Ok.ensures.taken.1 in
     let same = c.commit_and_raise-commit.ensures.seat in
     let ended = c.end_turn-2.ensures.1 in

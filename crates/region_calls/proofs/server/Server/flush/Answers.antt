@@ -1,7 +1,8 @@
-use Rattle.std.proofs.Common.{◌+◌, sym, ap, ◌∙◌, subst, arith, ℕ, List, Contains}
+use Rattle.std.proofs.Common.{◌+◌, sym, ap, ◌∙◌, subst, arith, ℕ, List, Option, Contains}
 use Rattle.std.specs.Option.{option_map}
 use Rattle.pass_calls.specs.log_service.Places.{ServiceId, IsSeatOf}
 use Rattle.pass_calls.specs.region_lock.Answers.{flush_answer}
+use Rattle.pass_calls.specs.region_lock.Logged.{FlushesLog}
 use Rattle.pass_calls.proofs.region_lock_laws.Lists.{length_set}
 use Rattle.region_calls.proofs.Knowing.{hands_set}
 use Rattle.region_calls.proofs.Using.{flush_is, used, flushes_used, flush_hand, at_service}
@@ -59,3 +60,14 @@ flush_in-answer-requires-clause-free g c =
     let k = c.place_of-place.result in
     let u = used pass.handler pass.calls c.args.self.now.regions c.args.region k pass.regions.items p c.requires.of.count c.place_of-place.ensures.place c.requires.region.0 c.place_of-place.ensures.few c.requires.of.hands c.index_mut.ensures.value in
     u.hand.mark
+
+pub returns-clause-family : goal.returns-clause-family
+returns-clause-family g c =
+    let pass = c.args.pass.now in
+    let p = c.index_mut.result.now in
+    let done = c.flush_in-answer in
+    let k = c.place_of-place.result in
+    let family : Option (List ℕ) = option_map (λ (f : _). f.now) c.args.family in
+    let u = used pass.handler pass.calls c.args.self.now.regions c.args.region k pass.regions.items p c.requires.of.count c.place_of-place.ensures.place c.requires.region.0 c.place_of-place.ensures.few c.requires.of.hands c.index_mut.ensures.value in
+    subst (λ (q : ServiceId). FlushesLog g.D.Disk g.N.ServiceNaming q.regions c.args.region family done.new.seat done.result) c.self.view_is
+    (subst (λ (r : ℕ). FlushesLog g.D.Disk g.N.ServiceNaming c.self.inside.service.regions r family done.new.seat done.result) (u.region ∙ u.next) done.ensures.family)
