@@ -38,7 +38,7 @@ def clause(path, call, name):
 
 
 def linked(definition):
-    return f"[{definition.path.removeprefix('crates/')}](../{definition.path}#L{definition.line})"
+    return f"[{definition.path.removeprefix('crates/')}](../{definition.path})"
 
 
 def block(definitions):
