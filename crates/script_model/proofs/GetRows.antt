@@ -92,8 +92,12 @@ unfolding script_fault number_fault token_fault sized_fault ts_fault kind_fault 
 get_in_groups_of_no_version = refl
 
 groups_without_gets : Says Groups (codes "time 5\nregions 2\nhandlers 2\nput 2 2 async 1\ncell r f q 1 delete -\nscan 1 2 - -\nflush 1 1 f\nroll 2\n")
-    (record { time = 5; regions = 2; handlers = (Scan Raw 2 [] [] ∷ Flush 1 (Some (codes "f")) ∷ [])
-    ∷ (Put 2 false (record { table = []; cells = deleted ∷ [] }) ∷ Roll ∷ []) ∷ [] })
+    (record {
+      time = 5;
+      regions = 2;
+      handlers = (Scan Raw 2 [] [] ∷ Flush 1 (Some (codes "f")) ∷ [])
+          ∷ (Put 2 false (record { table = []; cells = deleted ∷ [] }) ∷ Roll ∷ []) ∷ [];
+    })
 unfolding script_fault number_fault token_fault sized_fault ts_fault kind_fault room_fault mode_fault here_fault get_here_fault one_here_fault mode_here_fault kind_here_fault
 groups_without_gets = record { right = refl; is = refl }
 
