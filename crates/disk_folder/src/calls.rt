@@ -5,6 +5,7 @@ ghost use Rattle.std.specs.Prelude.{◌≡◌, ◌≤◌, ◌<◌, ◌+◌, ◌^
 use crate::entries::{is_taken, length_of, names_in, path_of};
 use crate::fault::Fault;
 use crate::folder::{Access, FolderDisk};
+use crate::limits::too_long;
 use disk_images::Name;
 use std::alloc::Global;
 use std::fs::{self, File};
@@ -61,7 +62,7 @@ impl<R: Files<File = File> + AllocGlobal + Clone + Drop> FolderDisk<'_, R> {
         self.hold(Access::Writing)?;
         let count = bytes.len() as u64;
         if at >= LIMIT || count >= LIMIT - at || count > self.most.saturating_sub(at) {
-            return Err(Fault::Call(io::Error::from(ErrorKind::FileTooLarge)));
+            return Err(Fault::Call(too_long()));
         }
         self.open_file(name, true)?;
         self.open.latest()?.write_all_at(bytes, at)?;

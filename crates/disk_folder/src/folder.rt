@@ -27,9 +27,9 @@ pub enum Access {
 /// system: the store is to be opened again, by a new disk.
 ///
 /// The first call that finds the folder locks it until the disk is dropped. Where another program's lock stands against
-/// it, that call fails. A disk for writing syncs the folder and its files then, and drops what memory holds of them, so that
-/// each read gives what the disk has also where a sync of an earlier program failed; a disk for reading does so with each
-/// file that it reads.
+/// it, that call fails. A disk for writing makes sure of the folder then: each log, edits file and new store is copied,
+/// synced and renamed into its own place, so that a later sync pins what reads give also where a sync of an earlier program
+/// failed. It wants the room of the greatest of them.
 #[derive(Drop)]
 pub struct FolderDisk<'a, R> {
     pub(crate) rt: &'a R,

@@ -5,8 +5,16 @@ use std::fs::File;
 use std::io;
 use std::rt::Files;
 
+/// What the system answers to a write past the limit, where its signal doesn't end the process.
+const EFBIG: i32 = 27;
+
 /// Where Linux lists the limits of a process.
 const LIMITS: &str = "/proc/self/limits";
+
+/// A file would get longer than it may.
+pub fn too_long() -> io::Error {
+    io::Error::from_raw_os_error(EFBIG)
+}
 
 /// The greatest length in bytes of a file that this process may write (`ulimit -f`): past it the system would end the process by a
 /// signal. Where the system lists no limits there is none to keep.

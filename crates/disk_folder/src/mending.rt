@@ -7,6 +7,7 @@
 use crate::calls::read_from;
 use crate::entries::{names_in, path_of};
 use crate::fault::Fault;
+use crate::limits::too_long;
 use disk_images::{Name, NameKind};
 use std::alloc::Global;
 use std::fs::{self, File, OpenOptions, Permissions};
@@ -57,7 +58,7 @@ fn mend_named<R: Files<File = File>>(
         return Ok(());
     }
     if found.len() > most {
-        return Err(io::Error::from(ErrorKind::FileTooLarge));
+        return Err(too_long());
     }
     let is_store = name.kind == NameKind::Store;
     if fs::symlink_metadata(rt, path.as_str())?.is_symlink() {
