@@ -72,3 +72,6 @@ pub returns-in-Ok-start-clause-passes : goal.returns-in-Ok-start-clause-passes
 returns-in-Ok-start-clause-passes g c =
     let joined = c.join.ensures.passes in
     (joined.0, joined.1, subst (λ (q : ServiceId). ArePassesOf q g.N.LockNaming.handlers c.join.result.passes) (sym c.join.ensures.server) joined.2)
+
+pub start-requires-clause-came : goal.start-requires-clause-came
+start-requires-clause-came g c = c.requires.name.came_none
