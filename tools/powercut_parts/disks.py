@@ -88,6 +88,6 @@ class Recorded:
 
     def end(self):
         self.mount.end()
-        native.unmount(f"{self.room}/fuse")
-        self.process.wait(30)
+        native.detach(f"{self.room}/fuse")
+        self.process.wait(120)
         os.remove(self.live)

@@ -7,18 +7,23 @@ STORES = ["hwal-store", "hwal-store-1", "hwal-store-2", "hwal-store-3", "hwal-st
 
 
 def files_in(folder):
-    """Returns the files of a folder, bytes by name; none where it isn't there."""
-    out = {}
-    if os.path.isdir(folder):
-        for name in os.listdir(folder):
-            with open(f"{folder}/{name}", "rb") as it:
-                out[name] = it.read()
-    return out
+    """Returns the files of a folder, bytes by name, or None where it isn't there. A folder that can't be read is an error."""
+    try:
+        names = os.listdir(folder)
+    except FileNotFoundError:
+        return None
+    return {name: bytes_of(f"{folder}/{name}") for name in names}
+
+
+def bytes_of(path):
+    with open(path, "rb") as it:
+        return it.read()
 
 
 def stores_in(work):
     """Returns the files of each folder of a store that is there."""
-    return {it: files_in(f"{work}/{it}") for it in STORES if os.path.isdir(f"{work}/{it}")}
+    found = {it: files_in(f"{work}/{it}") for it in STORES}
+    return {it: files for it, files in found.items() if files is not None}
 
 
 def fill(folder, files):

@@ -6,14 +6,15 @@ import native
 
 EXT4 = "mkfs.ext4 -q -F -N 2048 -E lazy_itable_init=0,lazy_journal_init=0"
 
-# Of each kind: the size of its image in MiB, how it is made, the type to mount, the options.
+# Of each kind: the size of its image in MiB, how it is made, the type to mount, the options. (Recordings of one xfs may be tried side
+# by side, hence nouuid.)
 KINDS = {
     "ext4": (96, f"{EXT4} -b 4096 -J size=8", "ext4", ""),
     "ext4-journal": (96, f"{EXT4} -b 4096 -J size=8", "ext4", "data=journal"),
     "ext4-1k": (96, f"{EXT4} -b 1024 -J size=4", "ext4", ""),
     "ext4-fast": (96, f"{EXT4} -b 4096 -J size=8 -O fast_commit", "ext4", ""),
-    "xfs": (300, "mkfs.xfs -q -f", "xfs", ""),
-    "xfs-4k": (300, "mkfs.xfs -q -f -s size=4096", "xfs", ""),
+    "xfs": (300, "mkfs.xfs -q -f", "xfs", "nouuid"),
+    "xfs-4k": (300, "mkfs.xfs -q -f -s size=4096", "xfs", "nouuid"),
     "btrfs": (256, "mkfs.btrfs -q -f", "btrfs", ""),
     "btrfs-nocow": (256, "mkfs.btrfs -q -f", "btrfs", "nodatacow"),
     "btrfs-zstd": (256, "mkfs.btrfs -q -f", "btrfs", "compress-force=zstd"),

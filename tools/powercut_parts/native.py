@@ -11,7 +11,7 @@ import time
 LIBC = ctypes.CDLL(None, use_errno=True)
 LIBC.fallocate.argtypes = [ctypes.c_int, ctypes.c_int, ctypes.c_int64, ctypes.c_int64]
 KEEP_SIZE, PUNCH_HOLE = 1, 2
-NEW_NAMESPACE, PRIVATE_BELOW = 0x20000, 1 << 18 | 1 << 14
+NEW_NAMESPACE, PRIVATE_BELOW, DETACH = 0x20000, 1 << 18 | 1 << 14, 2
 # (calls of loop devices, and the flag of one that is freed once nobody holds it)
 GET_FREE, CONFIGURE, AUTOCLEAR = 0x4C82, 0x4C0A, 4
 
@@ -39,12 +39,18 @@ def mount(source, at, kind, options=""):
 
 
 def unmount(at):
-    """Waits for up to twenty seconds while the mount is busy."""
-    for _ in range(400):
+    """Waits for up to a minute while the mount is busy."""
+    for _ in range(1200):
         if LIBC.umount2(at.encode(), 0) == 0:
             return
         time.sleep(0.05)
     raise failure(f"{at} stays mounted")
+
+
+def detach(at):
+    """Takes a mount down at once, though a loop device may hold a file of it for a while."""
+    if LIBC.umount2(at.encode(), DETACH):
+        raise failure(f"{at} stays mounted")
 
 
 def attached(path):

@@ -56,6 +56,8 @@ class Past:
         """An opening that ended well made all durable that it left, whatever a failed sync had left in doubt."""
         before, self.folders[name] = self.folders[name], rules.Folder(files)
         floor(self.folders[name], before)
+        for it in self.folders[name].files.values():
+            it.may_lack_zeros = True
 
 
 def floor(folder, other):

@@ -14,6 +14,8 @@ class File:
     def __init__(self, name, data=None):
         self.now, self.synced, self.dirty, self.names = bytearray(data or b""), len(data or b""), [], [name]
         self.is_pinned, self.is_doubtful = data is not None, False
+        # (xfs: a file that a failed sync had made longer reads as that long, with zeros at its end, which a power cut takes)
+        self.may_lack_zeros = False
         # (how much of `dirty`, and what length, an fsync that ended has written: durable once the name is)
         self.waits = None
 
@@ -28,6 +30,8 @@ class File:
 
     def wrong(self, left):
         """Returns what is wrong with these bytes as what a crash left of the file, or None."""
+        if self.may_lack_zeros and len(left) < self.synced and not any(self.now[len(left) : self.synced]):
+            left = left + bytes(self.synced - len(left))
         if not self.synced <= len(left) <= len(self.now):
             return f"K1 length {len(left)} of {self.synced}..{len(self.now)}"
         if left[: self.synced] == self.now[: self.synced]:
