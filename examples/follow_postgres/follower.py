@@ -2,6 +2,7 @@
 import tempfile
 import time
 from dataclasses import dataclass
+from typing import Optional
 
 from .psql import Lost, Psql
 from .records import Batch, Records, Taken
@@ -28,7 +29,7 @@ class Waits(Exception):
 @dataclass
 class Settings:
     name: str
-    begin: int | None
+    begin: Optional[int]
     batch: int
     recover: bool
 
@@ -72,21 +73,26 @@ class Follower:
             self.close()
             self.say(f"waits for the database: {why}")
         except Refused as why:
-            self.wait(why)
+            self.behind(why)
             self.close()
             raise
         return False
 
     def wait(self, why):
         """Says what is waited for, and how far the database is behind."""
-        behind = None
+        behind = self.behind(why)
+        self.say(f"waits: {why}" + ("" if behind is None else f"; {behind} entries behind"))
+
+    def behind(self, why):
+        """Returns how many entries the database is behind, and says there why; None without a session."""
+        if not self.records:
+            return None
+        behind = self.store.behind(self.records.position)
         try:
-            if self.records:
-                behind = self.store.behind(self.records.position)
-                self.records.see(behind, str(why))
+            self.records.see(behind, str(why))
         except Lost:
             self.close()
-        self.say(f"waits: {why}" + ("" if behind is None else f"; {behind} entries behind"))
+        return behind
 
     def look(self):
         """Ships what is new, and takes it. Returns whether more is there."""

@@ -1,5 +1,6 @@
 """The record of a store in the database, and the entries that are taken with it."""
 import os
+import time
 from collections import namedtuple
 
 from .psql import quoted
@@ -8,6 +9,7 @@ from .rows import COLUMNS, digest, rows
 SCHEMA = os.path.join(os.path.dirname(os.path.realpath(__file__)), "schema.sql")
 # The advisory locks of followers have this number and that of their store.
 FOLLOWERS = 1752654188
+SEEN_SECONDS = 10
 
 Last = namedtuple("Last", "file place digest")
 
@@ -21,9 +23,11 @@ class Records:
 
     def __init__(self, session, name, begin):
         self.session = session
-        with open(SCHEMA, "rb") as schema:
-            session.send(schema.read())
-        session.wait(session.mark())
+        # Only where it isn't there: whoever reads would keep it from being replaced.
+        if session.ask("select to_regclass('hwal.lag') is null") == [["t"]]:
+            with open(SCHEMA, "rb") as schema:
+                session.send(schema.read())
+            session.wait(session.mark())
         session.ask(f"insert into hwal.stores (name, file, entries) values ({quoted(name)}, 1, 0) on conflict do nothing")
         self.store = int(session.ask(f"select store from hwal.stores where name = {quoted(name)}")[0][0])
         if session.ask(f"select pg_try_advisory_lock({FOLLOWERS}, {self.store})") != [["t"]]:
@@ -33,7 +37,7 @@ class Records:
         kept = session.ask(f"select file, entries, last_file, last_place, encode(last_digest, 'hex') from hwal.stores where store = {self.store}")[0]
         self.position = int(kept[0]), int(kept[1])
         self.last = Last(int(kept[2]), int(kept[3]), kept[4]) if kept[2] else None
-        self.numbers = self.last_numbers()
+        self.numbers, self.seen = self.last_numbers(), (None, None, 0)
 
     def last_numbers(self):
         """Returns the last number of each region that has entries."""
@@ -56,7 +60,11 @@ class Records:
             self.session.wait(self.move(position, self.last))
 
     def see(self, behind, waits_for):
-        """Says in the database what the follower saw."""
+        """Says in the database what the follower saw; nothing, where it said the same a short time ago."""
+        now = time.monotonic()
+        if self.seen[:2] == (behind, waits_for) and now < self.seen[2] + SEEN_SECONDS:
+            return
+        self.seen = behind, waits_for, now
         complete = ", complete_at = now()" if behind == 0 and not waits_for else ""
         why = quoted(waits_for) if waits_for else "null"
         self.session.ask(f"update hwal.stores set looked_at = now(), entries_behind = {behind}, waits_for = {why}{complete} where store = {self.store}")

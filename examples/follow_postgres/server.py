@@ -47,9 +47,12 @@ class Server:
         ran = subprocess.run([program(name), *words], check=False, **how)
         return ran.returncode, ran.stdout.decode(errors="replace").strip()
 
+    def is_made(self):
+        return os.path.exists(f"{self.folder}/PG_VERSION")
+
     def make(self):
         """Makes the folder, and a database in it, where there is none. Whoever may enter the folder may use the database."""
-        if os.path.exists(f"{self.folder}/PG_VERSION"):
+        if self.is_made():
             return
         os.makedirs(self.folder, 0o700, exist_ok=True)
         if self.user:

@@ -20,7 +20,7 @@ class Store:
     def __init__(self, directory, hwal):
         self.directory, self.hwal = os.path.realpath(directory), os.path.realpath(hwal)
         self.folder = os.path.join(self.directory, "hwal-store")
-        # of each log that was counted: its size then, the place of its next gate, and how many entries stand in front of that
+        # of each log that was counted, by number and inode: the place of its next gate, and how many entries stand in front of that
         self.counted = {}
 
     @contextlib.contextmanager
@@ -66,18 +66,17 @@ class Store:
     def entries_of(self, number, path):
         """Counts the entries of a log by its gates and lengths, from where it was counted before. It needs no lock: of a log that is
         written it tells what was committed so far."""
-        gate, entries = self.counted.get(number, (HEADER, 0))
         try:
             with open(path, "rb") as log:
-                if os.fstat(log.fileno()).st_size < gate:
-                    gate, entries = HEADER, 0
+                key = number, os.fstat(log.fileno()).st_ino
+                gate, entries = self.counted.get(key, (HEADER, 0))
                 log.seek(gate)
                 while len(front := log.read(6)) == 6 and front[0] == OPEN and front[1] in ENTRIES:
                     gate, entries = gate + 6 + struct.unpack(">I", front[2:])[0], entries + 1
                     log.seek(gate)
         except FileNotFoundError:
-            return entries
-        self.counted[number] = gate, entries
+            return 0
+        self.counted[key] = gate, entries
         return entries
 
     def behind(self, position):

@@ -77,12 +77,12 @@ class Bench:
 
     # ---- the follower
 
-    def follow(self, rounds=4000, recover=False, batch=1000):
-        """Starts a follower."""
+    def follow(self, rounds=4000, recover=False, batch=1000, around=None):
+        """Starts a follower, in this environment beside its own."""
         words = [self.path, "--store", self.store.directory, "--name", self.name, "--database", self.server.database(), "--batch", str(batch)]
         words += ["--every", "0.05", "--rounds", str(rounds)] + (["--recover"] if recover else [])
         said = open(f"{self.folder}/said", "ab")
-        child = subprocess.Popen(words, env={**os.environ, "HWAL": self.program}, stdin=subprocess.DEVNULL, stdout=said, stderr=said)
+        child = subprocess.Popen(words, env={**os.environ, "HWAL": self.program, **(around or {})}, stdin=subprocess.DEVNULL, stdout=said, stderr=said)
         self.followers.append(child)
         return child
 

@@ -1,6 +1,7 @@
 """What happens to a follower, its database and its store, one thing a round."""
 import os
 import shutil
+import signal
 import time
 
 from follow_postgres.compare import first_difference
@@ -28,6 +29,14 @@ class Trial(Bench):
         child = self.follow()
         self.sometime()
         self.end(child)
+
+    def commit(self):
+        self.write(3000)
+        self.recover()
+        killing = os.path.join(os.path.dirname(os.path.realpath(__file__)), "killing")
+        at, when = self.chance.randint(1, 3), self.chance.choice(["before", "after"])
+        around = {"PATH": f"{killing}:{os.environ['PATH']}", "REAL_PSQL": shutil.which("psql"), "KILL_AT": str(at), "KILL_WHEN": when}
+        self.finish(self.follow(rounds=20, around=around), (0, -signal.SIGKILL))
 
     def database(self):
         self.write(3000)
@@ -114,7 +123,8 @@ class Trial(Bench):
             self.begin_store()
             self.write(500)
             self.take_all(recover=True)
-        happens = [self.quiet, self.follower, self.database, self.store_killed, self.deleted, self.put_back, self.two, self.all][number % 8]
+        things = [self.quiet, self.follower, self.commit, self.database, self.store_killed, self.deleted, self.put_back, self.two, self.all]
+        happens = things[number % len(things)]
         happens()
         self.recover()
         self.take_all()
