@@ -5,8 +5,9 @@ Each definition and field that is named here has to be in the sources; `tools/he
 
 # (words of the sentence, where, what they are). Where: DEFINITION or DEFINITION.FIELD.
 SENTENCE = [
-    ("For every script", ["RunsScript"],
-     "Of each script that a source holds, whatever the store was found to have and in which order the handlers' threads took turns."),
+    ("For every script", ["RunsScript", "EndsRun"],
+     "Of each script that a source holds, in whatever order the handlers' threads took turns. `EndsRun` has each way in which a run ends: "
+     "where the files found aren't sound, the disk failed or memory ran out, it may end with one line and no report."),
     ("the report gives each region one list of numbered edits", ["IsHeadline.is", "report_of", "IsOneReport.regions", "IsJournal.numbers"],
      "The bytes printed are the report of `histories` and `replies`. There is one `History` for each region from 1 on: its base, which "
      "is what the files found recover to, and one list of edits, numbered from the base on without gaps."),
