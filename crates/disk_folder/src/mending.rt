@@ -12,11 +12,14 @@ use disk_images::{Name, NameKind};
 use std::alloc::Global;
 use std::fs::{self, File, OpenOptions, Permissions};
 use std::io::{self, ErrorKind};
-use std::os::unix::fs::{FileExt, MetadataExt, PermissionsExt, fchown};
+use std::os::unix::fs::{FileExt, MetadataExt, OpenOptionsExt, PermissionsExt, fchown};
 use std::rt::Files;
 
 /// How many bytes are copied at a time.
 const PIECE: usize = 65_536;
+
+/// The mode of a copy until it gets that of the file: nobody else reads its bytes meanwhile.
+const OWNER_ALONE: u32 = 0o600;
 
 /// Makes sure of the folder that this handle has locked: each log, edits file and store is one that no sync failed of, and their
 /// names are durable. A store is written anew once: it is read-only from then on. No old log is: a log is made sure of
@@ -94,6 +97,7 @@ fn renew<R: Files<File = File>>(
     let new = OpenOptions::new()
         .write(true)
         .create_new(true)
+        .mode(OWNER_ALONE)
         .open(rt, part.as_str())?;
     copy_bytes(alloc, &old, &new)?;
     copy_access(&old, &new, is_store)?;
@@ -132,9 +136,11 @@ fn copy_access(old: &File, new: &File, is_store: bool) -> io::Result<()> {
     unless_denied(new.set_permissions(Permissions::from_mode(mode)))
 }
 
+/// An owner or a mode that this process may not set stays. In a user namespace an owner that it doesn't map can't be named.
 fn unless_denied(given: io::Result<()>) -> io::Result<()> {
     match given {
-        Err(e) if e.kind() == ErrorKind::PermissionDenied => Ok(()),
+        Err(e) if e.kind() == ErrorKind::PermissionDenied || e.kind() == ErrorKind::InvalidInput =>
+            Ok(()),
         other => other,
     }
 }
