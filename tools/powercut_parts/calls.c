@@ -7,7 +7,7 @@
 //
 // POWERCUT_SKIP leaves calls out that the program believes were made, so that the trial is seen to find what they guard:
 // `files` (each fsync of a file), `writes` (every other one), `folders` (fsync of a folder), `around` (fsync of the working
-// directory alone), `drops` (posix_fadvise).
+// directory alone), `copies` (fsync of a NAME.part).
 //
 // POWERCUT_FAIL is `NAME N`: while the Nth fsync of the file or folder NAME runs (`*`: of any), the first write that
 // reaches the disk fails.
@@ -128,6 +128,11 @@ static ssize_t written(int fd, const void *bytes, size_t length, off_t at) {
 ssize_t pwrite(int fd, const void *bytes, size_t length, off_t at) { return written(fd, bytes, length, at); }
 ssize_t pwrite64(int fd, const void *bytes, size_t length, off64_t at) { return written(fd, bytes, length, at); }
 
+static int is_copy(const char *path) {
+    const char *dot = strrchr(path, '.');
+    return dot && !strcmp(dot, ".part");
+}
+
 static int is_left_out(int fd, const char *path) {
     static int turn;
     struct stat st;
@@ -137,6 +142,7 @@ static int is_left_out(int fd, const char *path) {
         if (!getcwd(here, sizeof here)) return 0;
         return !strcmp(skip, "folders") || (!strcmp(skip, "around") && !strcmp(path, here));
     }
+    if (!strcmp(skip, "copies")) return is_copy(path);
     return !strcmp(skip, "files") || (!strcmp(skip, "writes") && __atomic_fetch_add(&turn, 1, __ATOMIC_SEQ_CST) % 2);
 }
 
@@ -160,15 +166,6 @@ static int synced(int fd, long number) {
 }
 int fsync(int fd) { return synced(fd, SYS_fsync); }
 int fdatasync(int fd) { return synced(fd, SYS_fdatasync); }
-
-static int advised(int fd, off_t at, off_t length, int advice) {
-    if (!strcmp(skip, "drops")) return 0;
-    int kept = errno, status = syscall(SYS_fadvise64, fd, at, length, advice) == 0 ? 0 : errno;
-    errno = kept;
-    return status;
-}
-int posix_fadvise(int fd, off_t at, off_t length, int advice) { return advised(fd, at, length, advice); }
-int posix_fadvise64(int fd, off64_t at, off64_t length, int advice) { return advised(fd, at, length, advice); }
 
 int rename(const char *from, const char *to) {
     char old[PATH_MAX], new[PATH_MAX];

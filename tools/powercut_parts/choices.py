@@ -8,14 +8,15 @@ def is_edge(records, at):
 
 
 def moments_of(records, start, end, most, chance):
-    """Returns which moments are tried, as counts of records: mostly those before and after a flush, and few after the last command."""
+    """Returns which moments are tried, as counts of records: mostly those before and after a flush, few after the last command, and
+    always the one at which it has ended."""
     edges = [at for at in range(start, end + 1) if at < len(records) and is_edge(records, at) or at and is_edge(records, at - 1)]
     rest = sorted({*range(start, end + 1)} - {*edges})
     after = list(range(end + 1, len(records) + 1))
     if len(edges) + len(rest) + len(after) > most:
         few = lambda of, share: chance.sample(of, min(len(of), max(1, int(most * share))))
         edges, rest, after = few(edges, 0.65), few(rest, 0.25), few(after, 0.1)
-    return sorted({*edges, *rest, *after})
+    return sorted({*edges, *rest, *after, end})
 
 
 def choices_of(loose, is_before_flush, subsets, chance):

@@ -5,6 +5,9 @@ import shutil
 # Where the program keeps its stores, below the working directory.
 STORES = ["hwal-store", "hwal-store-1", "hwal-store-2", "hwal-store-3", "hwal-store-4"]
 
+# The end of the name of a copy that isn't in its place: no file of a store.
+PART = ".part"
+
 
 def files_in(folder):
     """Returns the files of a folder, bytes by name, or None where it isn't there. A folder that can't be read is an error."""
@@ -24,6 +27,11 @@ def stores_in(work):
     """Returns the files of each folder of a store that is there."""
     found = {it: files_in(f"{work}/{it}") for it in STORES}
     return {it: files for it, files in found.items() if files is not None}
+
+
+def without_parts(files):
+    """Returns the files of the store among these."""
+    return {name: data for name, data in files.items() if not name.endswith(PART)}
 
 
 def fill(folder, files):

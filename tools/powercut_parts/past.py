@@ -42,8 +42,10 @@ class Past:
         if step["status"]:
             folder.resume(files)
         elif folder.is_doubtful:
-            self.restart(name, files)
-        elif {it: bytes(file.now) for it, file in folder.files.items()} != files:
+            # (an opening that ended well has renewed each such file, or must answer for all that it left)
+            self.folders[name] = rules.Folder(files)
+            floor(self.folders[name], folder)
+        elif {it: bytes(file.now) for it, file in folder.files.items()} != folders.without_parts(files):
             raise ValueError(f"{name} isn't what the notes say after {step['line']}")
         else:
             floor(folder, rules.Folder(files))
@@ -51,13 +53,6 @@ class Past:
     def contents(self):
         """Returns the files of each folder, as the program wrote them."""
         return {name: {it: bytes(file.now) for it, file in folder.files.items()} for name, folder in self.folders.items() if folder.files}
-
-    def restart(self, name, files):
-        """An opening that ended well made all durable that it left, whatever a failed sync had left in doubt."""
-        before, self.folders[name] = self.folders[name], rules.Folder(files)
-        floor(self.folders[name], before)
-        for it in self.folders[name].files.values():
-            it.may_lack_zeros = True
 
 
 def floor(folder, other):

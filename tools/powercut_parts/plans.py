@@ -8,6 +8,7 @@ import subprocess
 
 import disks
 import images
+import native
 import notes
 import past
 import sessions
@@ -15,15 +16,15 @@ from recording import record
 from trial import Count, Trial
 
 # How many moments of a recording in which a sync fails are tried, and among how many syncs the second failure is drawn.
-MOMENTS, SECOND = 12, 10
+MOMENTS, SECOND = 12, 30
 
 
 class Plan:
     """A session on a file system: how it is recorded and tried, and where what went wrong is kept."""
 
-    def __init__(self, way, depth, kind, session, seed, keep=None):
-        self.way, self.depth, self.kind, self.session, self.seed, self.keep = way, depth, kind, session, seed, keep
-        self.title = f"{kind} {session} {seed}"
+    def __init__(self, way, depth, kind, session, seed, keep=None, share=(1, 1)):
+        self.way, self.depth, self.kind, self.session, self.seed, self.keep, self.share = way, depth, kind, session, seed, keep, share
+        self.title = f"{kind} {session} {seed}" + (f" share {share[0]}" if share[1] > 1 else "")
 
     def tried(self, room):
         """Returns (title, count) of what was recorded."""
@@ -60,15 +61,29 @@ class Plan:
         image = self.after(image, before, f"{room}/before.img", room)
         count, depth = Count(), self.depth._replace(moments=min(self.depth.moments, MOMENTS), again=0)
         chance = random.Random(self.seed)
-        for name, turn in self.syncs(image, command, room):
+        first, every = self.share
+        for name, turn in self.syncs(image, command, room)[first - 1 :: every]:
+            if self.depth.is_over():
+                break
             steps = [command._replace(fails=f"{name} {turn}", what="any"), sessions.command("recover", what="any")]
             if self.session == "fail-twice":
                 steps.insert(1, sessions.command("recover", what="any", fails=f"* {chance.randint(1, SECOND)}"))
-            one, _ = self.cuts(image, steps, room, f"{self.title} {name} {turn}", depth, is_failing=True)
+            one = self.failure(image, steps, room, f"{self.title} {name} {turn}", depth)
             for it in one.wrong:
                 it["fails"] = f"{name} {turn}"
             count.add(one)
         return count
+
+    def failure(self, image, steps, room, title, depth):
+        """Returns the count of a recording in which a sync fails; one that can't be tried is wrong, and keeps no other from it."""
+        try:
+            return self.cuts(image, steps, room, title, depth, is_failing=True)[0]
+        except (OSError, ValueError) as e:
+            native.release(room)
+            shutil.rmtree(f"{room}/recording", ignore_errors=True)
+            out = Count(recordings=1)
+            out.wrong = [{"moment": 0, "of": 0, "choice": 0, "what": "", "chosen": 0, "loose": 0, "torn": None, "wrong": f"UNTRIED {e}"}]
+            return out
 
     def after(self, image, steps, to, room):
         """Returns an image of the file system after these commands."""

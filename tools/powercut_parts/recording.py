@@ -46,17 +46,29 @@ def record(way, kind, image, steps, room, seed):
 
 def ran(way, disk, work, step, room, at):
     """Runs a command, and returns what is recorded of it."""
-    env = {**os.environ, "LD_PRELOAD": way.library, "POWERCUT_CALLS": f"{room}/notes-{at}", "POWERCUT_SHARED": disk.shared, "POWERCUT_SKIP": way.skip, "POWERCUT_FAIL": step.fails}
-    words = ["run"] if step.what == "killed" else step.words
+    said = {"CALLS": f"{room}/notes-{at}", "SHARED": disk.shared, "SKIP": way.skip, "FAIL": step.fails}
+    env = {**os.environ, "LD_PRELOAD": way.library, **{f"POWERCUT_{name}": value for name, value in said.items()}}
+    words = command_of(way.program, ["run"] if step.what == "killed" else step.words)
     with open(f"{room}/script", "wb") as it:
         it.write(step.given)
     with open(f"{room}/script", "rb") as it, open(f"{room}/out-{at}", "wb") as out:
-        process = subprocess.Popen([way.program, *words], cwd=work, stdin=it, stdout=out, stderr=subprocess.STDOUT, env=env)
+        process = subprocess.Popen(words, cwd=work, stdin=it, stdout=out, stderr=subprocess.STDOUT, env=env)
         status = ended(process, disk, step)
     if step.what == "hwal" and status and not step.fails:
         with open(f"{room}/out-{at}", errors="replace", encoding="utf-8") as it:
             raise OSError(f"{words} ended with {status}: {it.read()[-300:]}")
     return {"line": words, "notes": f"notes-{at}", "status": status, "done": disk.done(), "stores": looked_at(work)}
+
+
+def command_of(program, words):
+    """Returns the program and its words: `groups` is a program of its own."""
+    return [groups_of(program), *words[1:]] if words[0] == "groups" else [program, *words]
+
+
+def groups_of(program):
+    """Returns the program of `groups`: beside the other one, or in its own crate."""
+    beside = f"{os.path.dirname(program)}/hwal_groups"
+    return beside if os.path.isfile(beside) else f"{os.path.dirname(program)}/../../hwal_groups/out/hwal_groups"
 
 
 def ended(process, disk, step):

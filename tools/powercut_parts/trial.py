@@ -1,6 +1,7 @@
 """Cuts of one recording: which images there are, and what is wrong with what they leave."""
 import os
 import random
+import time
 from typing import NamedTuple
 
 import choices
@@ -26,6 +27,11 @@ class Depth(NamedTuple):
     is_junk: bool = False
     only: int | None = None
     again: int = 0
+    end: float | None = None
+
+    def is_over(self):
+        """Whether no further moment is to be tried."""
+        return self.end is not None and time.time() > self.end
 
 
 class Count:
@@ -66,7 +72,10 @@ class Trial:
         moments = choices.moments_of(self.records, start, steps[-1]["done"], depth.moments, chance) if depth.only is None else [depth.only]
         again = set(chance.sample(moments, min(depth.again, len(moments))))
         cuts = images.Cuts(self.recording["image"], self.records, self.cover, self.room)
-        for k in moments:
+        for at, k in enumerate(moments):
+            if depth.is_over():
+                moments = moments[:at]
+                break
             cuts.move_to(k)
             self.past.move_to(k)
             self.moment(k, cuts, depth, seed, chance, k in again)

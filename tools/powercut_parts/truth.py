@@ -1,4 +1,5 @@
 """What was put in a session, whatever a cut may leave of it."""
+import folders
 import past
 import stores
 
@@ -31,7 +32,7 @@ def put_in_folder(turns, program, scratch):
 def fresh_logs(turns):
     """Gives of each turn the logs that no earlier one has."""
     seen = set()
-    for files in turns:
+    for files in map(folders.without_parts, turns):
         logs = {name: data for name, data in files.items() if name.startswith(("log-", "old-")) and data not in seen}
         seen.update(logs.values())
         yield logs
