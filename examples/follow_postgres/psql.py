@@ -8,7 +8,7 @@ class Lost(Exception):
 
 
 class Psql:
-    """Each statement goes to psql's standard input, and behind it a line that psql prints when it gets there. At the first error, and
+    """Each statement goes to psql's standard input, and after it a line that psql prints when it gets there. At the first error, and
     where the server is gone, psql ends: it never goes on in another session, so a lock that the session took is held while it lives."""
 
     def __init__(self, database):

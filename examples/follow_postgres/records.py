@@ -71,7 +71,7 @@ class Records:
 
 
 class Batch:
-    """Entries on their way into the database. A transaction has so many of them, and the record behind the last one. While the database
+    """Entries on their way into the database. A transaction has so many of them, and the record after the last one. While the database
     ends a transaction the next one is sent."""
 
     def __init__(self, records, entries, most_bytes):

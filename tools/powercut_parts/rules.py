@@ -1,9 +1,9 @@
 """The crash rules of the disk, over the calls that a program made on one folder: what a crash may leave.
 
 A `Folder` is given the calls in order, each when it begins and when it ends, and says of the files that a real crash left
-whether the rules allow them. A call that has begun and not ended may have been done or not (K6). Names are pinned by an fsync
+whether the rules allow them. A call that has begun and not ended may have been done or not. Names are pinned by an fsync
 of the folder; a file's content by its own fsync, from the moment on at which its name is pinned too. Nothing is pinned by a
-call that failed (K7), nor by a later fsync of a file whose fsync failed once: the kernel may answer Ok and write nothing.
+call that failed, nor by a later fsync of a file whose fsync failed once: the kernel may answer Ok and write nothing.
 
 A `NAME.part` is no file of a store, and is judged by nothing. Once it is renamed over NAME the name has its bytes, and until
 that is durable a crash may leave the file that had the name before, with what the disk has of it.
@@ -39,7 +39,7 @@ class File:
 
     def unlike(self, left):
         if not self.synced <= len(left) <= len(self.now):
-            return f"K1 length {len(left)} of {self.synced}..{len(self.now)}"
+            return f"content length {len(left)} of {self.synced}..{len(self.now)}"
         if left[: self.synced] == self.now[: self.synced]:
             return None
         loose = bytearray(self.synced)
@@ -48,7 +48,7 @@ class File:
             loose[start:end] = b"\1" * max(0, end - start)
         for at in range(self.synced):
             if left[at] != self.now[at] and not loose[at]:
-                return f"{'K1' if self.dirty else 'K5'} byte {at} is {left[at]:02x}, synced as {self.now[at]:02x}"
+                return f"{'content' if self.dirty else 'pinned'} byte {at} is {left[at]:02x}, synced as {self.now[at]:02x}"
         return None
 
 
@@ -174,12 +174,12 @@ class Folder:
             known.update(file.names)
             there = [it for it in file.names if it in left]
             if not there and file.is_pinned:
-                wrong.append(f"{'K3' if len(file.names) > 1 else 'K5'} {' and '.join(file.names)} absent")
+                wrong.append(f"{'name' if len(file.names) > 1 else 'pinned'} {' and '.join(file.names)} absent")
             wrong += wrong_under(there, file, left, "")
         for file in self.removed:
             known.update(file.names)
             wrong += wrong_under([it for it in file.names if it in left and it not in self.files], file, left, ", removed")
-        return wrong + [f"K4 {it} stands, and may not" for it in left if it not in known]
+        return wrong + [f"removed {it} stands, and may not" for it in left if it not in known]
 
     def used(self, left):
         """Returns which rules these files need: where they aren't what reads gave."""
@@ -187,18 +187,18 @@ class Folder:
         for name, file in self.files.items():
             there = [it for it in file.names if it in left]
             if not there:
-                out.add("K2")
+                out.add("absent")
             elif there != [name]:
-                out.add("K3")
+                out.add("name")
             if there and left[there[0]] != file.now:
-                out.add("K1")
+                out.add("content")
         if any(it in left and it not in self.files for file in self.removed for it in file.names):
-            out.add("K4")
+            out.add("removed")
         return out
 
 
 def wrong_under(there, file, left, which):
     """Returns what is wrong with a file that stands under these names."""
-    wrong = [f"K3 stands as {' and '.join(there)}{which}"] if len(there) > 1 else []
+    wrong = [f"name stands as {' and '.join(there)}{which}"] if len(there) > 1 else []
     found = [(it, file.wrong(left[it])) for it in there]
     return wrong + [f"{it}{which}: {why}" for it, why in found if why]

@@ -2,7 +2,7 @@
 from trial import FAULTS, Count
 
 COLUMNS = [*Count.NUMBERS[1:], *FAULTS, "wrong", "seconds"]
-WIDTHS = [max(6, len(it) + 1) if it not in ("K1", "K2", "K3", "K4") else 5 for it in COLUMNS]
+WIDTHS = [max(6, len(it) + 1) for it in COLUMNS]
 SHOWN = 6
 
 

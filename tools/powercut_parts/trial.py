@@ -13,7 +13,7 @@ import requests
 import stores
 import truth
 
-RULES = ("K1", "K2", "K3", "K4")
+RULES = ("content", "absent", "name", "removed")
 # What is counted of the lines that say what is wrong: a word for it, and what such a line has.
 FAULTS = {"lost": "LOST", "rules": "RULE", "refused": "REFUSED", "unmounted": "MOUNT"}
 
