@@ -20,14 +20,15 @@ loop-at-preserved g c =
     let room : List ℕ = take (at + c.min-want.result - at) (drop at c.loop-at.into) in
     let rest : List ℕ = drop (at + c.min-want.result - at) (drop at c.loop-at.into) in (
       record {
+        some = omega (arith, so_far.some);
         within = omega (arith, c.in_ok-n.ensures.within, c.read.auto.into, length-append (take at c.loop-at.into) (c.read.new.into ++ rest), length-append c.read.new.into rest, length-take at c.loop-at.into, so_far.within);
         part = λ told bytes reads.
             let now = subst (λ (f : Files). Reads f c.args.name bytes) (sym (so_far.looks told).files) reads in
             filled c.loop-at.into bytes c.read.new.into (drop n room) rest at n (length room) so_far.within (so_far.part told bytes reads)
             (c.in_ok-n.ensures.bytes told bytes now) (c.in_ok-n.ensures.count told bytes now);
         looks = λ told.
-            looks_more (at + 1) (at + n) (g.D.Disk.view c.args.disk.now) (g.D.Disk.view c.read.new.self) (some_more at n c.if-n-eq0.false)
-            (looks_on at (g.D.Disk.view c.args.disk.now) (g.D.Disk.view c.loop-at.disk) (g.D.Disk.view c.read.new.self) (so_far.looks told) (c.read.ensures.looks told));
+            looks_more (at - 1 + 1) (at + n - 1) (g.D.Disk.view c.args.disk.now) (g.D.Disk.view c.read.new.self) (omega (arith, so_far.some, some_more at n c.if-n-eq0.false))
+            (looks_on (at - 1) (g.D.Disk.view c.args.disk.now) (g.D.Disk.view c.loop-at.disk) (g.D.Disk.view c.read.new.self) (so_far.looks told) (c.read.ensures.looks told));
       },
       omega (arith, c.loop-at.invariant.1, c.read.ensures.cause.later),
     )
