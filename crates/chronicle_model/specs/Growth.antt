@@ -35,6 +35,12 @@ IsReached files p =
     ((higher : ℕ) × (p.file < higher) × LogIsThere files higher)
     ⊎ ((entries : List Entry) × (ended : Option ℕ) × HasLog files p.file entries ended × (p.entries ≤ length entries))
 
+-- The highest log has no end: more entries may come in it.
+abbrev pub IsGoingOn : Files → Type 0
+IsGoingOn files =
+    (number : ℕ) (entries : List Entry) (ended : Option ℕ) → HasLog files number entries ended
+    → ((higher : ℕ) → number < higher → bytes_of files higher ≡ None) → ended ≡ None
+
 -- ---- laws
 
 abbrev pub ChronicleIsOne : Type 0
