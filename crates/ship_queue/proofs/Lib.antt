@@ -3,7 +3,7 @@ mod Each
 pub mod Sends
 pub mod Behind
 pub mod Records
-mod Steps
+pub mod Steps
 pub mod Places
 mod ReadingLaws
 pub mod Going

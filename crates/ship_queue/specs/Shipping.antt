@@ -3,6 +3,7 @@ use Rattle.std.specs.Prelude.{◌≡◌, ◌⊎◌, ◌≤◌, ◌<◌, ◌+◌,
 use Rattle.cell_model.specs.Lists.{IsPrefix}
 use Rattle.log_model.specs.Files.{Files}
 use Rattle.chronicle_model.specs.Chronicle.{Placed, Position, IsChronicle, behind}
+use Rattle.chronicle_model.specs.Growth.{IsReached}
 use Rattle.chronicle_model.specs.Shipping.{Step}
 use Rattle.ship_queue.specs.Course.{IsText}
 use Rattle.ship_queue.specs.Messages.{Message, Entry_of, Record_of, shipped_in, recorded_in}
@@ -52,6 +53,21 @@ pub record IsPartShip (c : List Placed) (p : Position) (before after : List Mess
   pub begins : IsPrefix more (behind c p)
   pub recorded : (recorded_in after ≡ recorded_in before)
       ⊎ ((q : Position) × (recorded_in after ≡ Some q) × (done : List Placed) × IsPrefix done more × (behind c p ≡ done ++ behind c q))
+
+-- the second position is the first one, or further on
+abbrev pub IsOnward : Position → Position → Type 0
+IsOnward p q = (p.file < q.file) ⊎ ((p.file ≡ q.file) × (p.entries ≤ q.entries))
+
+-- a reader that began at the first position stops at the second one
+pub record IsStop (files : Files) (p q : Position) : Type 0 where
+  pub onward : IsOnward p q
+  pub reached : (q ≡ p) ⊎ IsReached files q
+
+-- Since it was told the first messages a peer was shipped a beginning of what stands behind the position, and has recorded
+-- nothing, or a position where a reader stops.
+pub record IsShipStep (files : Files) (c : List Placed) (p : Position) (before after : List Message) : Type 0 where
+  pub part : IsPartShip c p before after
+  pub stop : (q : Position) → recorded_in after ≡ Some q → (recorded_in before ≡ Some q) ⊎ IsStop files p q
 
 -- what was read between them
 abbrev pub HasReadUpTo : List Placed → Position → Position → Type 0
