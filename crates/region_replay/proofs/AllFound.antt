@@ -6,17 +6,19 @@ use Rattle.std.proofs.lemmas.List.Elements.{Contains-get_or}
 use Rattle.log_model.specs.declared.name.Name.{Name}
 use Rattle.log_model.specs.declared.name.NameKind.TheVariants as kinds
 use Rattle.log_model.specs.Files.{Files, name_cmp, IsPresent}
-use Rattle.recovery_laws.specs.Alike.{AllAlike}
+use Rattle.recovery_laws.specs.Alike.{AllAlike, StoresStand}
 use Rattle.wal_split.specs.declared.flushed.RegionFlushed.{RegionFlushed}
 use Rattle.wal_split.specs.declared.job.EditsJob.{EditsJob}
 use Rattle.wal_split.specs.declared.split_files.SplitFiles.{SplitFiles}
 use Rattle.wal_split.specs.Left.{IsInRange, AreLeft}
 use Rattle.region_replay.specs.declared.found.RegionFiles.{RegionFiles}
 use Rattle.region_replay.specs.Dealt.{IsDealt, AreDealt}
-use Rattle.region_replay.specs.Opened.{AreOf}
+use Rattle.region_replay.specs.Opened.{AreOf, AreStoresReplayed}
 use Rattle.region_replay.specs.Ready.{Found, IsOf}
 use Rattle.region_replay.specs.Regions.{IsInOrder, IsFound}
-use Rattle.region_replay.specs.Whole.{AreApart, AreAllFound, AllOf, NoNewNames}
+use Rattle.region_replay.specs.Stored.{StoresReplayed}
+use Rattle.region_replay.specs.Whole.{AreApart, AreAllFound, AllOf, AllStoresReplayed, NoNewNames}
+use Rattle.region_replay.proofs.NewStores.{all_stored_since}
 use Rattle.region_replay.proofs.Passing.{of_alike}
 use Rattle.region_replay.proofs.RegionsFound.{is_found}
 use Rattle.region_replay.proofs.RegionsInOrder.{in_order}
@@ -61,6 +63,17 @@ all_in_order old now new alike r (x ∷ xs) (y ∷ ys) from all =
       all_in_order old now new alike (r + 1) xs ys (λ k d lt. (let next : (get_or xs k d).region ≡ r + suc k = from (suc k) d (omega (arith, lt)) in omega (arith, next))) all.1,
     )
 
+-- and what was stored of them
+stored_in_order : (old now new : Files) → StoresStand old now → (r : ℕ) (xs : List RegionFiles) (ys : List Found) → AreFrom r xs → AllStoresReplayed now new xs ys → AreStoresReplayed old new r ys
+stored_in_order old now new stand r [] [] from all = tt
+stored_in_order old now new stand r [] (y ∷ ys) from all = absurd all
+stored_in_order old now new stand r (x ∷ xs) [] from all = absurd all
+stored_in_order old now new stand r (x ∷ xs) (y ∷ ys) from all =
+    let one : x.region ≡ r + zero = from zero x (omega arith) in (
+      all_stored_since old now new stand r y (subst (λ (q : ℕ). StoresReplayed now new q y) (omega (arith, one)) all.0),
+      stored_in_order old now new stand (r + 1) xs ys (λ k d lt. (let next : (get_or xs k d).region ≡ r + suc k = from (suc k) d (omega (arith, lt)) in omega (arith, next))) all.1,
+    )
+
 module _ (told : Type 0) (x : SplitFiles) (range : IsInRange x) (xs : List RegionFiles) (dealt : AreDealt x.plan.jobs.items x.plan.flushed.items x.names x.stores.items x.plan.kept.items xs) where
   some_job : EditsJob
   some_job = (let long = range.long in first_job x.plan.jobs.items (omega (arith, long)))
@@ -76,6 +89,9 @@ module _ (told : Type 0) (x : SplitFiles) (range : IsInRange x) (xs : List Regio
 
   pub all_told : (old now new : Files) → AllAlike old now → (ys : List Found) → AllOf now new xs ys → AreOf old new 1 ys
   all_told old now new alike ys all = all_in_order old now new alike 1 xs ys from_one all
+
+  pub all_stored : (old now new : Files) → StoresStand old now → (ys : List Found) → AllStoresReplayed now new xs ys → AreStoresReplayed old new 1 ys
+  all_stored old now new stand ys all = stored_in_order old now new stand 1 xs ys from_one all
 
   pub each_in_order : (told → AllPairs (λ a b. name_cmp a b ≡ Less) x.names) → (y : RegionFiles) → Contains xs y → IsInOrder told y
   each_in_order rise y has =

@@ -24,7 +24,7 @@ use Rattle.wal_split.proofs.Holding.{held_moments, still_held}
 use Rattle.region_replay.proofs.Showing.{cut_in}
 use Rattle.region_replay.specs.Cuts.{IsUnflushedCut}
 
-gate_of : (s : Store) → IsThere (store_text Tagged s)
+pub gate_of : (s : Store) → IsThere (store_text Tagged s)
 unfolding store_text
 gate_of s = (omega arith, refl)
 

@@ -18,10 +18,12 @@ use Rattle.wal_split.specs.Moments.{During}
 use Rattle.region_replay.specs.Names.{store_name}
 use Rattle.region_replay.specs.Ready.{Found, IsOf}
 use Rattle.region_replay.specs.Regions.{IsInOrder, IsFound}
-use Rattle.region_replay.specs.Whole.{AreApart, AreFound, AllOf, HaveNoEdits, AreAllFound, NoNewNames}
+use Rattle.region_replay.specs.Stored.{StoresReplayed}
+use Rattle.region_replay.specs.Whole.{AreApart, AreFound, AllOf, AllStoresReplayed, HaveNoEdits, AreAllFound, NoNewNames}
 use Rattle.region_replay.proofs.Showing.{alike_between}
 use Rattle.region_replay.proofs.Sorting.{none_in, is_first, is_later, first_or_later}
-use Rattle.region_replay.proofs.Passing.{SameOf, found_on, of_on, of_alike, same_of, no_logs_on, given_on, none_left, no_new}
+use Rattle.region_replay.proofs.Passing.{SameOf, flushed_on, found_on, of_on, of_alike, same_of, no_logs_on, given_on, none_left, no_new}
+use Rattle.region_replay.proofs.NewStores.{stored_on, stored_since}
 
 pub record Going (told : Type 0) (first now : DiskView) (all ys rest : List RegionFiles) (xs : List Found) : Type 0 where
   pub held : told → (base : Files) → IsHeld base first → AreFound first.files all → IsHeld base now
@@ -31,6 +33,8 @@ pub record Going (told : Type 0) (first now : DiskView) (all ys rest : List Regi
   pub no_edits : told → (base : Files) → IsHeld base first → AreFound first.files all → HaveNoEdits now.files ys
   pub names : told → (base : Files) → IsHeld base first → AreFound first.files all → NoNewNames first.files now.files ys
   pub olds : told → (m : Name) → m.kind ≡ kinds.Old → content now.files m ≡ content first.files m
+  pub untouched : told → (r : ℕ) → ((y : RegionFiles) → Contains ys y → y.region ≢ r) → SameOf r first.files now.files
+  pub stored : told → (base : Files) → IsHeld base first → AreFound first.files all → AllStoresReplayed first.files now.files ys xs
 
 pub none_yet : (told : Type 0) (v : DiskView) (all : List RegionFiles) → Going told v v all [] all []
 none_yet told v all = record {
@@ -41,6 +45,8 @@ none_yet told v all = record {
   no_edits = λ t base held found x m has edits region. absurd (none_in x has);
   names = λ t base held found m here. inl here;
   olds = λ t m old. refl;
+  untouched = λ t r apart m kind region. refl;
+  stored = λ t base held found. tt;
 }
 
 pub all_of_more : (old I J : Files) (ys : List RegionFiles) (xs : List Found) (y : RegionFiles) (x : Found) → ((z : RegionFiles) → Contains ys z → SameOf z.region I J) → AllOf old I ys xs → IsOf old J y.region x → AllOf old J (ys ++ y ∷ []) (xs ++ x ∷ [])
@@ -48,6 +54,15 @@ all_of_more old I J [] [] y x same all one = (one, tt)
 all_of_more old I J [] (w ∷ ws) y x same all one = absurd all
 all_of_more old I J (z ∷ zs) [] y x same all one = absurd all
 all_of_more old I J (z ∷ zs) (w ∷ ws) y x same all one = (of_on old I J z.region w (same z (is_first z zs)) all.0, all_of_more old I J zs ws y x (λ u has. same u (is_later z zs u has)) all.1 one)
+
+-- and what was stored of them
+pub all_stored_more : (old I J : Files) (ys : List RegionFiles) (xs : List Found) (y : RegionFiles) (x : Found) → ((z : RegionFiles) → Contains ys z → SameOf z.region I J) → AllStoresReplayed old I ys xs → StoresReplayed old J y.region x
+    → AllStoresReplayed old J (ys ++ y ∷ []) (xs ++ x ∷ [])
+all_stored_more old I J [] [] y x same all one = (one, tt)
+all_stored_more old I J [] (w ∷ ws) y x same all one = absurd all
+all_stored_more old I J (z ∷ zs) [] y x same all one = absurd all
+all_stored_more old I J (z ∷ zs) (w ∷ ws) y x same all one =
+    (stored_on old I J z.region w (λ m store region. same z (is_first z zs) m (inl store) region) all.0, all_stored_more old I J zs ws y x (λ u has. same u (is_later z zs u has)) all.1 one)
 
 -- the region is none of those before it and behind it
 pub apart_before : (ys : List RegionFiles) (x : RegionFiles) (rest : List RegionFiles) → AreApart (ys ++ x ∷ rest) → (z : RegionFiles) → Contains ys z → x.region ≢ z.region
@@ -89,8 +104,9 @@ module _ (told : Type 0) (first v w : DiskView) (all ys rest : List RegionFiles)
 
     pub one_more : (y : Found) → (told → (base : Files) → IsHeld base v → IsFound v.files x → IsHeld base w) → (told → (base : Files) → IsHeld base v → IsFound v.files x → IsOf v.files w.files x.region y)
         → (told → (m : Name) → Contains x.edits.items m → IsAbsent w.files m) → (told → (m : Name) → m ≢ store_name x.region x.next_store → ((n : Name) → Contains x.edits.items n → m ≢ n) → content w.files m ≡ content v.files m)
+        → (told → IsFound v.files x → StoresReplayed v.files w.files x.region y)
         → Going told first w all (ys ++ x ∷ []) rest (xs ++ y ∷ [])
-    one_more y held_on of left others = record {
+    one_more y held_on of left others one_stored = record {
       held = λ t base held found. held_on t base (so_far.held t base held found) (here t base held found);
       moments = moments_on;
       found = λ t base held found. (
@@ -119,6 +135,13 @@ module _ (told : Type 0) (first v w : DiskView) (all ys rest : List RegionFiles)
         ]
       ];
       olds = λ t m old. others t m (λ is. absurd (cc (sym old ∙ ap (λ (k : Name). k.kind) is))) (λ n has is. absurd (cc (sym old ∙ ap (λ (k : Name). k.kind) is ∙ order.edits.kind n has))) ∙ so_far.olds t m old;
+      untouched = λ t r apart m kind region.
+          same_of x order v.files w.files (others t) r (apart x (Contains-push ys x)) m kind region ∙ so_far.untouched t r (λ z has. apart z (Contains-append_left ys (x ∷ []) z has)) m kind region;
+      stored = λ t base held found.
+          let still : SameOf x.region first.files v.files = so_far.untouched t x.region (λ z has same. before z has (sym same)) in
+          all_stored_more first.files v.files w.files ys xs x y (λ z has. same_of x order v.files w.files (others t) z.region (before z has)) (so_far.stored t base held found)
+          (stored_since first.files v.files w.files x.region y (λ m store region. still m (inl store) region) (λ n. flushed_on x.region v.files first.files (λ m kind region. sym (still m kind region)) [] n)
+          (one_stored t (here t base held found)));
     }
       where
         order : IsInOrder told x

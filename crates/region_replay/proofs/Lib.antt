@@ -7,6 +7,7 @@ pub mod Leaving
 pub mod Joining
 pub mod Showing
 pub mod Finding
+pub mod NewStores
 pub mod Passing
 pub mod InTurn
 pub mod Shares

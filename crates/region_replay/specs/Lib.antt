@@ -4,6 +4,7 @@ pub mod Cuts
 pub mod Bases
 pub mod Cleared
 pub mod Ready
+pub mod Stored
 pub mod Regions
 pub mod Names
 pub mod Whole

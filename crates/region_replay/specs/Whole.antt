@@ -5,6 +5,7 @@ use Rattle.log_model.specs.declared.name.NameKind.TheVariants as kinds
 use Rattle.log_model.specs.Files.{Files, IsAbsent, IsPresent}
 use Rattle.region_replay.specs.declared.found.RegionFiles.{RegionFiles}
 use Rattle.region_replay.specs.Ready.{Found, IsOf}
+use Rattle.region_replay.specs.Stored.{StoresReplayed}
 use Rattle.region_replay.specs.Names.{store_name}
 use Rattle.region_replay.specs.Regions.{IsFound}
 
@@ -25,6 +26,13 @@ AllOf old new [] [] = Unit {0}
 AllOf old new [] (y ∷ ys) = ⊥
 AllOf old new (x ∷ xs) [] = ⊥
 AllOf old new (x ∷ xs) (y ∷ ys) = IsOf old new x.region y × AllOf old new xs ys
+
+-- of each of these at most one store file is new
+abbrev pub AllStoresReplayed : Files → Files → List RegionFiles → List Found → Type 0
+AllStoresReplayed old new [] [] = Unit {0}
+AllStoresReplayed old new [] (y ∷ ys) = ⊥
+AllStoresReplayed old new (x ∷ xs) [] = ⊥
+AllStoresReplayed old new (x ∷ xs) (y ∷ ys) = StoresReplayed old new x.region y × AllStoresReplayed old new xs ys
 
 -- these regions have no edits file
 abbrev pub HaveNoEdits : Files → List RegionFiles → Type 0

@@ -18,6 +18,7 @@ ghost use Rattle.region_replay.specs.Alone.{IsPinned};
 ghost use Rattle.region_replay.specs.Names.{AreThere, store_name, IsElsewhere};
 ghost use Rattle.region_replay.specs.Opened.{AtMostOneHigher};
 ghost use Rattle.region_replay.specs.Ready.{IsOf};
+ghost use Rattle.region_replay.specs.Stored.{StoresReplayed};
 ghost use Rattle.region_replay.specs.Regions.{IsInOrder, IsFound};
 
 use crate::alone::region_of;
@@ -46,6 +47,9 @@ pub fn replay<D: Disk>(alloc: Global, disk: &mut D, region: u32) -> Result<Repla
         → OnOk result (AtMostOneHigher (D.view disk.old).files (D.view disk.new).files) }
     ensures replayed { IsTrue D.told → IsSplit (D.view disk.old)
         → IfOk result (λ x. IsOf (D.view disk.old).files (D.view disk.new).files region x) }
+    // What it stores goes from one above the region's flushed sequence id to the last one, under the region's next number.
+    ensures stored { IsTrue D.told → IsSplit (D.view disk.old)
+        → IfOk result (λ x. StoresReplayed (D.view disk.old).files (D.view disk.new).files region x) }
     // No image has an edits file of the region, and nothing of other regions changed, nor a store.
     ensures no_edits { IsTrue D.told → OnOk result ((J : Files) (m : TheName) → IsImageNow (D.view disk.new) J
         → m.kind ≡ kinds.Edits → m.region ≡ region → IsAbsent J m) }
@@ -88,6 +92,8 @@ fn replay_read<D: Disk>(
         → OnOk result (AtMostOneHigher (D.view disk.old).files (D.view disk.new).files) }
     ensures replayed { IsTrue D.told → IsSplit (D.view disk.old)
         → IfOk result (λ x. IsOf (D.view disk.old).files (D.view disk.new).files region x) }
+    ensures stored { IsTrue D.told → IsSplit (D.view disk.old)
+        → IfOk result (λ x. StoresReplayed (D.view disk.old).files (D.view disk.new).files region x) }
     ensures no_edits { IsTrue D.told → OnOk result ((J : Files) (m : TheName) → IsImageNow (D.view disk.new) J
         → m.kind ≡ kinds.Edits → m.region ≡ region → IsAbsent J m) }
     ensures none_gone { IsTrue D.told → OnOk result ((m : TheName) → ¬ (D.view disk.new).gone m) }
@@ -125,6 +131,8 @@ fn replay_and_clear<D: Disk>(
     ensures replayed { IsTrue D.told → (base : Files) → IsHeld base (D.view disk.old)
         → IsFound (D.view disk.old).files found
         → IfOk result (λ x. IsOf (D.view disk.old).files (D.view disk.new).files found.region x) }
+    ensures stored { IsTrue D.told → IsFound (D.view disk.old).files found
+        → IfOk result (λ x. StoresReplayed (D.view disk.old).files (D.view disk.new).files found.region x) }
     ensures no_edits { IsTrue D.told → OnOk result ((m : TheName) → Contains found.edits.items m
         → IsAbsent (D.view disk.new).files m) }
     ensures others { IsTrue D.told → OnOk result ((m : TheName) → m ≢ store_name found.region found.next_store

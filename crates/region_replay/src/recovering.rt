@@ -6,14 +6,14 @@ ghost use Rattle.log_model.specs.declared.name.NameKind.TheVariants as kinds;
 ghost use Rattle.log_model.specs.Files.{Files, IsPresent, IsSound, content};
 ghost use Rattle.log_model.specs.Damage.{IsDamage};
 ghost use Rattle.disk_images.specs.Calls.{HasCause};
-ghost use Rattle.recovery_laws.specs.Alike.{AllAlike};
+ghost use Rattle.recovery_laws.specs.Alike.{AllAlike, StoresStand};
 ghost use Rattle.found_files.specs.Refusal.{IfDamage};
 ghost use Rattle.wal_split.specs.Held.{IsSplit};
 ghost use Rattle.wal_split.specs.Left.{IsInRange, AreLeft};
 ghost use Rattle.wal_split.specs.Logs.{LogsAreOld};
 ghost use Rattle.wal_split.specs.Moments.{During, WasOrAlike};
 ghost use Rattle.region_replay.specs.Cleared.{IsReady};
-ghost use Rattle.region_replay.specs.Opened.{AreOf, AtMostOneHigher};
+ghost use Rattle.region_replay.specs.Opened.{AreOf, AreStoresReplayed, AtMostOneHigher};
 
 use crate::found::Recovered;
 use crate::grouping::regions_of;
@@ -37,6 +37,9 @@ pub fn recover_all<D: Disk>(alloc: Global, disk: &mut D) -> Result<Recovered, Sp
     ensures names { IsTrue D.told → OnOk result (AtMostOneHigher (D.view disk.old).files (D.view disk.new).files) }
     ensures regions { IfOk result (λ xs. length xs ≡ 64) }
     ensures recovered { IsTrue D.told → IfOk result (λ xs. AreOf (D.view disk.old).files (D.view disk.new).files 1 xs) }
+    // What it stores of a region goes from one above the region's flushed sequence id to the last one, under the region's
+    // next number.
+    ensures stored { IsTrue D.told → IfOk result (λ xs. AreStoresReplayed (D.view disk.old).files (D.view disk.new).files 1 xs) }
     // Damage is told exactly where the files aren't sound.
     ensures sound { IsTrue D.told → OnOk result (IsSound (D.view disk.old).files) }
     ensures unsound { IsTrue D.told → IfDamage result (λ damage. ¬ IsSound (D.view disk.old).files) }
@@ -71,6 +74,8 @@ fn recover_split<D: Disk>(
     ensures regions { IfOk result (λ xs. length xs ≡ 64) }
     ensures recovered { IsTrue D.told → (old : Files) → AllAlike old (D.view disk.old).files
         → IfOk result (λ xs. AreOf old (D.view disk.new).files 1 xs) }
+    ensures stored { IsTrue D.told → (old : Files) → StoresStand old (D.view disk.old).files
+        → IfOk result (λ xs. AreStoresReplayed old (D.view disk.new).files 1 xs) }
     ensures undamaged { IfDamage result (λ damage. ⊥) }
     ensures cause { HasCause (D.faults disk.old) (D.faults disk.new) (IsErrOf result SplitRefusal.DiskFault) }
 {

@@ -10,6 +10,7 @@ ghost use Rattle.wal_split.specs.Held.{IsHeld};
 ghost use Rattle.wal_split.specs.Moments.{During};
 ghost use Rattle.region_replay.specs.Names.{AreThere, store_name};
 ghost use Rattle.region_replay.specs.Ready.{IsOf};
+ghost use Rattle.region_replay.specs.Stored.{StoresReplayed};
 ghost use Rattle.region_replay.specs.Regions.{IsInOrder, IsFound, IsTop};
 
 use crate::found::{RegionFiles, Replayed};
@@ -42,6 +43,8 @@ pub(crate) fn replay_region<D: Disk>(
     ensures replayed { IsTrue D.told → (base : Files) → IsHeld base (D.view disk.old)
         → IsFound (D.view disk.old).files found
         → IfOk result (λ x. IsOf (D.view disk.old).files (D.view disk.new).files found.region x) }
+    ensures stored { IsTrue D.told → IsFound (D.view disk.old).files found
+        → IfOk result (λ x. StoresReplayed (D.view disk.old).files (D.view disk.new).files found.region x) }
     ensures no_edits { IsTrue D.told → OnOk result ((m : TheName) → Contains found.edits.items m
         → IsAbsent (D.view disk.new).files m) }
     ensures others { IsTrue D.told → OnOk result ((m : TheName) → m ≢ store_name found.region found.next_store
@@ -73,6 +76,8 @@ fn drop_edits<D: Disk>(
     ensures replayed { IsTrue D.told → (base : Files) → IsHeld base (D.view disk.old)
         → IsFound (D.view disk.old).files found
         → IfOk result (λ x. IsOf (D.view disk.old).files (D.view disk.new).files found.region x) }
+    ensures stored { IsTrue D.told → IsFound (D.view disk.old).files found
+        → IfOk result (λ x. StoresReplayed (D.view disk.old).files (D.view disk.new).files found.region x) }
     ensures no_edits { IsTrue D.told → OnOk result ((m : TheName) → Contains found.edits.items m
         → IsAbsent (D.view disk.new).files m) }
     ensures others { IsTrue D.told → OnOk result ((m : TheName) → m ≢ store_name found.region found.next_store
@@ -114,6 +119,8 @@ fn store_region<D: Disk>(
     ensures replayed { IsTrue D.told → (base : Files) → IsHeld base (D.view disk.old)
         → IsFound (D.view disk.old).files found
         → IfOk result (λ x. IsOf (D.view disk.old).files (D.view disk.new).files found.region x) }
+    ensures stored { IsTrue D.told → IsFound (D.view disk.old).files found
+        → IfOk result (λ x. StoresReplayed (D.view disk.old).files (D.view disk.new).files found.region x) }
     ensures no_edits { IsTrue D.told → OnOk result ((m : TheName) → Contains found.edits.items m
         → IsAbsent (D.view disk.new).files m) }
     ensures others { IsTrue D.told → OnOk result ((m : TheName) → m ≢ store_name found.region found.next_store

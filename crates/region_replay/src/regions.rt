@@ -10,7 +10,7 @@ ghost use Rattle.region_replay.specs.declared.found.RegionFiles.{RegionFiles as 
 ghost use Rattle.wal_split.specs.Held.{IsHeld};
 ghost use Rattle.wal_split.specs.Moments.{During};
 ghost use Rattle.region_replay.specs.Regions.{IsInOrder};
-ghost use Rattle.region_replay.specs.Whole.{AreApart, AreFound, AllOf, HaveNoEdits, NoNewNames};
+ghost use Rattle.region_replay.specs.Whole.{AreApart, AreFound, AllOf, AllStoresReplayed, HaveNoEdits, NoNewNames};
 
 use crate::found::{RegionFiles, Replayed};
 use crate::region::replay_region;
@@ -37,6 +37,9 @@ pub(crate) fn replay_regions<D: Disk>(
     ensures replayed { IsTrue D.told → (base : Files) → IsHeld base (D.view disk.old)
         → AreFound (D.view disk.old).files regions.items
         → IfOk result (λ xs. AllOf (D.view disk.old).files (D.view disk.new).files regions.items xs.items) }
+    ensures stored { IsTrue D.told → (base : Files) → IsHeld base (D.view disk.old)
+        → AreFound (D.view disk.old).files regions.items
+        → IfOk result (λ xs. AllStoresReplayed (D.view disk.old).files (D.view disk.new).files regions.items xs.items) }
     ensures no_edits { IsTrue D.told → (base : Files) → IsHeld base (D.view disk.old)
         → AreFound (D.view disk.old).files regions.items
         → OnOk result (HaveNoEdits (D.view disk.new).files regions.items) }

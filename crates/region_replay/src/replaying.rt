@@ -15,6 +15,7 @@ ghost use Rattle.recovery_laws.specs.Kept.{IsNotReplaced};
 ghost use Rattle.wal_split.specs.Held.{IsHeld};
 ghost use Rattle.region_replay.specs.Cuts.{IsUnflushedCut, AreEdits, EditsUpTo};
 ghost use Rattle.region_replay.specs.Names.{AreThere};
+ghost use Rattle.region_replay.specs.Stored.{HasReplayStore};
 
 use crate::removing::remove_all;
 use crate::storing::store_unflushed;
@@ -54,6 +55,7 @@ pub(crate) fn replay_found<D: Disk>(
         → IsAbsent (D.view disk.new).files m) }
     ensures others { IsTrue D.told → OnOk result ((m : TheName) → m ≢ name → ((n : TheName) → Contains names.now n
         → m ≢ n) → content (D.view disk.new).files m ≡ content (D.view disk.old).files m) }
+    ensures stored { IsTrue D.told → OnOk result (HasReplayStore (D.view disk.new).files name from to) }
     ensures cells { IfOk result (λ segment. segment ≡ put_numbered empty cut) }
     ensures cause { HasCause (D.faults disk.old) (D.faults disk.new) (IsErrOf result FileRefusal.DiskFault) }
 {

@@ -14,6 +14,7 @@ ghost use Rattle.recovery_laws.specs.Alike.{AllAlike};
 ghost use Rattle.recovery_laws.specs.Kept.{IsNotReplaced};
 ghost use Rattle.wal_split.specs.Held.{IsHeld};
 ghost use Rattle.region_replay.specs.Cuts.{IsUnflushedCut};
+ghost use Rattle.region_replay.specs.Stored.{HasReplayStore};
 
 use disk_images::{Disk, Name};
 use flush_snapshot::store_cut;
@@ -43,6 +44,7 @@ pub(crate) fn store_unflushed<D: Disk>(
         → IsUnflushedCut (D.view disk.old).files name to cut → OnOk result (IsHeld base (D.view disk.new)) }
     ensures flushed { IsTrue D.told → IsNotReplaced (D.view disk.old).files name
         → OnOk result ((f : List ℕ) → FlushesTo (D.view disk.new).files name.region f to) }
+    ensures stored { IsTrue D.told → OnOk result (HasReplayStore (D.view disk.new).files name from to) }
     ensures cells { IfOk result (λ segment. segment ≡ put_numbered empty cut) }
     ensures memory { IsErrOf result FileRefusal.Memory → disk.new ≡ disk.old }
     ensures touches { IsTrue D.told → Touches name (D.view disk.old) (D.view disk.new) }

@@ -11,7 +11,7 @@ ghost use Rattle.wal_split.specs.Moments.{During};
 ghost use Rattle.region_replay.specs.declared.found.RegionFiles.{RegionFiles as TheFiles};
 ghost use Rattle.region_replay.specs.Cleared.{IsReady};
 ghost use Rattle.region_replay.specs.Regions.{IsInOrder};
-ghost use Rattle.region_replay.specs.Whole.{AreApart, AreFound, AreAllFound, AllOf, NoNewNames};
+ghost use Rattle.region_replay.specs.Whole.{AreApart, AreFound, AreAllFound, AllOf, AllStoresReplayed, NoNewNames};
 
 use crate::clearing::clear;
 use crate::found::{RegionFiles, Replayed};
@@ -48,6 +48,9 @@ pub(crate) fn replay_all<D: Disk>(
     ensures replayed { IsTrue D.told → (base : Files) → IsHeld base (D.view disk.old)
         → AreAllFound (D.view disk.old).files regions.items
         → IfOk result (λ xs. AllOf (D.view disk.old).files (D.view disk.new).files regions.items xs.items) }
+    ensures stored { IsTrue D.told → (base : Files) → IsHeld base (D.view disk.old)
+        → AreAllFound (D.view disk.old).files regions.items
+        → IfOk result (λ xs. AllStoresReplayed (D.view disk.old).files (D.view disk.new).files regions.items xs.items) }
     ensures count { IfOk result (λ xs. length xs.items ≡ length regions.items) }
     ensures cause { HasCause (D.faults disk.old) (D.faults disk.new) (IsErrOf result FileRefusal.DiskFault) }
 {

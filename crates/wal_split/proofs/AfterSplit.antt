@@ -34,7 +34,8 @@ use Rattle.wal_split.specs.Jobs.{IsNoJob}
 use Rattle.wal_split.specs.Logs.{IsOther, log_name}
 use Rattle.wal_split.specs.Planned.{IsPlan}
 use Rattle.wal_split.specs.Left.{IsInRange, AreLeft, AtMostOneHigher, job_at}
-use Rattle.wal_split.proofs.Plans.{name_at, number_of, valid_entry, is_some_there, log_there, some_job, is_above, counting_in, no_log_left, small_left, stores_left}
+use Rattle.wal_split.specs.Copies.{IsNextEdits, IsInLog, AreCopied, EditsCopied}
+use Rattle.wal_split.proofs.Plans.{name_at, number_of, valid_entry, is_some_there, log_there, some_job, is_above, counting_in, logged_each, logged_all, no_log_left, small_left, stores_left}
 use Rattle.wal_split.proofs.Turning.{edits_other}
 use Rattle.wal_split.proofs.Writing.{list_cases}
 
@@ -228,6 +229,65 @@ module _ (told : Type 0) (is_told : told) (v : DiskView) (true_disk : IsTrueDisk
     ];
     all = all_left;
     small = small_left told is_told v true_disk settled xs every x.stores.items x.plan read counts plan w others gone;
+  }
+
+  -- ---- the edits files that are new
+
+  next_edits : IsNextEdits v.files plan.number
+  next_edits = record {
+    given = elim plan.next as (λ _. 1 ≤ plan.number) [ inl one ↦ omega (arith, one) | inr (m, has, other, is) ↦ omega (arith, is) ];
+    above = λ m other here. plan.above m (among_names v.files m here) other;
+    least = λ k bound. elim plan.next as (λ _. plan.number ≤ k + 1) [
+      | inl one ↦ omega (arith, one)
+      | inr (m, has, other, is) ↦ (let low = bound m other (there_of v.files m has) in omega (arith, is, low))
+    ];
+  }
+
+  -- one that has an entry is there
+  job_file : (k : ℕ) → k < 64 → (e : Entry) → Contains (get_or jobs k job).entries.items e → IsLogFile w.files (edits_name (k + 1) plan.number) (get_or jobs k job).entries.items
+  job_file k lt e has =
+      let long = plan.jobs.long in
+      let j : EditsJob = get_or jobs k job in
+      let named : j.name ≡ edits_name (k + 1) plan.number = plan.jobs.names k job lt in
+      let text = written j e (Contains-get_or jobs k job (omega (arith, lt, long))) has in
+      subst (λ (n : Name). IsLogFile w.files n j.entries.items) named (record { kind = inr (ap (λ (n : Name). n.kind) named); bytes = text.bytes; there = text.there; ended = None; text = text.text })
+
+  job_copied : (k : ℕ) → k < 64 → AreCopied v.files (k + 1) (get_or jobs k job).entries.items
+  job_copied k lt = record {
+    each = λ e has. (let r = plan.jobs.each k job e lt has in let l = logged_each told is_told v true_disk settled xs every x.stores.items x.plan read counts plan e r.0 in (l.0, l.1, r.1));
+    rise = are_left.jobs_rise k job lt;
+  }
+
+  new_edits : (m : Name) → (k : ℕ) × (k < 64) × ((d : EditsJob) → (m ≡ (get_or jobs k d).name) × ((get_or jobs k d).entries.items ≢ []))
+      → (m.number ≡ plan.number) × ((es : List Entry) × IsLogFile w.files m es × AreCopied v.files m.region es)
+  new_edits m (k, lt, both) =
+      let j : EditsJob = get_or jobs k job in
+      let some = first_of j.entries.items (both job).1 in
+      let named : m ≡ edits_name (k + 1) plan.number = (both job).0 ∙ plan.jobs.names k job lt in (
+        ap (λ (n : Name). n.number) named,
+        (
+          j.entries.items,
+          subst (λ (n : Name). IsLogFile w.files n j.entries.items) (sym named) (job_file k lt some.0 some.1),
+          subst (λ (n : Name). AreCopied v.files n.region j.entries.items) (sym named) (job_copied k lt),
+        ),
+      )
+
+  all_copied : (e : Entry) → IsInLog v.files e → IsUnflushedEntry v.files e → (es : List Entry) × IsLogFile w.files (edits_name e.region plan.number) es × Contains es e
+  all_copied e (name, l, log, file, member) unflushed =
+      let q = plan.jobs.all e (logged_all told is_told v true_disk settled xs every x.stores.items x.plan read counts plan e name l log file member unflushed) in
+      let r = plan.jobs.each q.0 job e q.1 (q.2 job) in (
+        (get_or jobs q.0 job).entries.items,
+        subst (λ (n : ℕ). IsLogFile w.files (edits_name n plan.number) (get_or jobs q.0 job).entries.items) (sym r.1) (job_file q.0 q.1 e (q.2 job)),
+        q.2 job,
+      )
+
+  pub edits_copied : EditsCopied v.files w.files
+  edits_copied = record {
+    number = plan.number;
+    next = next_edits;
+    came = λ m edits none here. new_edits m (job_of m edits here none);
+    all = all_copied;
+    stay = λ m edits here. edits_same m (among_names v.files m here) edits;
   }
 
   pub one_higher : AtMostOneHigher v.files w.files

@@ -37,6 +37,7 @@ use Rattle.wal_split.specs.Covered.{LogsCovered}
 use Rattle.wal_split.specs.Planned.{IsPlan}
 use Rattle.wal_split.specs.Held.{IsHeld}
 use Rattle.wal_split.specs.Told.{Counts}
+use Rattle.wal_split.specs.Copies.{IsInLog}
 use Rattle.wal_split.proofs.LogNumbers.{log_of, has_log, logs_rise}
 use Rattle.wal_split.proofs.Above.{above_cases, low_flushed, above_unflushed, unflushed_above, goes_at, goes_flushes, flushes_goes}
 
@@ -179,22 +180,30 @@ module _ (told : Type 0) (is_told : told) (v : DiskView) (true_disk : IsTrueDisk
   pub is_above : (e : Entry) → IsEntry e → IsUnflushedEntry v.files e → IsAbove p.flushed.items e
   is_above e valid = unflushed_above v.files e (flushed_at p.flushed.items e.region) (flushed_now e.region valid.region) valid.number_given
 
+  -- the entries that are copied stand in logs and aren't flushed
+  pub logged_each : (e : Entry) → Contains plan.logged e → IsInLog v.files e × IsUnflushedEntry v.files e
+  logged_each e has =
+      let r = plan.parts.from_logs e has in
+      let f = read.from_logs is_told r.0 r.1 in
+      let member : Contains f.0 e = subst (λ (d : Entry). Contains f.0 d) r.2 f.2 in
+      let valid = valid_entry v.files r.0.name f.0 e f.1 member in
+      ((r.0.name, f.0, r.3, f.1, member), above_unflushed v.files e (flushed_at p.flushed.items e.region) (flushed_now e.region valid.region) valid.number_given r.4)
+
+  -- and are all such
+  pub logged_all : (e : Entry) (name : Name) (l : List Entry) → name.kind ≡ kinds.Log → IsLogFile v.files name l → Contains l e → IsUnflushedEntry v.files e → Contains plan.logged e
+  logged_all e name l log file member above =
+      let valid = valid_entry v.files name l e file member in
+      let r = read.logs is_told name (among_names v.files name (is_some_there name file.bytes file.there)) file.kind in
+      let there = r.2 e (subst (λ (k : List Entry). Contains k e) (one_list v.files name l r.0 file r.1) member) in
+      plan.parts.all_logged (place_in name e) there log (is_above e valid above)
+
   pub counted : Counts v.files p.entries
   counted = record {
     entries = plan.logged;
     count = sym plan.count;
     apart = λ i j d less lt same. apart_by (get_or plan.logged i d) (get_or plan.logged j d) (plan.parts.logged_rise i j d less lt) same;
-    each = λ e has.
-        let r = plan.parts.from_logs e has in
-        let f = read.from_logs is_told r.0 r.1 in
-        let member : Contains f.0 e = subst (λ (d : Entry). Contains f.0 d) r.2 f.2 in
-        let valid = valid_entry v.files r.0.name f.0 e f.1 member in
-        ((r.0.name, f.0, r.3, f.1, member), above_unflushed v.files e (flushed_at p.flushed.items e.region) (flushed_now e.region valid.region) valid.number_given r.4);
-    all = λ e name l log file member above.
-        let valid = valid_entry v.files name l e file member in
-        let r = read.logs is_told name (among_names v.files name (is_some_there name file.bytes file.there)) file.kind in
-        let there = r.2 e (subst (λ (k : List Entry). Contains k e) (one_list v.files name l r.0 file r.1) member) in
-        plan.parts.all_logged (place_in name e) there log (is_above e valid above);
+    each = logged_each;
+    all = logged_all;
   }
     where
       apart_by : (d e : Entry) → IsBefore d e → d ≡ e → ⊥

@@ -11,4 +11,5 @@ pub mod Numbers
 pub mod Moments
 pub mod Planned
 pub mod Told
+pub mod Copies
 pub mod Left

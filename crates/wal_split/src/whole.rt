@@ -12,6 +12,7 @@ ghost use Rattle.found_files.specs.Sorted.{AreOrdered, AllAgree};
 ghost use Rattle.found_files.specs.Refusal.{IfDamage};
 ghost use Rattle.wal_split.specs.Held.{IsSplit};
 ghost use Rattle.wal_split.specs.Moments.{During, WasOrAlike};
+ghost use Rattle.wal_split.specs.Copies.{EditsCopied};
 ghost use Rattle.wal_split.specs.Logs.{LogsAreOld};
 ghost use Rattle.wal_split.specs.Left.{IsInRange, AreLeft, AtMostOneHigher};
 ghost use Rattle.wal_split.specs.Told.{log_count, Counts, IsCounted};
@@ -42,6 +43,8 @@ pub fn split<D: Disk>(alloc: Global, disk: &mut D) -> Result<SplitReport, SplitR
     ensures split { IsTrue D.told → OnOk result (IsSplit (D.view disk.new)) }
     ensures alike { IsTrue D.told → OnOk result (AllAlike (D.view disk.old).files (D.view disk.new).files) }
     ensures stores { IsTrue D.told → OnOk result (StoresStand (D.view disk.old).files (D.view disk.new).files) }
+    // The edits files that are new have one number, the next one, and the entries of logs that aren't flushed.
+    ensures edits { IsTrue D.told → OnOk result (EditsCopied (D.view disk.old).files (D.view disk.new).files) }
     ensures olds { IsTrue D.told → OnOk result (LogsAreOld (D.view disk.old).files (D.view disk.new).files) }
     ensures report { IsTrue D.told → IfOk result (λ report. (report.logs ≡ log_count (D.view disk.old).files) × Counts (D.view disk.old).files report.entries) }
     // Damage is told exactly where the files aren't sound.
@@ -66,6 +69,7 @@ pub fn split_read<D: Disk>(alloc: Global, disk: &mut D) -> Result<SplitFiles, Sp
     ensures split { IsTrue D.told → OnOk result (IsSplit (D.view disk.new)) }
     ensures alike { IsTrue D.told → OnOk result (AllAlike (D.view disk.old).files (D.view disk.new).files) }
     ensures stores { IsTrue D.told → OnOk result (StoresStand (D.view disk.old).files (D.view disk.new).files) }
+    ensures edits { IsTrue D.told → OnOk result (EditsCopied (D.view disk.old).files (D.view disk.new).files) }
     ensures olds { IsTrue D.told → OnOk result (LogsAreOld (D.view disk.old).files (D.view disk.new).files) }
     ensures counts { IsTrue D.told → IfOk result (λ x. IsCounted (D.view disk.old).files x.plan) }
     // What it hands on is what the files had, and where it stands now.
@@ -102,6 +106,7 @@ fn split_files<D: Disk>(
     ensures split { IsTrue D.told → OnOk result (IsSplit (D.view disk.new)) }
     ensures alike { IsTrue D.told → OnOk result (AllAlike (D.view disk.old).files (D.view disk.new).files) }
     ensures stores { IsTrue D.told → OnOk result (StoresStand (D.view disk.old).files (D.view disk.new).files) }
+    ensures edits { IsTrue D.told → OnOk result (EditsCopied (D.view disk.old).files (D.view disk.new).files) }
     ensures olds { IsTrue D.told → OnOk result (LogsAreOld (D.view disk.old).files (D.view disk.new).files) }
     ensures counts { IsTrue D.told → IfOk result (λ x. IsCounted (D.view disk.old).files x.plan) }
     ensures in_range { IfOk result (λ x. IsInRange x) }

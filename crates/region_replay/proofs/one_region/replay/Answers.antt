@@ -15,6 +15,7 @@ use Rattle.found_files.proofs.Causes.{same_cause, cause_since, same_error}
 use Rattle.wal_split.specs.Moments.{During}
 use Rattle.region_replay.specs.Names.{IsElsewhere}
 use Rattle.region_replay.specs.Ready.{Found, IsOf}
+use Rattle.region_replay.specs.Stored.{StoresReplayed}
 use Rattle.region_replay.specs.Opened.{AtMostOneHigher}
 use Rattle.region_replay.proofs.StillSplit.{split_watched, same_names, refused_too}
 use Rattle.region_replay.proofs.one_region.replay.Goals as goal
@@ -73,6 +74,14 @@ returns-in-Ok-clause-replayed g c told split =
     let watches = c.find_region.ensures.watches told in
     let w = g.D.Disk.view c.replay_read.new.disk in
     subst (λ (f : Files). IfOk c.replay_read.result (λ x. IsOf f w.files c.args.region x)) watches.1.files (c.replay_read.ensures.replayed told (split_watched u v watches split))
+
+pub returns-in-Ok-clause-stored : goal.returns-in-Ok-clause-stored
+returns-in-Ok-clause-stored g c told split =
+    let u = g.D.Disk.view c.args.disk.now in
+    let v = g.D.Disk.view c.find_region.new.disk in
+    let watches = c.find_region.ensures.watches told in
+    let w = g.D.Disk.view c.replay_read.new.disk in
+    subst (λ (f : Files). IfOk c.replay_read.result (λ x. StoresReplayed f w.files c.args.region x)) watches.1.files (c.replay_read.ensures.stored told (split_watched u v watches split))
 
 pub returns-in-Ok-clause-others : goal.returns-in-Ok-clause-others
 returns-in-Ok-clause-others g c told =

@@ -5,6 +5,7 @@ use Rattle.file_base.specs.declared.error.FileRefusal.TheVariants as refusals
 use Rattle.recovery_laws.specs.Alike.{AllAlike}
 use Rattle.found_files.proofs.Causes.{same_cause, cause_since, no_error, error_of}
 use Rattle.region_replay.specs.Ready.{IsOf, Found}
+use Rattle.region_replay.specs.Stored.{StoresReplayed}
 use Rattle.region_replay.proofs.one_region.replay_and_clear.Goals as goal
 
 pub returns-in-Ok-clause-any_moment : goal.returns-in-Ok-clause-any_moment
@@ -25,6 +26,10 @@ returns-in-Ok-clause-held g c told base held found = c.clear.ensures.held told b
 pub returns-in-Ok-clause-replayed : goal.returns-in-Ok-clause-replayed
 returns-in-Ok-clause-replayed g c told base held found =
     subst (λ (f : Files). IsOf (g.D.Disk.view c.args.disk.now).files f c.args.found.region c.in_ok-replayed.replayed) (sym (c.clear.ensures.files told)) (c.in_ok-replayed.ensures.replayed told base held found)
+
+pub returns-in-Ok-clause-stored : goal.returns-in-Ok-clause-stored
+returns-in-Ok-clause-stored g c told found =
+    subst (λ (f : Files). StoresReplayed (g.D.Disk.view c.args.disk.now).files f c.args.found.region c.in_ok-replayed.replayed) (sym (c.clear.ensures.files told)) (c.in_ok-replayed.ensures.stored told found)
 
 pub returns-in-Ok-clause-no_edits : goal.returns-in-Ok-clause-no_edits
 returns-in-Ok-clause-no_edits g c told m has = ap (λ (f : Files). content f m) (c.clear.ensures.files told) ∙ c.in_ok-replayed.ensures.no_edits told m has

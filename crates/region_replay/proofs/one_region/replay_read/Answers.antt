@@ -8,6 +8,7 @@ use Rattle.recovery_laws.specs.Alike.{AllAlike}
 use Rattle.found_files.proofs.Causes.{same_cause, no_error}
 use Rattle.region_replay.specs.Names.{store_name}
 use Rattle.region_replay.specs.Ready.{IsOf}
+use Rattle.region_replay.specs.Stored.{StoresReplayed}
 use Rattle.region_replay.proofs.Passing.{else_same}
 use Rattle.region_replay.proofs.RegionAlone.{in_order, next_absent, edits_there, none_of_region, is_found}
 use Rattle.region_replay.proofs.StillSplit.{still_split, one_higher}
@@ -82,6 +83,13 @@ returns-in-Ok-clause-replayed g c told split =
     let found = c.args.found in
     let w = g.D.Disk.view c.replay_and_clear.new.disk in
     subst (λ (r : ℕ). IsOf u.files w.files r c.in-Ok.replayed) c.in_ok-files.ensures.region (c.in-Ok.ensures.replayed told u.files split.held (is_found (IsTrue g.D.Disk.told) u.files c.args.region c.requires.region.0 c.requires.region.1 found.names.items found.files.entries.items found.files.stores.items c.requires.names c.requires.read c.in_ok-files.files c.in_ok-files.ensures told split.no_logs split.given))
+
+pub returns-in-Ok-clause-stored : goal.returns-in-Ok-clause-stored
+returns-in-Ok-clause-stored g c told split =
+    let u = g.D.Disk.view c.args.disk.now in
+    let found = c.args.found in
+    let w = g.D.Disk.view c.replay_and_clear.new.disk in
+    subst (λ (r : ℕ). StoresReplayed u.files w.files r c.in-Ok.replayed) c.in_ok-files.ensures.region (c.in-Ok.ensures.stored told (is_found (IsTrue g.D.Disk.told) u.files c.args.region c.requires.region.0 c.requires.region.1 found.names.items found.files.entries.items found.files.stores.items c.requires.names c.requires.read c.in_ok-files.files c.in_ok-files.ensures told split.no_logs split.given))
 
 pub returns-in-Ok-clause-no_edits : goal.returns-in-Ok-clause-no_edits
 returns-in-Ok-clause-no_edits g c told J m now edits region =

@@ -41,6 +41,9 @@ returns-in-Ok-clause-names g c told =
     (λ higher n bound m here. higher n (c.in-Ok.ensures.names told n bound) (λ k has. bound k (there_of u.files k (subst (λ (l : List Name). Contains l k) (c.in-Ok.ensures.found told) has))) m here)
     (c.recover_split.ensures.names told)
 
+pub returns-in-Ok-clause-stored : goal.returns-in-Ok-clause-stored
+returns-in-Ok-clause-stored g c told = c.recover_split.ensures.stored told (g.D.Disk.view c.args.disk.now).files (c.in-Ok.ensures.stores told)
+
 pub returns-in-Ok-clause-olds : goal.returns-in-Ok-clause-olds
 returns-in-Ok-clause-olds g c told =
     let split = c.in-Ok.ensures.olds told in

@@ -4,9 +4,9 @@ use Rattle.disk_images.proofs.Moments.{at_once}
 use Rattle.file_base.specs.declared.error.FileRefusal.{FileRefusal}
 use Rattle.recovery_laws.specs.Alike.{AllAlike}
 use Rattle.found_files.proofs.Causes.{same_cause, no_error}
-use Rattle.region_replay.specs.Opened.{AreOf}
+use Rattle.region_replay.specs.Opened.{AreOf, AreStoresReplayed}
 use Rattle.region_replay.specs.Ready.{Found}
-use Rattle.region_replay.proofs.AllFound.{each_in_order, are_apart, are_all_found, one_above, all_told}
+use Rattle.region_replay.proofs.AllFound.{each_in_order, are_apart, are_all_found, one_above, all_told, all_stored}
 use Rattle.region_replay.proofs.recovering.recover_split.Goals as goal
 
 pub returns-in_err-regions-clause-any_moment : goal.returns-in_err-regions-clause-any_moment
@@ -74,6 +74,14 @@ returns-in-Ok-clause-recovered g c told old alike =
     let found = are_all_found (IsTrue g.D.Disk.told) c.args.split c.requires.range c.in_ok-regions.regions.items c.in_ok-regions.ensures u.files (c.requires.left told) in
     let v = g.D.Disk.view c.replay_all.new.disk in
     subst (λ (ys : List Found). AreOf old v.files 1 ys) (sym c.of.ensures) (all_told (IsTrue g.D.Disk.told) c.args.split c.requires.range c.in_ok-regions.regions.items c.in_ok-regions.ensures old u.files v.files alike c.in-Ok.replayed.items (c.in-Ok.ensures.replayed told u.files held found))
+
+pub returns-in-Ok-clause-stored : goal.returns-in-Ok-clause-stored
+returns-in-Ok-clause-stored g c told old stand =
+    let u = g.D.Disk.view c.args.disk.now in
+    let held = (c.requires.split told).held in
+    let found = are_all_found (IsTrue g.D.Disk.told) c.args.split c.requires.range c.in_ok-regions.regions.items c.in_ok-regions.ensures u.files (c.requires.left told) in
+    let v = g.D.Disk.view c.replay_all.new.disk in
+    subst (λ (ys : List Found). AreStoresReplayed old v.files 1 ys) (sym c.of.ensures) (all_stored (IsTrue g.D.Disk.told) c.args.split c.requires.range c.in_ok-regions.regions.items c.in_ok-regions.ensures old u.files v.files stand c.in-Ok.replayed.items (c.in-Ok.ensures.stored told u.files held found))
 
 pub returns-in-Ok-clause-olds : goal.returns-in-Ok-clause-olds
 returns-in-Ok-clause-olds g c told m old = c.in-Ok.ensures.olds told m old

@@ -1,9 +1,12 @@
-use Rattle.std.proofs.Common.{IsTrue, List, length, Contains, sym, subst, arith}
+use Rattle.std.proofs.Common.{◌≡◌, ◌≢◌, ◌∙◌, IsTrue, List, length, Contains, refl, sym, ap, subst, arith}
 use Rattle.log_model.specs.declared.name.Name.{Name}
+use Rattle.log_model.specs.Files.{content}
 use Rattle.found_files.proofs.Causes.{same_cause, no_error}
+use Rattle.region_replay.specs.Names.{store_name}
 use Rattle.region_replay.specs.Cuts.{AreEdits, EditsFlushed}
 use Rattle.region_replay.proofs.Cutting.{none_written}
 use Rattle.region_replay.proofs.Finding.{edits_flushed, dropped_of, no_cells, none_over, within_of}
+use Rattle.region_replay.proofs.NewStores.{none_stored}
 use Rattle.region_replay.proofs.region.drop_edits.Goals as goal
 
 pub returns-in_err-base-clause-any_moment : goal.returns-in_err-base-clause-any_moment
@@ -39,6 +42,16 @@ returns-in-Ok-clause-replayed g c told base held found =
     dropped_of base u w (g.met.D.Disk.is_true c.args.disk.now told) (g.met.D.Disk.is_true c.remove_all.new.disk told) held held_w x c.requires.order found c.requires.over
     (λ m other. c.in-Ok.ensures.others told m (λ n has. other n (subst (λ (ns : List Name). Contains ns n) c.deref.ensures.value has)))
     c.in_ok-base.base (no_cells x c.in_ok-base.base.content (none_over x c.requires.order c.requires.over) c.in_ok-base.ensures.0) c.in_ok-base.ensures.1
+
+pub returns-in-Ok-clause-stored : goal.returns-in-Ok-clause-stored
+returns-in-Ok-clause-stored g c told found =
+    let u = g.D.Disk.view c.args.disk.now in
+    let w = g.D.Disk.view c.remove_all.new.disk in
+    let x = c.args.found in
+    let same : (m : Name) → ((n : Name) → Contains x.edits.items n → m ≢ n) → content w.files m ≡ content u.files m =
+    λ m other. c.in-Ok.ensures.others told m (λ n has. other n (subst (λ (ns : List Name). Contains ns n) c.deref.ensures.value has)) in
+    none_stored u.files w.files x c.requires.order found (λ m not other. same m other) c.in_ok-base.base x.flushed.whole c.in_ok-base.ensures.1 refl
+    (same (store_name x.region x.next_store) (λ n has is. absurd (cc (ap (λ (k : Name). k.kind) is ∙ c.requires.order.edits.kind n has))))
 
 pub returns-in-Ok-clause-others : goal.returns-in-Ok-clause-others
 returns-in-Ok-clause-others g c told m not other = c.in-Ok.ensures.others told m (λ n has. other n (subst (λ (ns : List Name). Contains ns n) c.deref.ensures.value has))

@@ -12,6 +12,7 @@ use Rattle.region_replay.specs.Cuts.{IsUnflushedCut, AreEdits, EditsUpTo}
 use Rattle.region_replay.proofs.BaseLaws.{joined_cells}
 use Rattle.region_replay.proofs.Cutting.{none_written}
 use Rattle.region_replay.proofs.Finding.{cells_of_found, cut_within, to_low, within_of, not_replaced, is_cut, edits_up, replayed_of, next_below, next_few}
+use Rattle.region_replay.proofs.NewStores.{one_stored}
 use Rattle.region_replay.proofs.region.store_region.Goals as goal
 
 pub returns-in_err-cut-clause-any_moment : goal.returns-in_err-cut-clause-any_moment
@@ -99,6 +100,15 @@ returns-clause-replayed g c told base held found =
     let more = c.requires.more in
     omega (arith, low, more)))
     c.in_ok-base.base (joined_cells x.stored (cells_of_found x) c.in_ok-base.base.content c.in_ok-stored.stored c.in_ok-unflushed.unflushed c.in_ok-base.ensures.0 c.in_ok-stored.ensures.content (c.in_ok-unflushed.ensures.cells ∙ ap (put_numbered empty) c.in_ok-cut.ensures)) c.in_ok-base.ensures.1
+
+pub returns-clause-stored : goal.returns-clause-stored
+returns-clause-stored g c told found =
+    let u = g.D.Disk.view c.args.disk.now in
+    let w = g.D.Disk.view c.replay_found.new.disk in
+    let x = c.args.found in
+    one_stored u.files w.files x c.requires.order found
+    (λ m not other. c.in_ok-unflushed.ensures.others told m not (λ n has. other n (subst (λ (ns : List Name). Contains ns n) c.deref.ensures.value has)))
+    c.in_ok-base.base c.args.last c.in_ok-base.ensures.1 c.requires.more (c.in_ok-unflushed.ensures.stored told)
 
 pub returns-clause-others : goal.returns-clause-others
 returns-clause-others g c told m not other = c.in_ok-unflushed.ensures.others told m not (λ n has. other n (subst (λ (ns : List Name). Contains ns n) c.deref.ensures.value has))

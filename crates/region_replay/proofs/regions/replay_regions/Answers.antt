@@ -8,7 +8,7 @@ use Rattle.found_files.proofs.Causes.{cause_since, no_error, error_of}
 use Rattle.region_replay.specs.declared.found.RegionFiles.{RegionFiles}
 use Rattle.region_replay.specs.Names.{store_name}
 use Rattle.region_replay.specs.Ready.{Found}
-use Rattle.region_replay.specs.Whole.{AreApart}
+use Rattle.region_replay.specs.Whole.{AreApart, AllStoresReplayed}
 use Rattle.region_replay.proofs.InTurn.{Going, none_yet, one_more, moments_on, next_absent, next_there, next_of, among_all, absent_by, apart_before, apart_behind}
 use Rattle.region_replay.proofs.Sorting.{is_first}
 use Rattle.region_replay.proofs.regions.replay_regions.Goals as goal
@@ -109,7 +109,7 @@ loop-region-preserved g c =
       so_far = subst (λ (xs : List Found). Going T u w all (ys ++ x ∷ []) rest xs) (sym c.in_ok-keep.ensures)
           (one_more T u v w all ys rest c.loop-region.replayed.items x so_far (λ t. g.met.D.Disk.is_true c.loop-region.disk t) (λ t. g.met.D.Disk.is_true c.args.disk.now t) c.requires.order (among_all all ys x rest is)
           (apart_before ys x rest apart) (apart_behind ys x rest apart) c.replay_region.ensures.any_moment
-          c.in_ok-next.next c.in_ok-next.ensures.held c.in_ok-next.ensures.replayed c.in_ok-next.ensures.no_edits c.in_ok-next.ensures.others);
+          c.in_ok-next.next c.in_ok-next.ensures.held c.in_ok-next.ensures.replayed c.in_ok-next.ensures.no_edits c.in_ok-next.ensures.others c.in_ok-next.ensures.stored);
       rest = append_assoc ys (x ∷ []) rest ∙ sym is;
       len = omega (arith, c.in-Some.ensures.steps.1, ap length c.in-Some.ensures.steps.0, c.loop-region.invariant.len);
       count = (let was = c.loop-region.invariant.count in let more = ap length c.in_ok-keep.ensures in omega (arith, was, more, length-append c.loop-region.replayed.items (c.in_ok-next.next ∷ []), length-append ys (x ∷ [])));
@@ -135,6 +135,14 @@ returns-clause-names g c told base held found m here =
       | inl was ↦ inl was
       | inr (x, has, is) ↦ inr (x, subst (λ (l : List RegionFiles). Contains l x) (sym all_yielded) has, is)
     ]
+
+pub returns-clause-stored : goal.returns-clause-stored
+returns-clause-stored g c told base held found =
+    let u = g.D.Disk.view c.args.disk.now in
+    let v = g.D.Disk.view c.loop-region.disk in
+    let none : into_iter_items c.loop-region.region-iterator ≡ [] = nil_from_length (into_iter_items c.loop-region.region-iterator) (omega (arith, c.in-None.ensures.steps.0, c.loop-region.invariant.len)) in
+    let all_yielded : c.args.regions.items ≡ c.loop-region.yielded = sym c.loop-region.invariant.rest ∙ ap (λ (l : List RegionFiles). c.loop-region.yielded ++ l) none ∙ append-nil c.loop-region.yielded in
+    subst (λ (l : List RegionFiles). AllStoresReplayed u.files v.files l c.loop-region.replayed.items) (sym all_yielded) (c.loop-region.invariant.so_far.stored told base held found)
 
 pub returns-clause-count : goal.returns-clause-count
 returns-clause-count g c =

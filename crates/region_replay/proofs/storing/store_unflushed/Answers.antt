@@ -8,6 +8,7 @@ use Rattle.flush_snapshot.specs.Cut.{ordered_cells}
 use Rattle.recovery_laws.specs.Alike.{AllAlike}
 use Rattle.found_files.proofs.Causes.{same_cause, no_error}
 use Rattle.region_replay.proofs.Cutting.{cut_moments, cut_held, cut_flushes, none_written}
+use Rattle.region_replay.proofs.NewStores.{cut_stored}
 use Rattle.region_replay.proofs.storing.store_unflushed.Goals as goal
 
 fault_no_memory : (e : FileRefusal) → e ≡ refusals.DiskFault → IsErrOf {T = Segment} (Err e) refusals.Memory → ⊥
@@ -29,6 +30,10 @@ returns-in-Ok-clause-held g c told base held is =
 pub returns-in-Ok-clause-flushed : goal.returns-in-Ok-clause-flushed
 returns-in-Ok-clause-flushed g c told =
     cut_flushes (g.D.Disk.view c.args.disk.now) (g.D.Disk.view c.store_cut.new.disk) c.args.name c.args.from c.args.to c.args.cut c.requires.kind (c.store_cut.ensures.store (λ memory. no_error (sym c.in-Ok.is ∙ memory))) (c.store_cut.ensures.touches told) (c.in-Ok.ensures.stored told)
+
+pub returns-in-Ok-clause-stored : goal.returns-in-Ok-clause-stored
+returns-in-Ok-clause-stored g c told =
+    cut_stored (g.D.Disk.view c.store_cut.new.disk) c.args.name c.args.from c.args.to c.args.cut c.requires.kind (c.store_cut.ensures.store (λ memory. no_error (sym c.in-Ok.is ∙ memory))) (c.in-Ok.ensures.stored told)
 
 pub returns-in-Err-Memory-clause-any_moment : goal.returns-in-Err-Memory-clause-any_moment
 returns-in-Err-Memory-clause-any_moment g c told base held is =

@@ -1,9 +1,10 @@
-use Rattle.std.proofs.Common.{◌+◌, ◌∙◌, refl, ap}
+use Rattle.std.proofs.Common.{◌+◌, ◌∙◌, refl, sym, ap, subst}
 use Rattle.log_model.specs.Files.{Files, content}
 use Rattle.disk_images.proofs.Moments.{joined}
 use Rattle.disk_images.proofs.Moments.{at_end}
 use Rattle.recovery_laws.specs.Alike.{AllAlike}
 use Rattle.found_files.proofs.Causes.{cause_since, no_error}
+use Rattle.region_replay.specs.Whole.{AllStoresReplayed}
 use Rattle.region_replay.proofs.InTurn.{none_logged, ready}
 use Rattle.region_replay.proofs.whole.replay_all.Goals as goal
 
@@ -38,6 +39,10 @@ returns-in-Ok-clause-ready g c told base held found =
 pub returns-in-Ok-clause-names : goal.returns-in-Ok-clause-names
 returns-in-Ok-clause-names g c told base held found m here =
     c.in_ok-replayed.ensures.names told base held found.found m (λ none. here (ap (λ (f : Files). content f m) (c.clear.ensures.files told) ∙ none))
+
+pub returns-in-Ok-clause-stored : goal.returns-in-Ok-clause-stored
+returns-in-Ok-clause-stored g c told base held found =
+    subst (λ (f : Files). AllStoresReplayed (g.D.Disk.view c.args.disk.now).files f c.args.regions.items c.in_ok-replayed.replayed.items) (sym (c.clear.ensures.files told)) (c.in_ok-replayed.ensures.stored told base held found.found)
 
 pub returns-in-Ok-clause-olds : goal.returns-in-Ok-clause-olds
 returns-in-Ok-clause-olds g c told m old = ap (λ (f : Files). content f m) (c.clear.ensures.files told) ∙ c.in_ok-replayed.ensures.olds told m old

@@ -16,7 +16,7 @@ use Rattle.wal_split.specs.Planned.{IsPlan}
 use Rattle.wal_split.proofs.Handing.{of_files, handed}
 use Rattle.wal_split.proofs.Holding.{settled_held}
 use Rattle.wal_split.proofs.Plans.{numbers_low, regions_low, are_jobs, are_free_names, are_free, are_rising, counted, no_log_left, olds_left, small_left, given_left, held_here}
-use Rattle.wal_split.proofs.AfterSplit.{in_range, are_left, one_higher}
+use Rattle.wal_split.proofs.AfterSplit.{in_range, are_left, edits_copied, one_higher}
 use Rattle.wal_split.proofs.whole.split_files.Goals as goal
 
 pub plan_split-requires-clause-numbers : goal.plan_split-requires-clause-numbers
@@ -213,6 +213,28 @@ returns-in-Ok-clause-counts g c told =
     let both = of_files (IsTrue g.D.Disk.told) u.files found.names c.as_slice.result.now xs every ss c.deref.result.now p (c.requires.names told) c.as_slice.ensures c.deref.ensures.value c.requires.read c.in_ok-plan.ensures in
     let true_disk = g.met.D.Disk.is_true c.args.disk.now told in
     record { logs = ap length both.1.logs; entries = counted (IsTrue g.D.Disk.told) told u true_disk (c.requires.settled told) xs every ss p both.0 counts both.1 }
+
+pub returns-in-Ok-clause-edits : goal.returns-in-Ok-clause-edits
+returns-in-Ok-clause-edits g c told =
+    let u = g.D.Disk.view c.args.disk.now in
+    let found = c.args.found in
+    let xs = found.files.entries.items in
+    let every = found.files.stores.items in
+    let ss = c.in_ok-stores.stores.items in
+    let counts = c.in_ok-stores.ensures in
+    let p = c.in_ok-plan.plan in
+    let both = of_files (IsTrue g.D.Disk.told) u.files found.names c.as_slice.result.now xs every ss c.deref.result.now p (c.requires.names told) c.as_slice.ensures c.deref.ensures.value c.requires.read c.in_ok-plan.ensures in
+    let true_disk = g.met.D.Disk.is_true c.args.disk.now told in
+    let w = g.D.Disk.view c.split_found.new.disk in
+    let js : c.deref-2.result.now ≡ p.jobs.items = c.deref-2.ensures.value in
+    let ls : c.deref-3.result.now ≡ p.logs.items = c.deref-3.ensures.value in
+    let others : (m : Name) → IsNoJob p.jobs.items m → IsOther p.logs.items m → content w.files m ≡ content u.files m =
+    λ m no_job other. c.in-Ok.ensures.others told m (λ j has. no_job j (subst (λ (l : List EditsJob). Contains l j) js has)) (λ n has. other n (subst (λ (l : List ℕ). Contains l n) ls has)) in
+    let gone : (n : ℕ) → Contains p.logs.items n → IsAbsent w.files (log_name n) = λ n has. c.in-Ok.ensures.gone told n (subst (λ (l : List ℕ). Contains l n) (sym ls) has) in
+    let written : (j : EditsJob) (e : Entry) → Contains p.jobs.items j → Contains j.entries.items e → HasText j.name j.entries.items None (content w.files j.name) =
+    λ j e has member. c.in-Ok.ensures.written told j e (subst (λ (l : List EditsJob). Contains l j) (sym js) has) member in
+    let x : SplitFiles = record { names = found.names; stores = c.in_ok-stores.stores; plan = p } in
+    edits_copied (IsTrue g.D.Disk.told) told u true_disk (c.requires.settled told) x xs every both.0 counts both.1 (c.requires.names told) w others gone written
 
 pub returns-in-Ok-clause-left : goal.returns-in-Ok-clause-left
 returns-in-Ok-clause-left g c told =

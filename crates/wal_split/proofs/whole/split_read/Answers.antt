@@ -13,6 +13,7 @@ use Rattle.found_files.proofs.Told.{if_damage, handed_on}
 use Rattle.found_files.proofs.Causes.{same_cause, cause_since, same_error}
 use Rattle.wal_split.specs.declared.split_files.SplitFiles.{SplitFiles}
 use Rattle.wal_split.specs.Moments.{WasOrAlike}
+use Rattle.wal_split.specs.Copies.{EditsCopied}
 use Rattle.wal_split.specs.Left.{AtMostOneHigher}
 use Rattle.wal_split.specs.Logs.{LogsAreOld}
 use Rattle.wal_split.proofs.whole.split_read.Goals as goal
@@ -43,6 +44,11 @@ pub returns-in-Ok-clause-alike : goal.returns-in-Ok-clause-alike
 returns-in-Ok-clause-alike g c told =
     let w = g.D.Disk.view c.split_files.new.disk in
     on_ok_weaker c.split_files.result (λ alike. subst (λ (f : Files). AllAlike f w.files) (c.find_files.ensures.watches told).1.files alike) (c.split_files.ensures.alike told)
+
+pub returns-in-Ok-clause-edits : goal.returns-in-Ok-clause-edits
+returns-in-Ok-clause-edits g c told =
+    let w = g.D.Disk.view c.split_files.new.disk in
+    on_ok_weaker c.split_files.result (λ edits. subst (λ (f : Files). EditsCopied f w.files) (c.find_files.ensures.watches told).1.files edits) (c.split_files.ensures.edits told)
 
 pub returns-in-Ok-clause-names : goal.returns-in-Ok-clause-names
 returns-in-Ok-clause-names g c told =
