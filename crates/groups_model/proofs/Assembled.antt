@@ -24,7 +24,7 @@ use Rattle.run_model.specs.Closed.{ClosedAt, ClosedOn, FitsFrom, FitsThroughout}
 use Rattle.run_model.proofs.Choices.{each_in, each_up_to}
 use Rattle.run_model.proofs.KeepsFound.{one_last}
 use Rattle.run_model.proofs.Lists.{mapped}
-use Rattle.run_model.proofs.FromClose.{history_of, same_regions, base_at, lawful_at, one_journal, region_there}
+use Rattle.run_model.proofs.FromClose.{history_of, same_regions, base_at, lawful_at, one_journal, region_there, fault_is_told}
 use Rattle.run_model.proofs.Headlines.{endures, are_done, fault_asked}
 use Rattle.groups_model.specs.Groups.{group_of, IsGroup, replies_on, asked_on}
 use Rattle.groups_model.specs.Closed.{GroupHandled, all_replies, handled_on, AreClosed, AreChosen}
@@ -37,6 +37,11 @@ none_of x is = omega (arith, is.1)
 no_edits : (es : List Edit) → ((e : Edit) → Contains es e → ⊥) → es ≡ []
 no_edits [] none = refl
 no_edits (e ∷ es) none = absurd (none e (0, omega arith, refl))
+
+-- a log is whole where the cause that it would break for isn't there
+unbroken : (broken : Bool) (rose : Type 0) → (broken ≡ true → rose) → (rose → ⊥) → broken ≡ false
+unbroken true rose cause calm = absurd (calm (cause refl))
+unbroken false rose cause calm = refl
 
 -- what holds of one group's server while images and files are told
 pub record IsSettled (script : Script) (found : Files) (left : DiskView) (xs : List ClosedAt) (broken : Bool) : Type 0 where
@@ -88,9 +93,10 @@ module _ (groups k : ℕ) (script : Script) (found left : DiskView) (name : Nami
 
   -- what stands of the group
   kept : IsSettled script found.files left xs broken → (chosen : List ClosedAt) → ((x : ClosedAt) → Contains chosen x → group_of groups x.region ≡ k → Contains xs x) → FitsThroughout found left xs
-      → (status : ℕ) → (status ≢ 5 → broken ≡ false) → IsKept groups script k found left status (map history_of chosen) (all_replies hs)
-  kept so chosen from moments status whole = record {
+      → (rose : Type 0) → (broken ≡ true → rose) → (status : ℕ) → (status ≢ 5 → broken ≡ false) → IsKept groups script k found left rose status (map history_of chosen) (all_replies hs)
+  kept so chosen from moments rose cause status whole = record {
     sound = c.sound;
+    faults = λ reply is fault. cause (fault_is_told c reply (subst (λ l. Contains l reply) (sym (replies_joined groups k hs)) is) fault);
     others = others so;
     images_sound = λ low J image. so.leaves.sound J image low;
     done = subst (AreDone left status) (replies_joined groups k hs) (are_done c so.survives so.leaves (asked_of_group groups k script) status whole);
@@ -106,11 +112,12 @@ module _ (groups k : ℕ) (script : Script) (found left : DiskView) (name : Nami
   }
 
   -- what stands of one of its regions
-  told : IsSettled script found.files left xs broken → (x : ClosedAt) → Contains xs x → group_of groups x.region ≡ k → (status : ℕ) → (status ≢ 5 → broken ≡ false)
+  told : IsSettled script found.files left xs broken → (x : ClosedAt) → Contains xs x → group_of groups x.region ≡ k → (rose : Type 0) → (broken ≡ true → rose) → (status : ℕ) → (status ≢ 5 → broken ≡ false)
       → IsLast found.files x.region x.it.base.last × IsContent (IsRecovered found.files x.region) x.it.base.content × IsOneJournal script (history_of x)
       × IsLawful x.region x.it.base x.it.edits (replies_on groups k (all_replies hs)) × ((history : List Reply) × IsHistory x.region x.it.base x.it.edits (all_replies hs) history)
       × Endures left status (all_replies hs) (history_of x)
-  told so x is here status whole =
+      × ((rose → ⊥) → (J : Files) → IsImageNow left J → Fits J x.region x.it.base x.it.edits (last_of x.it.base.last x.it.edits))
+  told so x is here rose cause status whole =
       let these = asked_of_group groups k script in
       let base = base_at c x is in
       let journal = one_journal c these x is here in
@@ -123,24 +130,27 @@ module _ (groups k : ℕ) (script : Script) (found left : DiskView) (name : Nami
         law,
         (one.0, history_on groups k x.region x.it.base x.it.edits (all_replies hs) one.0 here one.1),
         record { images = λ J image. let i = kept_here.images J image in (i.0, i.1, (λ n receipt. i.2 n (receipted_on groups k x.region n (all_replies hs) here receipt)), i.3) },
+        (λ calm J image. let i = (so.survives x is).images J image in subst (Fits J x.region x.it.base x.it.edits) (i.4 (unbroken broken rose cause calm)) i.1),
       )
 
 module _ {groups : ℕ} {script : Script} {found left : ℕ → DiskView} {names : ℕ → Naming} {hs : List GroupHandled} {xs : ℕ → List ClosedAt} {broken : ℕ → Bool}
-    (some : 1 ≤ groups) (c : AreClosed groups script found left names hs xs broken) (chosen : List ClosedAt) (right : AreChosen groups script xs chosen) where
+    (some : 1 ≤ groups) (c : AreClosed groups script found left names hs xs broken) (chosen : List ClosedAt) (right : AreChosen groups script xs chosen)
+    (rose : ℕ → Type 0) (causes : (k : ℕ) → IsGroup groups k → broken k ≡ true → rose k) where
   assembled : ((k : ℕ) → 1 ≤ k → k ≤ groups → IsSettled script (found k).files (left k) (xs k) (broken k)) → (status : ℕ) → FitsStatus status (all_replies hs)
-      → ((k : ℕ) → IsGroup groups k → status ≢ 5 → broken k ≡ false)
-      → IsGroupsHeadline groups script found left status (report_text (report_of (map history_of chosen) (all_replies hs) status))
-  assembled so status fits whole = record {
+      → (status ≡ 5 → (k : ℕ) × IsGroup groups k × rose k) → ((k : ℕ) → IsGroup groups k → status ≢ 5 → broken k ≡ false)
+      → IsGroupsHeadline groups script found left rose status (report_text (report_of (map history_of chosen) (all_replies hs) status))
+  assembled so status fits cause whole = record {
     histories = map history_of chosen;
     replies = all_replies hs;
     is = refl;
     statuses = fits;
+    cause = cause;
     regions = same_regions chosen ∙ right.numbers;
     calls = c.calls;
     fault_sync = fault_sync;
-    each_region = λ h is. let x = mapped history_of chosen h is in subst (IsTold groups script found left status (all_replies hs)) x.2 (region x.0 x.1);
+    each_region = λ h is. let x = mapped history_of chosen h is in subst (IsTold groups script found left rose status (all_replies hs)) x.2 (region x.0 x.1);
     each_group = λ k is. kept groups k script (found k) (left k) (names k) hs (xs k) (broken k) (c.each k is) (so k is.0 is.1) chosen
-        (λ x member here. subst (λ j. Contains (xs j) x) here (right.from x member)) (c.moments k is) status (whole k is);
+        (λ x member here. subst (λ j. Contains (xs j) x) here (right.from x member)) (c.moments k is) (rose k) (causes k is) status (whole k is);
   }
     where
       fault_sync : (reply : Reply) (r n : ℕ) (sync : Bool) (batch : Batch) → Contains (all_replies hs) reply → reply.call ≡ Put r sync batch → reply.answer ≡ PutFault (Some n) → sync ≡ true
@@ -149,12 +159,12 @@ module _ {groups : ℕ} {script : Script} {found left : ℕ → DiskView} {names
           let member : Contains (replies_on groups k (all_replies hs)) reply = reply_on groups k r (all_replies hs) reply refl (subst (IsOn r) (sym put) refl) is in
           fault_asked (c.each k (group_there groups r some)) reply r n sync batch (subst (λ l. Contains l reply) (sym (replies_joined groups k hs)) member) put fault
 
-      region : (x : ClosedAt) → Contains chosen x → IsTold groups script found left status (all_replies hs) (history_of x)
+      region : (x : ClosedAt) → Contains chosen x → IsTold groups script found left rose status (all_replies hs) (history_of x)
       region x is =
           let k = group_of groups x.region in
           let there = group_there groups x.region some in
-          let t = told groups k script (found k) (left k) (names k) hs (xs k) (broken k) (c.each k there) (so k there.0 there.1) x (right.from x is) refl status (whole k there) in
-          record { last = t.0; content = t.1; journal = t.2; lawful = t.3; serial_history = t.4; endures = t.5 }
+          let t = told groups k script (found k) (left k) (names k) hs (xs k) (broken k) (c.each k there) (so k there.0 there.1) x (right.from x is) refl (rose k) (causes k there) status (whole k there) in
+          record { last = t.0; content = t.1; journal = t.2; lawful = t.3; serial_history = t.4; endures = t.5; whole = t.6 }
 
   all_settled : ∥ ((k : ℕ) → 1 ≤ k → k ≤ groups → IsSettled script (found k).files (left k) (xs k) (broken k)) ∥₁
   all_settled = each_up_to (λ k. IsSettled script (found k).files (left k) (xs k) (broken k)) groups settled
@@ -164,13 +174,13 @@ module _ {groups : ℕ} {script : Script} {found left : ℕ → DiskView} {names
           ∥∥₁_map₂ (each_in (λ (x : ClosedAt). Survives (left k) (broken k) x.region x.it) (xs k) d.survives) d.leaves (λ survives leaves. record { survives = survives; leaves = leaves })
 
   -- the headline, though not which beginning of a journal a crash leaves
-  pub groups_headline : (status : ℕ) → FitsStatus status (all_replies hs) → ((k : ℕ) → IsGroup groups k → status ≢ 5 → broken k ≡ false)
-      → ∥ IsGroupsHeadline groups script found left status (report_text (report_of (map history_of chosen) (all_replies hs) status)) ∥₁
-  groups_headline status fits whole = ∥∥₁_map all_settled (λ so. assembled so status fits whole)
+  pub groups_headline : (status : ℕ) → FitsStatus status (all_replies hs) → (status ≡ 5 → (k : ℕ) × IsGroup groups k × rose k) → ((k : ℕ) → IsGroup groups k → status ≢ 5 → broken k ≡ false)
+      → ∥ IsGroupsHeadline groups script found left rose status (report_text (report_of (map history_of chosen) (all_replies hs) status)) ∥₁
+  groups_headline status fits cause whole = ∥∥₁_map all_settled (λ so. assembled so status fits cause whole)
 
   -- what holds of the histories and the replies goes with it
-  pub groups_headline_with : (status : ℕ) → FitsStatus status (all_replies hs) → ((k : ℕ) → IsGroup groups k → status ≢ 5 → broken k ≡ false)
+  pub groups_headline_with : (status : ℕ) → FitsStatus status (all_replies hs) → (status ≡ 5 → (k : ℕ) × IsGroup groups k × rose k) → ((k : ℕ) → IsGroup groups k → status ≢ 5 → broken k ≡ false)
       → (P : List History → List Reply → Type 0) → P (map history_of chosen) (all_replies hs)
-      → ∥ ((h : IsGroupsHeadline groups script found left status (report_text (report_of (map history_of chosen) (all_replies hs) status))) × P h.histories h.replies) ∥₁
+      → ∥ ((h : IsGroupsHeadline groups script found left rose status (report_text (report_of (map history_of chosen) (all_replies hs) status))) × P h.histories h.replies) ∥₁
   unfolding assembled
-  groups_headline_with status fits whole P holds = ∥∥₁_map all_settled (λ so. (assembled so status fits whole, holds))
+  groups_headline_with status fits cause whole P holds = ∥∥₁_map all_settled (λ so. (assembled so status fits cause whole, holds))

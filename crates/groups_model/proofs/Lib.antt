@@ -1,4 +1,5 @@
 pub mod Projected
 pub mod Parts
 pub mod Assembled
+pub mod OneGroup
 pub mod Rows

@@ -4,4 +4,4 @@
 
 mod laws;
 
-pub use laws::group_runs_are_runs;
+pub use laws::{group_runs_are_runs, one_group_is_a_run};
