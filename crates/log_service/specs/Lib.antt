@@ -13,5 +13,6 @@ pub use Rattle.log_halves.specs.Counts as Counts
 pub use Rattle.log_halves.specs.Begun as Begun
 pub mod Places
 pub mod Turns
+pub mod Tallies
 pub mod Bundles
 pub mod Closed

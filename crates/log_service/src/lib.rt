@@ -5,6 +5,7 @@
 //! is said of who takes a turn, nor that a wait ends.
 #![tactic(auto)]
 
+mod asking;
 mod closing;
 mod company;
 mod counting;
@@ -19,6 +20,7 @@ mod rolling;
 mod seats;
 mod service;
 mod starting;
+mod tally;
 mod turning;
 mod waiting;
 
@@ -32,5 +34,6 @@ pub use log_halves::{
 pub use seats::{LogSeat, LogSeats};
 pub use service::LogService;
 pub use starting::{Rings, ServiceParts, ServiceRefusal};
+pub use tally::{Asked, PutTally, Watch};
 pub use turning::{ConsumerTurn, SyncTurn};
 pub use waiting::Waited;
