@@ -1,5 +1,5 @@
 -- What stays of a chronicle where its store's log is written on.
-use Rattle.std.proofs.Common.{◌≡◌, ℕ, zero, suc, ◌<◌, ◌≤◌, ◌+◌, ◌⊎◌, true, List, [], ◌∷◌, ◌++◌, length, get_or, Contains, Option, Some, None, refl, sym, ap, ◌∙◌, subst, arith, inl, inr, append_assoc, append-nil}
+use Rattle.std.proofs.Common.{◌≡◌, ℕ, zero, suc, ◌<◌, ◌≤◌, ◌+◌, ◌⊎◌, true, List, [], ◌∷◌, ◌++◌, length, get_or, Contains, Option, Some, None, refl, sym, ap, ◌∙◌, subst, arith, inl, inr, append_assoc, append-nil, length-append}
 use Rattle.std.specs.Prelude.{slice_get}
 use Rattle.std.proofs.lemmas.Bool.{cases_lt, cases_order}
 use Rattle.std.proofs.lemmas.Bool.Decides.{nat_tests}
@@ -10,7 +10,7 @@ use Rattle.log_model.specs.LogText.{FileKey, IsLogText}
 use Rattle.log_model.specs.Files.{Files}
 use Rattle.log_model.proofs.TextLaws.{one_text}
 use Rattle.chronicle_model.specs.Chronicle.{bytes_of, LogIsThere, HasLog, Placed, StandsIn, ComesBefore, IsChronicle, Position, is_behind}
-use Rattle.chronicle_model.specs.Growth.{LowerLogsStay, AppendsTo, Prolongs, IsReached, ChronicleIsOne, AppendingProlongs, LaterEntriesAreBehind}
+use Rattle.chronicle_model.specs.Growth.{LogsStay, LowerLogsStay, AppendsTo, Prolongs, IsGoingOn, IsReached, ChronicleIsOne, AppendingProlongs, LaterEntriesAreBehind, ReachedStays, SameLogsGoOn}
 use Rattle.chronicle_model.proofs.Order.{here, front_before, begins_with, same_lists, all_pass}
 
 abbrev key : ℕ → FileKey
@@ -25,11 +25,23 @@ not_there o bytes none some = absurd (cc (none, some))
 pub moved_log : (old new : Files) (n : ℕ) (es : List Entry) (ended : Option ℕ) → bytes_of new n ≡ bytes_of old n → HasLog old n es ended → HasLog new n es ended
 moved_log old new n es ended same log = (log.0, same ∙ log.1, log.2)
 
+-- a log that reads as it did has the entries that it had
+as_it_was : (old new : Files) (n : ℕ) (es : List Entry) (ended : Option ℕ) → bytes_of new n ≡ bytes_of old n → HasLog old n es ended
+    → (more : List Entry) × (ended_now : Option ℕ) × HasLog new n (es ++ more) ended_now
+as_it_was old new n es ended same log =
+    ([], ended, subst (λ (l : List Entry). HasLog new n l ended) (sym (append-nil es)) (moved_log old new n es ended same log))
+
 -- a log has one list of entries
 pub one_log : (files : Files) (n : ℕ) (es ds : List Entry) (a b : Option ℕ) → HasLog files n es a → HasLog files n ds b → es ≡ ds
 one_log files n es ds a b h g =
     let same : g.0 ≡ h.0 = some_bytes g.0 h.0 (sym g.1 ∙ h.1) in
     (one_text (key n) h.0 es ds a b h.2 (subst (λ (bytes : List ℕ). IsLogText (key n) bytes ds b) same g.2)).0
+
+-- and one end
+pub one_end : (files : Files) (n : ℕ) (es ds : List Entry) (a b : Option ℕ) → HasLog files n es a → HasLog files n ds b → a ≡ b
+one_end files n es ds a b h g =
+    let same : g.0 ≡ h.0 = some_bytes g.0 h.0 (sym g.1 ∙ h.1) in
+    (one_text (key n) h.0 es ds a b h.2 (subst (λ (bytes : List ℕ). IsLogText (key n) bytes ds b) same g.2)).1
 
 stays_in : (old new : Files) (x : Placed) → bytes_of new x.file ≡ bytes_of old x.file → StandsIn old x → StandsIn new x
 stays_in old new x same s = record { entries = s.entries; ended = s.ended; log = moved_log old new x.file s.entries s.ended same s.log; at = s.at; place = s.place; is = s.is }
@@ -106,6 +118,23 @@ module _ (n : ℕ) (old new : Files) (a : AppendsTo n old new) where
   higher_is : (k m : ℕ) → k < m → LogIsThere old m → k < n
   higher_is k m lt there = elim (cases_lt n m) as (λ _. k < n) [ inl above ↦ absurd (not_there (bytes_of old m) there.0 (a.highest m above) there.1) | inr le ↦ omega (arith, lt, le) ]
 
+  still_there : (k : ℕ) → LogIsThere old k → LogIsThere new k
+  still_there k there = elim (cases_order k n) as (λ _. LogIsThere new k) [
+    | inl same ↦ subst (LogIsThere new) (sym same) (a.has.0, a.has.1)
+    | inr (inl low) ↦ (there.0, a.lower k low ∙ there.1)
+    | inr (inr high) ↦ absurd (not_there (bytes_of old k) there.0 (a.highest k high) there.1)
+  ]
+
+  has_more : (k : ℕ) (es : List Entry) (ended : Option ℕ) → HasLog old k es ended → (more : List Entry) × (ended_now : Option ℕ) × HasLog new k (es ++ more) ended_now
+  has_more k es ended log = elim (cases_order k n) as (λ _. (more : List Entry) × (ended_now : Option ℕ) × HasLog new k (es ++ more) ended_now) [
+    | inl same ↦
+        let its : es ≡ a.entries = one_log old n es a.entries ended a.ended (subst (λ (j : ℕ). HasLog old j es ended) same log) a.had in
+        let now : HasLog new n (es ++ a.more) a.ended_now = subst (λ (l : List Entry). HasLog new n (l ++ a.more) a.ended_now) (sym its) a.has in
+        (a.more, a.ended_now, subst (λ (j : ℕ). HasLog new j (es ++ a.more) a.ended_now) (sym same) now)
+    | inr (inl low) ↦ as_it_was old new k es ended (a.lower k low) log
+    | inr (inr high) ↦ absurd (not_there (bytes_of old k) log.0 (a.highest k high) log.1)
+  ]
+
   pub appended : Prolongs old new
   appended = record {
     begins = λ c d hc hd.
@@ -115,10 +144,38 @@ module _ (n : ℕ) (old new : Files) (a : AppendsTo n old new) where
           | inr later ↦ inr (λ y has. later y ((hc.exact y).0 has))
         ]);
     lower = λ k m lt there. a.lower k (higher_is k m lt there);
+    there = still_there;
+    longer = has_more;
   }
 
 pub prolonged : AppendingProlongs
 prolonged n old new a = appended n old new a
+
+-- ---- each log reads the same
+
+module _ (old new : Files) (stay : LogsStay old new) where
+  still : (x : Placed) → StandsIn old x → StandsIn new x
+  still x = stays_in old new x (stay x.file)
+
+  stood : (x : Placed) → StandsIn new x → StandsIn old x
+  stood x = stays_in new old x (sym (stay x.file))
+
+  one_list : (c d : List Placed) → IsChronicle old c → IsChronicle new d → d ≡ c
+  one_list c d hc hd = same_lists d c hd.order hc.order (λ x is. (hc.exact x).1 (stood x ((hd.exact x).0 is))) (λ x is. (hd.exact x).1 (still x ((hc.exact x).0 is)))
+
+  those_prolong : Prolongs old new
+  those_prolong = record {
+    begins = λ c d hc hd. ([], one_list c d hc hd ∙ sym (append-nil c));
+    lower = λ k m lt there. stay k;
+    there = λ k there. (there.0, stay k ∙ there.1);
+    longer = λ k es ended log. as_it_was old new k es ended (stay k) log;
+  }
+
+  those_go_on : IsGoingOn old → IsGoingOn new
+  those_go_on on k es ended log highest = on k es ended (moved_log new old k es ended (sym (stay k)) log) (λ m lt. sym (stay m) ∙ highest m lt)
+
+pub same_logs : SameLogsGoOn
+same_logs old new stay = (those_prolong old new stay, those_go_on old new stay)
 
 -- ---- in steps
 
@@ -208,3 +265,9 @@ module _ (old new : Files) (c more : List Placed) (p : Position) (on : Prolongs 
 
 pub later_behind : LaterEntriesAreBehind
 later_behind old new c more p on was is reached = all_pass (is_behind p) more (λ x later. one_behind old new c more p on was is x later reached)
+
+pub reached_stays : ReachedStays
+reached_stays old new p on (inl (m, lt, there)) = inl (m, lt, on.there m there)
+reached_stays old new p on (inr (es, ended, log, le)) =
+    let now = on.longer p.file es ended log in
+    inr (es ++ now.0, now.1, now.2, omega (arith, le, length-append es now.0))

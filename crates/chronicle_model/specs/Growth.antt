@@ -24,10 +24,14 @@ pub record AppendsTo (number : ℕ) (old new : Files) : Type 0 where
   pub ended_now : Option ℕ
   pub has : HasLog new number (entries ++ more) ended_now
 
--- The chronicle before begins the one after, and each log below another one stays.
+-- The chronicle before begins the one after, and each log below another one stays. No log goes, and each has the entries that it
+-- had, and maybe more behind them.
 pub record Prolongs (old new : Files) : Type 0 where
   pub begins : (c d : List Placed) → IsChronicle old c → IsChronicle new d → IsPrefix c d
   pub lower : (number higher : ℕ) → number < higher → LogIsThere old higher → bytes_of new number ≡ bytes_of old number
+  pub there : (number : ℕ) → LogIsThere old number → LogIsThere new number
+  pub longer : (number : ℕ) (entries : List Entry) (ended : Option ℕ) → HasLog old number entries ended
+      → (more : List Entry) × (ended_now : Option ℕ) × HasLog new number (entries ++ more) ended_now
 
 -- A reader stops at such a position: a higher log is there, or the position's own has so many entries.
 abbrev pub IsReached : Files → Position → Type 0
@@ -53,3 +57,9 @@ abbrev pub LaterEntriesAreBehind : Type 0
 LaterEntriesAreBehind =
     (old new : Files) (c more : List Placed) (p : Position) → Prolongs old new → IsChronicle old c → IsChronicle new (c ++ more)
     → IsReached old p → StandsBefore p more
+
+abbrev pub ReachedStays : Type 0
+ReachedStays = (old new : Files) (p : Position) → Prolongs old new → IsReached old p → IsReached new p
+
+abbrev pub SameLogsGoOn : Type 0
+SameLogsGoOn = (old new : Files) → LogsStay old new → Prolongs old new × (IsGoingOn old → IsGoingOn new)

@@ -4,4 +4,7 @@
 
 mod laws;
 
-pub use laws::{appending_prolongs, chronicle_is_one, later_entries_are_behind, shipping_goes_on};
+pub use laws::{
+    appending_prolongs, chronicle_is_one, later_entries_are_behind, reached_stays, same_logs_go_on,
+    shipping_goes_on,
+};
