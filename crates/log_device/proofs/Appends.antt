@@ -1,6 +1,6 @@
 -- What a call leaves of the logs, by their numbers.
 use Rattle.std.proofs.Common.{◌≡◌, ◌≢◌, inl, inr, ℕ, ◌+◌, ◌<◌, ◌≤◌, List, [], ◌++◌, length, Option, Some, None, refl, sym, ap, ◌∙◌, subst, arith}
-use Rattle.std.proofs.lemmas.Bool.{cases_eq}
+use Rattle.std.proofs.lemmas.Bool.{cases_eq, cases_order}
 use Rattle.std.proofs.lemmas.List.{append-nil}
 use Rattle.cell_model.specs.Join.{or_else}
 use Rattle.log_model.specs.declared.name.Name.{Name}
@@ -8,8 +8,8 @@ use Rattle.log_model.specs.declared.name.NameKind.TheVariants as kinds
 use Rattle.log_model.specs.Entry.{Entry}
 use Rattle.log_model.specs.Files.{Files, content, SameBut, IsPresent}
 use Rattle.chronicle_model.specs.Chronicle.{bytes_of, HasLog}
-use Rattle.chronicle_model.specs.Growth.{LogsStay, LowerLogsStay, AppendsTo}
-use Rattle.chronicle_model.proofs.Grown.{appends_none, appends_and_stays}
+use Rattle.chronicle_model.specs.Growth.{LogsStay, LowerLogsStay, AppendsTo, IsGoingOn}
+use Rattle.chronicle_model.proofs.Grown.{not_there, one_end, appends_none, appends_and_stays}
 use Rattle.disk_images.specs.Crash.{DiskView, Throughout, OnlyAt}
 use Rattle.disk_images.specs.Calls.{IsTrueDisk}
 use Rattle.disk_images.specs.OneFile.{Touches, IsDurableFile}
@@ -91,6 +91,14 @@ module _ (log : OpenLog) (v : DiskView) (h : History) (ns : List ℕ) (keeps : K
 
   had_now : HasLog v.files log.name.number h.current None
   had_now = has_log log.name v.files h.current None its_name (rest_has log.name h.current (content v.files log.name) keeps.open_log.each keeps.open_log.file.reads)
+
+  -- it is the highest one, and has no end
+  pub kept_goes_on : IsGoingOn v.files
+  kept_goes_on number es ended its highest = elim (cases_order number log.name.number) as (λ _. ended ≡ None) [
+    | inl same ↦ one_end v.files log.name.number es h.current ended None (subst (λ (k : ℕ). HasLog v.files k es ended) same its) had_now
+    | inr (inl low) ↦ absurd (not_there (bytes_of v.files log.name.number) had_now.0 (highest log.name.number low) had_now.1)
+    | inr (inr high) ↦ absurd (not_there (bytes_of v.files number) its.0 (none_above number high) its.1)
+  ]
 
   pub appends_nothing : AppendsTo log.name.number v.files v.files
   appends_nothing = appends_none log.name.number v.files h.current None none_above had_now

@@ -15,6 +15,11 @@ pub after : {T E : Type 0} {P Q : Type 0} (result : Result T E) → (P → Q) �
 after (Ok t) step p = step p
 after (Err e) step p = tt
 
+-- what follows from Ok and from an error follows
+pub whichever : {T E P R : Type 0} {Q : T → Type 0} (result : Result T E) → ((t : T) → Q t → P) → (R → P) → IfOk result Q → OnErr result R → P
+whichever (Ok t) well badly q r = well t q
+whichever (Err e) well badly q r = badly r
+
 -- nothing is said of Ok after an error
 pub none_of : {T E : Type 0} (result : Result T E) (P : T → Type 0) → IsErr result → IfOk result P
 none_of (Ok t) P failed = absurd (cc failed)

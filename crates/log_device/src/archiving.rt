@@ -1,7 +1,7 @@
 //! Closed logs that are wholly flushed go.
 
 ghost use Rattle.std.specs.Prelude.{◌≡◌, ◌↔◌, IsTrue, IsErr};
-ghost use Rattle.chronicle_model.specs.Growth.{Prolongs};
+ghost use Rattle.chronicle_model.specs.Growth.{IsGoingOn, Prolongs};
 ghost use Rattle.log_ledger.specs.History.{History};
 ghost use Rattle.log_device.specs.Whole.{IsBroken, files_of, HasHistory, CausesFault};
 ghost use Rattle.log_device.specs.Calls.{Archives, ArchivesNumbers};
@@ -25,6 +25,10 @@ impl<D: Disk> Device<D> {
         // The logs' chronicle before the call begins the one after it, whatever it answers.
         ensures chronicle { IsTrue D.told → (h : History) → HasHistory D.Disk self.old h
             → Prolongs (files_of D.Disk self.old) (files_of D.Disk self.new) }
+
+        // Unless the device is broken now, the highest log isn't ended: the chronicle goes on in it.
+        ensures goes_on { IsTrue D.told → (h : History) → HasHistory D.Disk self.old h → (IsBroken self.new → ⊥)
+            → IsGoingOn (files_of D.Disk self.new) }
 
         // What stays, and when it fails.
         ensures stays { IsBroken self.old → self.new ≡ self.old }

@@ -4,7 +4,7 @@ ghost use Rattle.std.specs.Prelude.{◌≡◌, ◌≤◌, ◌<◌, ◌+◌, ◌�
 ghost use Rattle.std.specs.Option.{option_copied};
 ghost use Rattle.seq_accounting.specs.Accounts.{flushed_at};
 ghost use Rattle.recovery_laws.specs.Kept.{flushed_to};
-ghost use Rattle.chronicle_model.specs.Growth.{LogsStay, Prolongs};
+ghost use Rattle.chronicle_model.specs.Growth.{IsGoingOn, LogsStay, Prolongs};
 ghost use Rattle.log_file.specs.Open.{OpenLog};
 ghost use Rattle.flush_snapshot.specs.Cut.{AreOf, IsWithin};
 ghost use Rattle.log_ledger.specs.History.{History, flushed_in, family_in};
@@ -48,6 +48,10 @@ impl<D: Disk> Device<D> {
         // The logs' chronicle before the call begins the one after it, whatever it answers.
         ensures chronicle { IsTrue D.told → (h : History) → HasHistory D.Disk self.old h
             → Prolongs (files_of D.Disk self.old) (files_of D.Disk self.new) }
+
+        // Unless the device is broken now, the highest log isn't ended: the chronicle goes on in it.
+        ensures goes_on { IsTrue D.told → (h : History) → HasHistory D.Disk self.old h → (IsBroken self.new → ⊥)
+            → IsGoingOn (files_of D.Disk self.new) }
 
         // What stays, and when it fails.
         ensures stays { IsBroken self.old → self.new ≡ self.old }

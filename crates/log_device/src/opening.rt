@@ -6,6 +6,7 @@ ghost use Rattle.log_model.specs.Recovered.{IsGreatest};
 ghost use Rattle.recovery_laws.specs.Change.{RecoversSome};
 ghost use Rattle.disk_images.specs.Crash.{Throughout};
 ghost use Rattle.disk_images.specs.Calls.{HasCause, Looks};
+ghost use Rattle.chronicle_model.specs.Growth.{IsGoingOn};
 ghost use Rattle.log_file.specs.Open.{OpenLog};
 ghost use Rattle.log_ledger.specs.Bases.{AreRegions, IsAmong, AreNumbersOf};
 ghost use Rattle.log_ledger.specs.Numbers.{IsServed, AreStoresFew};
@@ -13,7 +14,7 @@ ghost use Rattle.log_ledger.specs.History.{started_in};
 ghost use Rattle.log_device.specs.Bears.{Bears};
 ghost use Rattle.log_device.specs.Keeps.{Keeps, log_name};
 ghost use Rattle.log_device.specs.Opened.{IsOpened, IsLastNumber, log_number, started_disk};
-ghost use Rattle.log_device.specs.Whole.{IsBroken, IsIdle, log_of, numbers_of, HasHistory};
+ghost use Rattle.log_device.specs.Whole.{IsBroken, IsIdle, log_of, numbers_of, files_of, HasHistory};
 
 use crate::device::Device;
 use crate::error::{DeviceRefusal, DeviceWhy};
@@ -45,6 +46,8 @@ impl<D: Disk> Device<D> {
             → Throughout (Bears (D.view disk).files [] (last + 1)) 4 (D.view disk) (D.view (started_disk result)) }
         ensures started { IsTrue D.told → (flushed : ℕ → ℕ) → IsOpened (D.view disk) regions.now flushed → IfOk result
             (λ d. HasHistory D.Disk d (started_in (D.view disk).files flushed)) }
+        ensures goes_on { IsTrue D.told → (flushed : ℕ → ℕ) → IsOpened (D.view disk) regions.now flushed
+            → IfOk result (λ d. IsGoingOn (files_of D.Disk d)) }
         ensures served { IfOk result (λ d. (r : ℕ) → IsServed (numbers_of d) r ↔ IsAmong regions.now r) }
         ensures drawn { IfOk result (λ d. AreNumbersOf (λ m. m.flushed) regions.now (numbers_of d).drawn) }
         ensures next_store { IfOk result (λ d. AreNumbersOf (λ m. m.next_store) regions.now (numbers_of d).next_store) }

@@ -1,7 +1,7 @@
 //! From one log file to the next.
 
 ghost use Rattle.std.specs.Prelude.{◌≡◌, ◌⊎◌, ◌≤◌, ◌<◌, ◌+◌, ◌^◌, ◌↔◌, ℕ, [], sum, Some, None, Ok, Err, IsTrue, IfOk, OnOk, OnErr, IsErr, IsErrOf};
-ghost use Rattle.chronicle_model.specs.Growth.{AppendsTo, Prolongs};
+ghost use Rattle.chronicle_model.specs.Growth.{AppendsTo, IsGoingOn, Prolongs};
 ghost use Rattle.log_file.specs.Open.{OpenLog};
 ghost use Rattle.log_ledger.specs.History.{History, closed_in};
 ghost use Rattle.log_device.specs.Bears.{Bears};
@@ -32,6 +32,10 @@ impl<D: Disk> Device<D> {
         // The logs' chronicle before the call begins the one after it, whatever it answers.
         ensures chronicle { IsTrue D.told → (h : History) → HasHistory D.Disk self.old h
             → Prolongs (files_of D.Disk self.old) (files_of D.Disk self.new) }
+
+        // Unless the device is broken now, the highest log isn't ended: the chronicle goes on in it.
+        ensures goes_on { IsTrue D.told → (h : History) → HasHistory D.Disk self.old h → (IsBroken self.new → ⊥)
+            → IsGoingOn (files_of D.Disk self.new) }
 
         // What stays, and when it fails.
         ensures stays { IsBroken self.old → self.new ≡ self.old }

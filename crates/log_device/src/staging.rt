@@ -2,7 +2,7 @@
 
 ghost use Rattle.std.specs.Prelude.{◌≡◌, ◌≤◌, ◌<◌, ◌+◌, ◌↔◌, ◌++◌, ℕ, [], length, get_or, Some, None, Ok, IsTrue, IfOk, IfErr, OnOk, OnErr, IsErr};
 ghost use Rattle.log_model.specs.Entry.{Entry};
-ghost use Rattle.chronicle_model.specs.Growth.{AppendsTo, Prolongs};
+ghost use Rattle.chronicle_model.specs.Growth.{AppendsTo, IsGoingOn, Prolongs};
 ghost use Rattle.log_file.specs.Open.{OpenLog};
 ghost use Rattle.log_trucks.specs.Held.{Carries};
 ghost use Rattle.log_ledger.specs.History.{History, committed_in};
@@ -73,6 +73,10 @@ impl<D: Disk> Device<D> {
             → AppendsTo file.name.number (files_of D.Disk self.old) (files_of D.Disk self.new) }
         ensures chronicle { IsTrue D.told → (h : History) → HasHistory D.Disk self.old h
             → Prolongs (files_of D.Disk self.old) (files_of D.Disk self.new) }
+
+        // Unless the device is broken now, the highest log isn't ended: the chronicle goes on in it.
+        ensures goes_on { IsTrue D.told → (h : History) → HasHistory D.Disk self.old h → (IsBroken self.new → ⊥)
+            → IsGoingOn (files_of D.Disk self.new) }
 
         // What stays, and when it fails.
         ensures stays { IsBroken self.old → self.new ≡ self.old }

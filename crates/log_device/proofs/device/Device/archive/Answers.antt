@@ -12,7 +12,7 @@ use Rattle.log_device.proofs.Going.{keeps_those}
 use Rattle.log_device.proofs.Breaking.{no_cause}
 use Rattle.log_device.proofs.Results.{is_none_by, some_apart, not_true}
 use Rattle.log_device.proofs.Numbering.{numbered_still}
-use Rattle.log_device.proofs.Whole.{kept_file}
+use Rattle.log_device.proofs.Whole.{kept_file, whole_goes_on}
 use Rattle.log_device.proofs.Syncing.{same_told}
 use Rattle.log_device.proofs.device.Device.archive.Goals as goal
 
@@ -126,3 +126,14 @@ returns-in-Err-clause-broken g c = (λ _. refl, λ _. refl)
 
 pub returns-in-Err-clause-cause : goal.returns-in-Err-clause-cause
 returns-in-Err-clause-cause g c = record { later = c.rename_flushed.ensures.cause.later; risen = λ failed. c.in-Err.ensures.cause.risen refl }
+
+pub returns-in-Ok-clause-goes_on : goal.returns-in-Ok-clause-goes_on
+returns-in-Ok-clause-goes_on g c told h whole unbroken =
+    let archived = (returns-in-Ok-clause-archives g c told h whole).archived in
+    whole_goes_on _ (g.D.Disk.view c.rename_flushed.new.disk) (with_logs h archived.0) archived.3
+
+pub returns-in-Err-clause-goes_on : goal.returns-in-Err-clause-goes_on
+returns-in-Err-clause-goes_on g c told h whole unbroken = absurd (unbroken refl)
+
+pub returns-then-is_none-clause-goes_on : goal.returns-then-is_none-clause-goes_on
+returns-then-is_none-clause-goes_on g c told h whole unbroken = absurd (unbroken (is_none_by c.args.self.now.log c.if-is_none.ensures))

@@ -12,8 +12,9 @@ use Rattle.log_device.specs.Whole.{IsBroken, HasHistory}
 use Rattle.log_device.proofs.Breaking.{cause_behind}
 use Rattle.log_device.proofs.FlushSteps.{not_nothing, no_nothing, no_fault, flushes_behind}
 use Rattle.log_device.proofs.FlushNumbers.{broken_numbers, numbers_behind}
-use Rattle.log_device.proofs.Results.{none_of, on_any, not_true, not_other, is_err_of}
+use Rattle.log_device.proofs.Results.{whichever, none_of, on_any, not_true, not_other, is_err_of}
 use Rattle.log_device.proofs.Syncing.{at_rest}
+use Rattle.log_device.proofs.Whole.{whole_goes_on}
 use Rattle.log_device.proofs.device.Device.flush.Goals as goal
 
 -- the commit failed
@@ -102,3 +103,14 @@ returns-clause-broken g c = c.flush_committed.ensures.breaks.broken
 pub returns-clause-cause : goal.returns-clause-cause
 returns-clause-cause g c =
     cause_behind _ _ _ c.sync.ensures.cause c.flush_committed.ensures.breaks.cause (λ failed. (λ broken. not_true (c.in_ok-sync.ensures.broken.1 broken), failed.1))
+
+pub returns-in_err-sync-clause-goes_on : goal.returns-in_err-sync-clause-goes_on
+returns-in_err-sync-clause-goes_on g c told h whole unbroken = absurd (unbroken (c.in_err-sync.ensures.broken.0 refl))
+
+pub returns-clause-goes_on : goal.returns-clause-goes_on
+returns-clause-goes_on g c told h whole unbroken =
+    let flushes = returns-clause-flushes g c told h whole in
+    let now = c.flush_committed.new.self in
+    let view = g.D.Disk.view now.disk in
+    whichever c.flush_committed.result (λ n kept. whole_goes_on now view (flushed_in (committed_in h) c.args.region (family_in (option_copied c.args.family)) n) kept.2)
+    (λ kept. whole_goes_on now view (committed_in h) (kept unbroken)) flushes.flushed flushes.refused

@@ -4,10 +4,12 @@ use Rattle.log_model.specs.Files.{Files}
 use Rattle.chronicle_model.specs.Growth.{AppendsTo}
 use Rattle.chronicle_model.proofs.Grown.{prolonged, appends_twice}
 use Rattle.disk_images.specs.Crash.{Elapses}
-use Rattle.log_ledger.specs.History.{committed_in}
+use Rattle.log_ledger.specs.History.{committed_in, closed_in}
+use Rattle.log_device.proofs.Results.{whichever}
 use Rattle.log_device.proofs.RollSteps.{failed_rolls, rolls_behind}
 use Rattle.log_device.proofs.RollNumbers.{numbers_behind}
 use Rattle.log_device.proofs.Syncing.{at_rest}
+use Rattle.log_device.proofs.Whole.{whole_goes_on}
 use Rattle.log_device.proofs.device.Device.roll.Goals as goal
 
 -- the commit failed
@@ -58,3 +60,13 @@ returns-clause-memory g c memory =
           subst (λ d. Elapses 4 (g.D.Disk.view c.args.self.now.disk) (g.D.Disk.view d)) (sym same) (c.sync.ensures.syncs told h whole).any_moment.time;
       idle = λ file is none. same ∙ (c.sync.ensures.numbers.idle file is none).0;
     }
+
+pub returns-in_err-sync-clause-goes_on : goal.returns-in_err-sync-clause-goes_on
+returns-in_err-sync-clause-goes_on g c told h whole unbroken = absurd (unbroken (c.in_err-sync.ensures.broken.0 refl))
+
+pub returns-clause-goes_on : goal.returns-clause-goes_on
+returns-clause-goes_on g c told h whole unbroken =
+    let rolls = returns-clause-rolls g c told h whole in
+    let now = c.roll_committed.new.self in
+    let view = g.D.Disk.view now.disk in
+    whichever c.roll_committed.result (λ rolled kept. whole_goes_on now view (closed_in (committed_in h) rolled.closed) kept.0) (λ kept. whole_goes_on now view (committed_in h) (kept unbroken)) rolls.rolled rolls.refused

@@ -15,6 +15,7 @@ use Rattle.log_device.proofs.Numbering.{same_file, numbered_first}
 use Rattle.log_device.proofs.Results.{some_apart}
 use Rattle.log_device.proofs.Starting.{still_moments, names_found}
 use Rattle.log_device.proofs.Told.{started_low}
+use Rattle.log_device.proofs.Whole.{whole_goes_on}
 use Rattle.log_device.proofs.device.Device.start.Goals as goal
 
 pub returns-in_default-clause-any_moment : goal.returns-in_default-clause-any_moment
@@ -111,3 +112,7 @@ returns-in-Err-clause-refused g c told is = c.in-Err.ensures.refused told (ap (�
 
 pub returns-in-Err-clause-cause : goal.returns-in-Err-clause-cause
 returns-in-Err-clause-cause g c = record { later = c.first_log.ensures.cause.later; risen = λ is. c.in-Err.ensures.cause.risen (ap (λ (e : DeviceWhy). Err e) is) }
+
+pub returns-in-Ok-first_log-clause-goes_on : goal.returns-in-Ok-first_log-clause-goes_on
+returns-in-Ok-first_log-clause-goes_on g c told flushed opened =
+    whole_goes_on _ (g.D.Disk.view c.first_log.new.disk) (started_in (g.D.Disk.view c.args.disk).files flushed) (returns-in-Ok-first_log-clause-started g c told flushed opened)

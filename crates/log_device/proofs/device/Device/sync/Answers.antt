@@ -9,7 +9,7 @@ use Rattle.log_ledger.specs.History.{committed_in}
 use Rattle.log_device.specs.Keeps.{Keeps}
 use Rattle.log_device.specs.Numbered.{IsNumbered}
 use Rattle.log_device.proofs.Numbering.{same_file, numbered_still}
-use Rattle.log_device.proofs.Whole.{kept_file}
+use Rattle.log_device.proofs.Whole.{kept_file, whole_goes_on}
 use Rattle.log_device.specs.Whole.{IsCommitted}
 use Rattle.log_device.proofs.Committed.{commit_kept}
 use Rattle.log_device.proofs.Breaking.{no_cause}
@@ -153,3 +153,12 @@ returns-in-Err-clause-broken g c = (λ _. refl, λ _. refl)
 
 pub returns-in-Err-clause-cause : goal.returns-in-Err-clause-cause
 returns-in-Err-clause-cause g c = record { later = c.commit.ensures.cause.later; risen = λ failed. c.in-Err.ensures.cause.risen refl }
+
+pub returns-in-Ok-clause-goes_on : goal.returns-in-Ok-clause-goes_on
+returns-in-Ok-clause-goes_on g c told h whole unbroken = whole_goes_on _ (g.D.Disk.view c.commit.new.disk) (committed_in h) (returns-in-Ok-clause-syncs g c told h whole).committed
+
+pub returns-in-Err-clause-goes_on : goal.returns-in-Err-clause-goes_on
+returns-in-Err-clause-goes_on g c told h whole unbroken = absurd (unbroken refl)
+
+pub returns-in_default-clause-goes_on : goal.returns-in_default-clause-goes_on
+returns-in_default-clause-goes_on g c told h whole unbroken = absurd (unbroken c.in_default.is)
