@@ -1,14 +1,15 @@
 -- Worked examples of chronicles, positions and what is shipped, which the check computes.
-use Rattle.std.proofs.Common.{◌≡◌, ℕ, zero, suc, ◌⊎◌, List, [], ◌∷◌, Contains, Some, None, refl, sym, ap, ◌∙◌, subst, arith, inl, inr}
+use Rattle.std.proofs.Common.{◌≡◌, ℕ, zero, suc, ◌⊎◌, ◌<◌, List, [], ◌∷◌, Contains, Some, None, refl, sym, ap, ◌∙◌, subst, arith, inl, inr}
 use Rattle.std.specs.Prelude.{slice_get}
-use Rattle.std.proofs.lemmas.Bool.{cases_eq}
+use Rattle.std.proofs.lemmas.Bool.{cases_eq, cases_order}
 use Rattle.cell_model.specs.Join.{or_else}
 use Rattle.log_model.specs.Entry.{Entry}
 use Rattle.log_model.specs.Files.{Files, content}
 use Rattle.chronicle_model.specs.Chronicle.{log_name, old_name, bytes_of, HasLog, Placed, StandsIn, ComesBefore, IsOrdered, IsChronicle, Position, behind}
+use Rattle.chronicle_model.specs.Growth.{IsReached, IsGoingOn}
 use Rattle.chronicle_model.specs.Shipping.{EachOnce, Nothing, First, Again, Shipping, Steps, Grows, Ships, unshipped}
 use Rattle.chronicle_model.proofs.Order.{no_member, here, here_or_there, not_itself}
-use Rattle.chronicle_model.proofs.Grown.{one_log, not_there}
+use Rattle.chronicle_model.proofs.Grown.{one_log, one_end, not_there}
 
 -- ---- which log counts
 
@@ -95,6 +96,32 @@ module _ (d e f : Entry) where
 
     the_chronicle : IsChronicle files three
     the_chronicle = record { order = in_order; exact = λ x. (stands x, found x) }
+
+    none_at : (n : ℕ) → 3 < n → bytes_of files n ≡ None
+    none_at n high = others n (λ is. omega (arith, is, high)) (λ is. omega (arith, is, high))
+
+    -- log 1 has an end and log 3 has none
+    goes_on : IsGoingOn files
+    goes_on n es ended its highest = elim (cases_order n 3) as (λ _. ended ≡ None) [
+      | inl same ↦ one_end files 3 es (f ∷ []) ended None (subst (λ (k : ℕ). HasLog files k es ended) same its) third
+      | inr (inl low) ↦ absurd (not_there (bytes_of files 3) third.0 (highest 3 low) third.1)
+      | inr (inr high) ↦ absurd (not_there (bytes_of files n) its.0 (none_at n high) its.1)
+    ]
+
+    -- log 2 is passed by, since log 3 is there
+    reached_below : IsReached files (position 2 7)
+    reached_below = inl (3, omega arith, (third.0, third.1))
+
+    reached_at_the_end : IsReached files (position 3 1)
+    reached_at_the_end = inr (f ∷ [], None, third, omega arith)
+
+    not_reached : IsReached files (position 4 0) → ⊥
+    not_reached (inl (m, above, there)) = not_there (bytes_of files m) there.0 (none_at m (omega (arith, above))) there.1
+    not_reached (inr (es, ended, log, le)) = not_there (bytes_of files 4) log.0 (none_at 4 (omega arith)) log.1
+
+  -- where log 3 is ended too, nothing goes on
+  ended_last : (files : Files) → HasLog files 3 (f ∷ []) (Some 1) → ((n : ℕ) → 3 < n → bytes_of files n ≡ None) → IsGoingOn files → ⊥
+  ended_last files log highest on = absurd (cc (on 3 (f ∷ []) (Some 1) log highest))
 
   -- ---- positions
 
