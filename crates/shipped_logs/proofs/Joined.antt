@@ -214,3 +214,14 @@ followed_from first start m later files ns h = record {
   told = h.told;
   shipped = h.shipped;
 }
+
+-- a call of the device and then one that ships
+module _ {P : Type 0} (has : P → List Message → Type 0) (has_now : List Message → Type 0) (first : Position) (start : Moment) (later : List Moment) (files mid now_files : Files) (peer : P) (at : Position) where
+  pub device_and_shipping : IsAt has first start later files peer at → Prolongs files mid → IsGoingOn mid → (d : List Placed) → now_files ≡ mid → IsChronicle now_files d
+      → ((ms : List Moment) → IsAt has first start ms mid peer at → (ns : List Message) × has_now ns × HasFollowed first start ms now_files ns)
+      → (ns : List Message) × has_now ns × HasFollowed first start later now_files ns
+  device_and_shipping is on going d same of ship =
+      let of_mid : IsChronicle mid d = subst (λ f. IsChronicle f d) same of in
+      let m = after_device has first start later files mid peer at is on going d of_mid in
+      let all = ship (later ++ m ∷ []) (at_after_device has first start later files mid peer at is on going d of_mid) in
+      (all.0, all.1, followed_from first start m later now_files all.0 all.2)

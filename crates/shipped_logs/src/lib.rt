@@ -3,6 +3,8 @@
 //! chronicle behind the first position. Begin at `specs/Following.antt`: it names the clauses of these calls.
 #![tactic(auto)]
 
+mod following;
 mod laws;
 
+pub use following::ship_on;
 pub use laws::shipped_begins_the_chronicle;
