@@ -68,6 +68,8 @@ impl Peer for FailPeer {
 
     ghost has = { λ p ms. ⊥ };
 
+    ghost torn = { λ p ms m. ⊥ };
+
     ghost faults = { λ p. p.faults };
 
     ghost stays = { λ p q. Unit {0} };

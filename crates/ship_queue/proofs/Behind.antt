@@ -14,7 +14,7 @@ none_pass p [] each = refl
 none_pass p (x ∷ xs) each =
     ap (λ b. cond b (x ∷ filter p xs) (filter p xs)) (each x (here x xs)) ∙ none_pass p xs (λ y is. each y (there x xs y is))
 
-passes : (p : Placed → Bool) (xs : List Placed) (y : Placed) → Contains (filter p xs) y → p y ≡ true
+pub passes : (p : Placed → Bool) (xs : List Placed) (y : Placed) → Contains (filter p xs) y → p y ≡ true
 passes p [] y is = absurd (no_member y is)
 passes p (x ∷ xs) y is = elim (cases_Bool (p x)) as (λ _. p y ≡ true) [
   | inl yes' ↦

@@ -9,7 +9,7 @@ use Rattle.file_base.proofs.Looking.{looks_joined}
 use Rattle.chronicle_model.specs.Chronicle.{Placed, Position, IsChronicle, behind}
 use Rattle.log_tail.specs.Reads.{OnlyReads, IsDamagedAt, IsNoPosition}
 use Rattle.ship_queue.specs.Messages.{Message, Record_of, MayBeRecorded}
-use Rattle.ship_queue.specs.Sent.{HasSent, HasStopped}
+use Rattle.ship_queue.specs.Sent.{HasSent, HasStopped, HasTorn}
 use Rattle.ship_queue.specs.Course.{counted, IsText, HasReadOn, IsAtEnd, LeadsTo}
 use Rattle.ship_queue.specs.Shipping.{ShipsBeginning, ShipsUpTo, ShipsAll, IsPartShip, AreTexts}
 use Rattle.ship_queue.proofs.Records.{sent_is_ship, sent_up_to, end_is_ship, end_up_to, end_is_whole, cut_is_part, end_is_part}
@@ -84,6 +84,29 @@ module _ {P : Type 0} (has : P → List Message → Type 0) (files : Files) (p q
     part_at_end c is ns may =
         let s = sent ms h in
         end_is_part c p is.order ms ns s.0 xs q (a.read c is) s.2 (may (ms ++ s.0) s.1)
+
+-- ---- a peer that failed
+
+module _ {P : Type 0} (has : P → List Message → Type 0) (torn : P → List Message → Message → Type 0) (files : Files) (p q : Position) (first now : P) (xs : List Placed) (a : HasReadOn files p q xs) (ms : List Message) (h : has first ms) where
+  abbrev pub IsTornIn : P → Type 0
+  IsTornIn r = (more : List Message) × (m : Message) × (rest : List Message) × torn r (ms ++ more) m × ShipsBeginning files p (more ++ m ∷ rest)
+
+  pub torn_so_far : HasTorn has torn first now 0 xs → IsTornIn now
+  torn_so_far cut =
+      let b = cut ms h in
+      let t = b.3 in (
+        b.0,
+        b.1,
+        t.rest,
+        b.2,
+        λ c is. sent_is_ship c p is.order (b.0 ++ b.1 ∷ t.rest) t.sent (t.begins.0 ++ behind c q)
+            (a.read c is ∙ ap (λ (l : List Placed). l ++ behind c q) t.begins.1 ∙ append_assoc t.sent t.begins.0 (behind c q)) t.are t.since t.each t.within,
+      )
+
+  pub torn_at_end : (last : P) (k : ℕ) → k < 64 → HasSent has first now 0 k xs → ((ls : List Message) → has now ls → torn last ls (Record_of q)) → IsTornIn last
+  torn_at_end last k lt sent cut =
+      let s = sent ms h in
+      (s.0, Record_of q, [], cut (ms ++ s.0) s.1, λ c is. end_is_ship c p is.order s.0 xs q (a.read c is) s.2 k s.3 lt)
 
 -- what one loop keeps
 pub record Going {P D : Type 0} (told : Type 0) (view : D → DiskView) (disk_faults : D → ℕ) (has : P → List Message → Type 0) (same : P → P → Type 0) (faults : P → ℕ) (p q : Position) (first now : P) (disk_first disk : D) (n m : ℕ) : Type 0 where

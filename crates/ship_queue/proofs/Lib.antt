@@ -9,3 +9,4 @@ mod ReadingLaws
 pub mod Going
 mod Ends
 mod Leads
+mod Stops

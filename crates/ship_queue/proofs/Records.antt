@@ -10,7 +10,7 @@ use Rattle.ship_queue.proofs.Each.{each_so_far, each_at_end}
 use Rattle.ship_queue.proofs.Sends.{IsLastOf, IsMark, last_mark}
 use Rattle.ship_queue.proofs.Behind.{behind_mark}
 
-some_is : (p q : Position) → Some p ≡ Some q → p ≡ q
+pub some_is : (p q : Position) → Some p ≡ Some q → p ≡ q
 some_is p q is = cc
 
 module _ (c : List Placed) (p : Position) (o : IsOrdered c) where

@@ -1,9 +1,10 @@
 -- Entries that are shipped one after the other.
-use Rattle.std.proofs.Common.{◌≡◌, ◌⊎◌, ℕ, List, [], ◌∷◌, ◌++◌, Option, Some, None, refl, sym, ap, ◌∙◌, subst, inl, inr, append_assoc, append-nil}
+use Rattle.std.proofs.Common.{◌≡◌, ◌⊎◌, ℕ, ◌+◌, ◌<◌, List, [], ◌∷◌, ◌++◌, Option, Some, None, refl, sym, ap, ◌∙◌, subst, inl, inr, arith, append_assoc, append-nil}
+use Rattle.std.proofs.lemmas.Bool.{cases_lt}
 use Rattle.cell_model.specs.Lists.{IsPrefix}
 use Rattle.chronicle_model.specs.Chronicle.{Placed, Position}
 use Rattle.ship_queue.specs.Messages.{Message, Entry_of, Record_of, shipped_in, recorded_from, recorded_in, position_behind, MayHaveCome, MayBeRecorded}
-use Rattle.ship_queue.specs.Sent.{AreMarks, AreSent, IsCut, HasSent, HasStopped}
+use Rattle.ship_queue.specs.Sent.{AreMarks, AreSent, IsCut, IsNext, RecordsEach, HasSent, HasStopped, HasTorn}
 use Rattle.ship_queue.proofs.Told.{shipped_append, recorded_append}
 use Rattle.ship_queue.proofs.Each.{each_append}
 
@@ -90,6 +91,41 @@ record_cut ms ns x (came, either) = record {
   ];
 }
 
+-- its peer failed at the entry
+pub entry_next : (n : ℕ) (x : Placed) → n < 64 → IsNext n (x ∷ []) [] (Entry_of x)
+entry_next n x lt = elim (cases_lt (n + 1) 64) as (λ _. IsNext n (x ∷ []) [] (Entry_of x)) [
+  | inl few ↦ record {
+    rest = [];
+    sent = x ∷ [];
+    are = one_sent x;
+    begins = ([], refl);
+    since = n + 1;
+    each = refl;
+    within = few;
+  }
+  | inr le ↦ record {
+    rest = Record_of (position_behind x) ∷ [];
+    sent = x ∷ [];
+    are = one_recorded x;
+    begins = ([], refl);
+    since = 0;
+    each = (omega (arith, lt, le), refl);
+    within = omega arith;
+  }
+]
+
+-- and at its record
+pub record_next : (n : ℕ) (x : Placed) → n + 1 ≡ 64 → IsNext n (x ∷ []) (Entry_of x ∷ []) (Record_of (position_behind x))
+record_next n x at = record {
+  rest = [];
+  sent = x ∷ [];
+  are = one_recorded x;
+  begins = ([], refl);
+  since = 0;
+  each = (at, refl);
+  within = omega arith;
+}
+
 -- ---- one after the other
 
 module _ {P : Type 0} (has : P → List Message → Type 0) where
@@ -134,3 +170,42 @@ module _ {P : Type 0} (has : P → List Message → Type 0) where
   stopped_behind p q r n m xs ys sent stopped ms ns h k =
       let a = sent ms h in
       cut_behind ms ns a.0 xs ys a.2 (stopped (ms ++ a.0) ns a.1 k)
+
+  module _ (torn : P → List Message → Message → Type 0) where
+    pub torn_longer : (p q : P) (n : ℕ) (xs ys : List Placed) → HasTorn has torn p q n xs → HasTorn has torn p q n (xs ++ ys)
+    torn_longer p q n xs ys cut ms h =
+        let b = cut ms h in
+        let t = b.3 in (
+          b.0,
+          b.1,
+          b.2,
+          record {
+            rest = t.rest;
+            sent = t.sent;
+            are = t.are;
+            begins = (t.begins.0 ++ ys, ap (λ (l : List Placed). l ++ ys) t.begins.1 ∙ append_assoc t.sent t.begins.0 ys);
+            since = t.since;
+            each = t.each;
+            within = t.within;
+          },
+        )
+
+    pub torn_behind : (p q r : P) (n k : ℕ) (xs ys : List Placed) → HasSent has p q n k xs → HasTorn has torn q r k ys → HasTorn has torn p r n (xs ++ ys)
+    torn_behind p q r n k xs ys sent cut ms h =
+        let a = sent ms h in
+        let b = cut (ms ++ a.0) a.1 in
+        let t = b.3 in
+        let all : (a.0 ++ b.0) ++ b.1 ∷ t.rest ≡ a.0 ++ (b.0 ++ b.1 ∷ t.rest) = append_assoc a.0 b.0 (b.1 ∷ t.rest) in (
+          a.0 ++ b.0,
+          b.1,
+          subst (λ (l : List Message). torn r l b.1) (append_assoc ms a.0 b.0) b.2,
+          record {
+            rest = t.rest;
+            sent = xs ++ t.sent;
+            are = subst (λ (l : List Message). AreSent l (xs ++ t.sent)) (sym all) (sent_append a.0 (b.0 ++ b.1 ∷ t.rest) xs t.sent a.2 t.are);
+            begins = (t.begins.0, ap (λ (l : List Placed). xs ++ l) t.begins.1 ∙ sym (append_assoc xs t.sent t.begins.0));
+            since = t.since;
+            each = subst (λ (l : List Message). RecordsEach n l t.since) (sym all) (each_append n k t.since a.0 (b.0 ++ b.1 ∷ t.rest) a.3 t.each);
+            within = t.within;
+          },
+        )

@@ -1,5 +1,5 @@
 -- What a peer was told of entries that are shipped to it one after the other.
-use Rattle.std.specs.Prelude.{◌≡◌, ◌⊎◌, ◌+◌, ℕ, List, [], ◌∷◌, ◌++◌, Option, Some, None}
+use Rattle.std.specs.Prelude.{◌≡◌, ◌⊎◌, ◌+◌, ◌<◌, ℕ, List, [], ◌∷◌, ◌++◌, Option, Some, None}
 use Rattle.cell_model.specs.Lists.{IsPrefix}
 use Rattle.chronicle_model.specs.Chronicle.{Placed, Position}
 use Rattle.ship_queue.specs.Messages.{Message, Entry_of, Record_of, shipped_in, recorded_in, position_behind}
@@ -30,6 +30,16 @@ pub record IsCut (before after : List Message) (xs : List Placed) : Type 0 where
   pub recorded : (recorded_in after ≡ recorded_in before)
       ⊎ ((done : List Placed) × (x : Placed) × IsPrefix (done ++ x ∷ []) more × (recorded_in after ≡ Some (position_behind x)))
 
+-- With this message behind the first ones, and maybe some behind it, a beginning of these entries is sent.
+pub record IsNext (n : ℕ) (xs : List Placed) (ms : List Message) (m : Message) : Type 0 where
+  pub rest : List Message
+  pub sent : List Placed
+  pub are : AreSent (ms ++ m ∷ rest) sent
+  pub begins : IsPrefix sent xs
+  pub since : ℕ
+  pub each : RecordsEach n (ms ++ m ∷ rest) since
+  pub within : since < 64
+
 module _ {P : Type 0} (has : P → List Message → Type 0) where
   -- the peer was shipped these, behind so many since the last record, and so many are behind the last one now
   abbrev pub HasSent : P → P → ℕ → ℕ → List Placed → Type 0
@@ -38,3 +48,8 @@ module _ {P : Type 0} (has : P → List Message → Type 0) where
   -- it failed somewhere in them
   abbrev pub HasStopped : P → P → List Placed → Type 0
   HasStopped old new xs = (ms ns : List Message) → has old ms → has new ns → IsCut ms ns xs
+
+  module _ (torn : P → List Message → Message → Type 0) where
+    -- it failed within one message, and was told the messages of these entries up to that
+    abbrev pub HasTorn : P → P → ℕ → List Placed → Type 0
+    HasTorn old new n xs = (ms : List Message) → has old ms → (more : List Message) × (m : Message) × torn new (ms ++ more) m × IsNext n xs more m

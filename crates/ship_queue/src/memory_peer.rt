@@ -90,6 +90,8 @@ impl Peer for MemPeer {
 
     ghost has = { HasKept };
 
+    ghost torn = { λ p ms m. HasKept p ms };
+
     ghost faults = { λ p. p.faults };
 
     ghost stays = { λ p q. Unit {0} };

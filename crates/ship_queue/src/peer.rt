@@ -18,6 +18,9 @@ pub trait Peer {
     /// It tells that it was told this.
     ghost has: { Self → List Message → Type 0 };
 
+    /// A call of it has failed: it was told these, and of this message a beginning at most, or all. Nothing came after that.
+    ghost torn: { Self → List Message → Message → Type 0 };
+
     /// How often it has failed. It never falls, and stands at the end of its type.
     ghost faults: { Self → ℕ };
 
@@ -28,6 +31,7 @@ pub trait Peer {
     fn ship(&mut self, at: Position, entry: &Entry) -> Result<(), Failed>
         ensures shipped { (ms : List Message) → has self.old ms → OnOk result (has self.new (ms ++ Entry_of (placed at entry.now) ∷ [])) }
         ensures failed { (ms ns : List Message) → has self.old ms → has self.new ns → IsErr result → MayHaveCome ms ns (placed at entry.now) }
+        ensures torn { (ms : List Message) → has self.old ms → IsErr result → torn self.new ms (Entry_of (placed at entry.now)) }
         ensures stays { stays self.old self.new }
         ensures cause { HasCause (faults self.old) (faults self.new) (IsErr result) };
 
@@ -35,6 +39,7 @@ pub trait Peer {
     fn confirm(&mut self, at: Position) -> Result<(), Failed>
         ensures recorded { (ms : List Message) → has self.old ms → OnOk result (has self.new (ms ++ Record_of (position_of at) ∷ [])) }
         ensures failed { (ms ns : List Message) → has self.old ms → has self.new ns → IsErr result → MayBeRecorded ms ns (position_of at) }
+        ensures torn { (ms : List Message) → has self.old ms → IsErr result → torn self.new ms (Record_of (position_of at)) }
         ensures stays { stays self.old self.new }
         ensures cause { HasCause (faults self.old) (faults self.new) (IsErr result) };
 

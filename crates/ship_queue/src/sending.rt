@@ -5,7 +5,7 @@ ghost use Rattle.disk_images.specs.Calls.{HasCause};
 ghost use Rattle.log_tail.specs.Reads.{placed_behind};
 ghost use Rattle.ship_queue.specs.Messages.{placed};
 ghost use Rattle.ship_queue.specs.Course.{counted};
-ghost use Rattle.ship_queue.specs.Sent.{HasSent, HasStopped};
+ghost use Rattle.ship_queue.specs.Sent.{HasSent, HasStopped, HasTorn};
 
 use crate::peer::Peer;
 use disk_images::Failed;
@@ -51,6 +51,7 @@ pub(crate) fn ship_next<P: Peer>(
 ) -> Result<(), Failed>
     ensures sent { OnOk result (HasSent P.has peer.old peer.new count.old.unrecorded count.new.unrecorded (placed at entry.now ∷ [])) }
     ensures stopped { IsErr result → HasStopped P.has peer.old peer.new (placed at entry.now ∷ []) }
+    ensures torn { IsErr result → HasTorn P.has P.torn peer.old peer.new count.old.unrecorded (placed at entry.now ∷ []) }
     ensures count { OnOk result (count.new.entries ≡ min (count.old.entries + 1) (2 ^ 64 - 1)) }
     ensures stays { P.stays peer.old peer.new }
     ensures cause { HasCause (P.faults peer.old) (P.faults peer.new) (IsErr result) }
@@ -74,6 +75,8 @@ pub(crate) fn ship_list<P: Peer>(
     ensures sent { OnOk result
         (HasSent P.has peer.old peer.new count.old.unrecorded count.new.unrecorded (placed_behind at.file at.entries entries.now)) }
     ensures stopped { IsErr result → HasStopped P.has peer.old peer.new (placed_behind at.file at.entries entries.now) }
+    ensures torn { IsErr result
+        → HasTorn P.has P.torn peer.old peer.new count.old.unrecorded (placed_behind at.file at.entries entries.now) }
     ensures count { (n : ℕ) → count.old.entries ≡ counted n → OnOk result (count.new.entries ≡ counted (n + length entries.now)) }
     ensures stays { P.stays peer.old peer.new }
     ensures cause { HasCause (P.faults peer.old) (P.faults peer.new) (IsErr result) }

@@ -1,15 +1,16 @@
 //! Shipping what stands behind a position.
 
-ghost use Rattle.std.specs.Prelude.{◌≡◌, ◌≢◌, ℕ, List, ◌++◌, length, IsTrue, IsErrOf, IfOk, OnOk};
+ghost use Rattle.std.specs.Prelude.{◌≡◌, ◌≢◌, ℕ, List, ◌++◌, ◌∷◌, length, IsTrue, IsErrOf, IfOk, OnOk};
 ghost use Rattle.log_model.specs.declared.name.Name.{Name as TheName};
 ghost use Rattle.disk_images.specs.Calls.{HasCause};
 ghost use Rattle.chronicle_model.specs.Chronicle.{Placed, Position as ThePosition, IsChronicle, behind};
+ghost use Rattle.chronicle_model.specs.Growth.{IsGoingOn};
 ghost use Rattle.log_tail.specs.Position.{position_of};
 ghost use Rattle.log_tail.specs.Reads.{IsDamagedAt, IsNoPosition, OnlyReads};
 ghost use Rattle.ship_queue.specs.Messages.{Message};
 ghost use Rattle.ship_queue.specs.Course.{counted, LeadsTo};
 ghost use Rattle.ship_queue.specs.Refusals.{IsOrFailure};
-ghost use Rattle.ship_queue.specs.Shipping.{ShipsBeginning, ShipsUpTo, ShipsAll, IsPartShip, AreTexts, HasReadUpTo};
+ghost use Rattle.ship_queue.specs.Shipping.{ShipsBeginning, ShipsUpTo, ShipsAll, IsPartShip, IsShipStep, AreTexts, HasReadUpTo};
 
 use crate::error::{ShipRefusal, Shipped};
 use crate::peer::Peer;
@@ -49,6 +50,17 @@ pub fn ship_all<R: Threads + Wait + Sync, D: Disk + Send, P: Peer>(
     // A peer that fails has a beginning, and has recorded nothing beyond that.
     ensures failed { IsTrue D.told → (c : List Placed) (ms ns : List Message) → IsChronicle (D.view disk.old).files c
         → P.has peer.old ms → P.has peer.new ns → result ≡ Err ShipRefusal.PeerFault → IsPartShip c tail.old ms ns }
+    // It failed within one message of those, and was told nothing more.
+    ensures torn { IsTrue D.told → (ms : List Message) → P.has peer.old ms → result ≡ Err ShipRefusal.PeerFault
+        → (more : List Message) × (m : Message) × (rest : List Message) × P.torn peer.new (ms ++ more) m
+        × ShipsBeginning (D.view disk.old).files tail.old (more ++ m ∷ rest) }
+    // Where the highest log has no end yet, each position that the peer records is one at which a reader stops.
+    ensures reached { IsTrue D.told → IsGoingOn (D.view disk.old).files → (c : List Placed) (ms : List Message)
+        → IsChronicle (D.view disk.old).files c → P.has peer.old ms → result ≢ Err ShipRefusal.PeerFault
+        → (ns : List Message) × P.has peer.new ns × IsShipStep (D.view disk.old).files c tail.old ms ns }
+    ensures reached_so_far { IsTrue D.told → IsGoingOn (D.view disk.old).files → (c : List Placed) (ms ns : List Message)
+        → IsChronicle (D.view disk.old).files c → P.has peer.old ms → P.has peer.new ns → result ≡ Err ShipRefusal.PeerFault
+        → IsShipStep (D.view disk.old).files c tail.old ms ns }
     // Damage, and a position that is none, are told exactly where readings lead to them, unless something fails before.
     ensures damaged { IsTrue D.told → (name : TheName) (at : ℕ) → result ≡ Err (ShipRefusal.Damaged name at)
         → IsDamagedAt (D.view disk.old).files tail.new.file name at }

@@ -8,13 +8,14 @@ use Rattle.log_tail.specs.Reads.{IsRead, placed_behind}
 use Rattle.chronicle_model.specs.Chronicle.{Placed, Position, behind}
 use Rattle.ship_queue.specs.declared.reading.Reading.{Reading}
 use Rattle.ship_queue.specs.Course.{HasReadOn, IsAtEnd, counted, LeadsTo, IsRefusedAt}
-use Rattle.ship_queue.specs.Shipping.{ShipsUpTo, ShipsAll}
+use Rattle.ship_queue.specs.Shipping.{ShipsUpTo, ShipsAll, IsStop}
 use Rattle.ship_queue.specs.declared.error.ShipRefusal.TheVariants as ships
 use Rattle.ship_queue.proofs.Ends.{none_of, err_of, same_err, never_peer, was_disk, was_damaged, was_no_position}
-use Rattle.ship_queue.proofs.Going.{read_none, looks_none, looks_both, all_texts, ships_so_far, part_so_far, ships_all, part_at_end, joined_read, damaged_on, no_position_on, end_on}
+use Rattle.ship_queue.proofs.Going.{read_none, looks_none, looks_both, all_texts, ships_so_far, part_so_far, ships_all, part_at_end, torn_so_far, torn_at_end, joined_read, damaged_on, no_position_on, end_on}
 use Rattle.ship_queue.proofs.Leads.{damaged_stuck, out_stuck, leads_here, none_ahead, leads_from, refused_on, last_read, damage_shown, out_shown}
 use Rattle.ship_queue.proofs.Places.{placed_length}
-use Rattle.ship_queue.proofs.Sends.{none_sent, sent_joined, stopped_behind}
+use Rattle.ship_queue.proofs.Sends.{none_sent, sent_joined, stopped_behind, torn_behind}
+use Rattle.ship_queue.proofs.Stops.{step_cut, step_so_far, step_all, step_at_end, end_stop}
 use Rattle.ship_queue.proofs.shipping.ship_all.Goals as goal
 
 pub loop-round-init : goal.loop-round-init
@@ -127,6 +128,19 @@ returns-in_err-reading-clause-out g c told q file has ahead out =
     refused_on (g.D.Disk.view c.args.disk.now) (g.D.Disk.view c.loop-round.disk) c.loop-round.tail (Err e) (was.looks told) (c.in_err-reading.ensures.refused told) in
     out_shown (Err e) c.from_residual.result e refl (err_of c.from_residual.result _ c.from_residual.ensures.1) files c.args.tail.now c.loop-round.tail (was.leads told) (refl {a = true}) refused q ahead file has out
 
+pub returns-in_err-reading-clause-torn : goal.returns-in_err-reading-clause-torn
+returns-in_err-reading-clause-torn g c told ms h failed =
+    absurd (never_peer c.in_err-reading.field-0.0 (same_err c.from_residual.result _ _ (err_of c.from_residual.result _ c.from_residual.ensures.1) failed))
+
+pub returns-in_err-reading-clause-reached : goal.returns-in_err-reading-clause-reached
+returns-in_err-reading-clause-reached g c told going chronicle ms is h not_peer =
+    let was = c.loop-round.invariant in
+    step_so_far g.P.Peer.has (g.D.Disk.view c.args.disk.now).files c.args.tail.now c.loop-round.tail c.args.peer.now c.loop-round.peer was.xs (was.read told) ms h chronicle is c.loop-round.count.unrecorded c.loop-round.count.within was.sent
+
+pub returns-in_err-reading-clause-reached_so_far : goal.returns-in_err-reading-clause-reached_so_far
+returns-in_err-reading-clause-reached_so_far g c told going chronicle ms ns is h k failed =
+    absurd (never_peer c.in_err-reading.field-0.0 (same_err c.from_residual.result _ _ (err_of c.from_residual.result _ c.from_residual.ensures.1) failed))
+
 -- ---- the last record
 
 pub returns-then-reading-clause-ships : goal.returns-then-reading-clause-ships
@@ -172,6 +186,20 @@ returns-then-reading-clause-out g c told q file has ahead out =
     let read : IsRead files c.loop-round.tail [] c.loop-round.tail = last_read (g.D.Disk.view c.args.disk.now) (g.D.Disk.view c.loop-round.disk) c.loop-round.tail c.read_next.new.tail c.in_ok-reading.reading.entries (was.looks told)
     (c.in_ok-reading.ensures.stays (search rules)) (c.in_ok-reading.ensures.none (search rules)) (c.in_ok-reading.ensures.reads told) in
     absurd (none_ahead files c.args.tail.now c.loop-round.tail q (was.leads told) read (out_stuck files q file has out) ahead)
+
+pub returns-then-reading-clause-reached : goal.returns-then-reading-clause-reached
+returns-then-reading-clause-reached g c told going chronicle ms is h not_peer =
+    let was = c.loop-round.invariant in
+    let files : Files = (g.D.Disk.view c.args.disk.now).files in
+    let p : Position = c.args.tail.now in
+    let q : Position = position_of c.position-position.result in
+    let stays : c.read_next.new.tail ≡ c.loop-round.tail = c.in_ok-reading.ensures.stays (search rules) in
+    let same : q ≡ c.loop-round.tail = c.position-position.ensures ∙ stays in
+    let read : HasReadOn files p q was.xs = subst (λ (r : Position). HasReadOn files p r was.xs) (sym same) (was.read told) in
+    let last : IsRead files c.loop-round.tail [] c.loop-round.tail = last_read (g.D.Disk.view c.args.disk.now) (g.D.Disk.view c.loop-round.disk) c.loop-round.tail c.read_next.new.tail c.in_ok-reading.reading.entries (was.looks told)
+    stays (c.in_ok-reading.ensures.none (search rules)) (c.in_ok-reading.ensures.reads told) in
+    let end : IsStop files p q = subst (IsStop files p) (sym same) (end_stop files going p c.loop-round.tail (was.leads told) last) in
+    step_all g.P.Peer.has files p q c.args.peer.now c.loop-round.peer was.xs read ms h chronicle is c.loop-round.count.unrecorded c.loop-round.count.within was.sent c.confirm.new.self end c.in_ok-confirm.ensures.recorded
 
 -- ---- the last record fails
 
@@ -223,6 +251,37 @@ returns-in_err-confirm-clause-peer_cause g c =
     let was = c.loop-round.invariant in
     let cause = c.in_err-confirm.ensures.cause in
     record { later = omega (arith, was.peer_later, cause.later); risen = λ is. omega (arith, was.peer_later, cause.risen (refl {a = true})) }
+
+pub returns-in_err-confirm-clause-torn : goal.returns-in_err-confirm-clause-torn
+returns-in_err-confirm-clause-torn g c told ms h failed =
+    let was = c.loop-round.invariant in
+    let files : Files = (g.D.Disk.view c.args.disk.now).files in
+    let p : Position = c.args.tail.now in
+    let q : Position = position_of c.position-position.result in
+    let stays : c.read_next.new.tail ≡ c.loop-round.tail = c.in_ok-reading.ensures.stays (search rules) in
+    let same : q ≡ c.loop-round.tail = c.position-position.ensures ∙ stays in
+    let read : HasReadOn files p q was.xs = subst (λ (r : Position). HasReadOn files p r was.xs) (sym same) (was.read told) in
+    torn_at_end g.P.Peer.has g.P.Peer.torn files p q c.args.peer.now c.loop-round.peer was.xs read ms h c.confirm.new.self c.loop-round.count.unrecorded c.loop-round.count.within was.sent
+    (λ ls hl. c.in_err-confirm.ensures.torn ls hl (refl {a = true}))
+
+pub returns-in_err-confirm-clause-reached : goal.returns-in_err-confirm-clause-reached
+returns-in_err-confirm-clause-reached g c told going chronicle ms is h not_peer =
+    absurd (not_peer (err_of c.from_residual-in_err-confirm.result ships.PeerFault c.from_residual-in_err-confirm.ensures.1))
+
+pub returns-in_err-confirm-clause-reached_so_far : goal.returns-in_err-confirm-clause-reached_so_far
+returns-in_err-confirm-clause-reached_so_far g c told going chronicle ms ns is h k failed =
+    let was = c.loop-round.invariant in
+    let files : Files = (g.D.Disk.view c.args.disk.now).files in
+    let p : Position = c.args.tail.now in
+    let q : Position = position_of c.position-position.result in
+    let stays : c.read_next.new.tail ≡ c.loop-round.tail = c.in_ok-reading.ensures.stays (search rules) in
+    let same : q ≡ c.loop-round.tail = c.position-position.ensures ∙ stays in
+    let read : HasReadOn files p q was.xs = subst (λ (r : Position). HasReadOn files p r was.xs) (sym same) (was.read told) in
+    let last : IsRead files c.loop-round.tail [] c.loop-round.tail = last_read (g.D.Disk.view c.args.disk.now) (g.D.Disk.view c.loop-round.disk) c.loop-round.tail c.read_next.new.tail c.in_ok-reading.reading.entries (was.looks told)
+    stays (c.in_ok-reading.ensures.none (search rules)) (c.in_ok-reading.ensures.reads told) in
+    let end : IsStop files p q = subst (IsStop files p) (sym same) (end_stop files going p c.loop-round.tail (was.leads told) last) in
+    step_at_end g.P.Peer.has files p q c.args.peer.now c.loop-round.peer was.xs read ms h chronicle is c.loop-round.count.unrecorded c.loop-round.count.within was.sent c.confirm.new.self end ns k
+    (λ ls hl. c.in_err-confirm.ensures.failed ls ns hl k (refl {a = true}))
 
 -- ---- the peer fails at an entry
 
@@ -279,3 +338,31 @@ returns-in_err-ship_list-clause-peer_cause g c =
     let was = c.loop-round.invariant in
     let cause = c.in_err-ship_list.ensures.cause in
     record { later = omega (arith, was.peer_later, cause.later); risen = λ is. omega (arith, was.peer_later, cause.risen (refl {a = true})) }
+
+pub returns-in_err-ship_list-clause-torn : goal.returns-in_err-ship_list-clause-torn
+returns-in_err-ship_list-clause-torn g c told ms h failed =
+    let was = c.loop-round.invariant in
+    let files : Files = (g.D.Disk.view c.args.disk.now).files in
+    let file : ℕ = c.in_ok-reading.reading.at.file in
+    let before : ℕ = c.in_ok-reading.reading.at.entries in
+    let ys : List Placed = placed_behind file before c.as_slice.result.now in
+    let here = subst (λ (es : List Entry). HasReadOn (g.D.Disk.view c.loop-round.disk).files c.loop-round.tail c.read_next.new.tail (placed_behind file before es)) (sym c.as_slice.ensures) (c.in_ok-reading.ensures.read told) in
+    let read = joined_read (g.D.Disk.view c.args.disk.now) (g.D.Disk.view c.loop-round.disk) c.args.tail.now c.loop-round.tail c.read_next.new.tail was.xs ys (was.looks told) (was.read told) here in
+    torn_so_far g.P.Peer.has g.P.Peer.torn files c.args.tail.now c.read_next.new.tail c.args.peer.now c.ship_list.new.peer (was.xs ++ ys) read ms h
+    (torn_behind g.P.Peer.has g.P.Peer.torn c.args.peer.now c.loop-round.peer c.ship_list.new.peer 0 c.loop-round.count.unrecorded was.xs ys was.sent (c.in_err-ship_list.ensures.torn (refl {a = true})))
+
+pub returns-in_err-ship_list-clause-reached : goal.returns-in_err-ship_list-clause-reached
+returns-in_err-ship_list-clause-reached g c told going chronicle ms is h not_peer =
+    absurd (not_peer (err_of c.from_residual-in_err-ship_list.result ships.PeerFault c.from_residual-in_err-ship_list.ensures.1))
+
+pub returns-in_err-ship_list-clause-reached_so_far : goal.returns-in_err-ship_list-clause-reached_so_far
+returns-in_err-ship_list-clause-reached_so_far g c told going chronicle ms ns is h k failed =
+    let was = c.loop-round.invariant in
+    let files : Files = (g.D.Disk.view c.args.disk.now).files in
+    let file : ℕ = c.in_ok-reading.reading.at.file in
+    let before : ℕ = c.in_ok-reading.reading.at.entries in
+    let ys : List Placed = placed_behind file before c.as_slice.result.now in
+    let here = subst (λ (es : List Entry). HasReadOn (g.D.Disk.view c.loop-round.disk).files c.loop-round.tail c.read_next.new.tail (placed_behind file before es)) (sym c.as_slice.ensures) (c.in_ok-reading.ensures.read told) in
+    let read = joined_read (g.D.Disk.view c.args.disk.now) (g.D.Disk.view c.loop-round.disk) c.args.tail.now c.loop-round.tail c.read_next.new.tail was.xs ys (was.looks told) (was.read told) here in
+    step_cut g.P.Peer.has files c.args.tail.now c.read_next.new.tail c.args.peer.now c.ship_list.new.peer (was.xs ++ ys) read ms h chronicle is c.loop-round.count.unrecorded c.loop-round.count.within ns
+    (stopped_behind g.P.Peer.has c.args.peer.now c.loop-round.peer c.ship_list.new.peer 0 c.loop-round.count.unrecorded was.xs ys was.sent (c.in_err-ship_list.ensures.stopped (refl {a = true}))) k
