@@ -56,7 +56,7 @@ pub(crate) fn region_of(
 }
 
 /// The number of the next store beside those among these names. No memory too where no number up to 2^63 is left for it.
-pub fn next_store(names: &[Name]) -> Result<u64, NoMemory>
+pub(crate) fn next_store(names: &[Name]) -> Result<u64, NoMemory>
     ensures { IfOk result (λ next. IsNextStore names.now next) }
 {
     let mut next = 1;
@@ -140,7 +140,7 @@ fn add_own(own: &mut Vec<Entry>, region: u32, entry: Entry) -> Result<(), NoMemo
 }
 
 /// The cells of these stores, one behind the other. No byte of a cell is copied.
-pub fn all_cells(alloc: Global, stores: Vec<FoundStore>) -> Result<NumberedCells, NoMemory>
+pub(crate) fn all_cells(alloc: Global, stores: Vec<FoundStore>) -> Result<NumberedCells, NoMemory>
     ensures { IfOk result (λ cells. cells ≡ cells_of stores.items) }
 {
     let mut cells = NumberedCells::new(alloc);

@@ -1,7 +1,6 @@
 //! Replaying the edits files of a store whose logs were split. What no store has of a region goes into its next store, its
 //! edits files go, and the region's cells are put in order for whoever opens it. What stands in the files was read before,
-//! but where one region is replayed alone. Who compacts a region's stores takes their cells and the next store's number as a
-//! replay does.
+//! but where one region is replayed alone.
 #![tactic(auto)]
 
 mod alone;
@@ -20,7 +19,6 @@ mod replaying;
 mod storing;
 mod whole;
 
-pub use alone::{all_cells, next_store};
 pub use found::{Recovered, Replayed};
 pub use found_files;
 pub use laws::one_sort_gives_the_base;

@@ -18,10 +18,11 @@ use Rattle.found_files.specs.declared.found.FoundStore.{FoundStore}
 use Rattle.region_replay.specs.Dealt as dealt
 use Rattle.wal_split.specs.Moments.{During}
 use Rattle.store_compact.specs.declared.kind.CompactKind.{CompactKind}
-use Rattle.store_compact.specs.Compacting.{kept_by, WasOrCompacted, IsCompacted, HasOneStore, AreStoredCells, IsOtherFile}
+use Rattle.store_compact.specs.Compacting.{kept_by, WasOrCompacted, WasOrCompactedIn, IsCompacted, IsCompactedIn, HasOneStore, AreStoredCells, IsOtherFile}
 use Rattle.store_compact.specs.Ready.{IsAtRest}
 use Rattle.store_compact.specs.Plan.{whole_store, AreCovered, AreToReplace, IsReplaced, IsReplacing}
-use Rattle.store_compact.proofs.Planned.{IsPlan, compacted, one_left}
+use Rattle.store_compact.proofs.InRegion.{first_in, all_in}
+use Rattle.store_compact.proofs.Planned.{IsPlan, compacted, compacted_in, one_left}
 use Rattle.store_compact.proofs.Planning.{stored_cells, planned}
 use Rattle.store_compact.proofs.Moments.{was, written_moments, written}
 use Rattle.store_compact.proofs.Leaving.{AreOthers}
@@ -34,7 +35,7 @@ module _ (told : Type 0) (is_told : told) (found : Files) (name : Name) (names :
   pub absent : IsAbsent found name
   absent = elim (present_cases found name) as (λ _. IsAbsent found name) [
     | inl none ↦ none
-    | inr some ↦ (let lower = these.above name (these.every is_told name these.kind refl (λ none. absurd (cc (sym none ∙ some.1)))) these.kind in absurd (omega (arith, lower)))
+    | inr some ↦ (let lower = these.number.above name (these.every is_told name these.kind refl (λ none. absurd (cc (sym none ∙ some.1)))) these.kind in absurd (omega (arith, lower)))
   ]
 
   pub apart : (m : Name) → Contains names m → m ≢ name
@@ -74,6 +75,12 @@ module _ {told : Type 0} (is_told : told) (v : DiskView) (rest : IsAtRest v) (na
     pub first_moments : IsFit v.files → During (WasOrCompacted v.files name.region kind) v w
     first_moments fit = (by, written_moments v rest name these.kind here kind new plan fit by w over)
 
+    pub first_moments_in : During (WasOrCompactedIn v.files name.region kind) v w
+    first_moments_in = first_in v rest name these.kind here kind new plan by w over
+
+    pub all_moments_in : (n : ℕ) (x : DiskView) → Throughout (IsReplaced v.files name (store_text Tagged new)) n w x → During (WasOrCompactedIn v.files name.region kind) v x
+    all_moments_in n x second = all_in v rest name these.kind here kind new plan by w over n x second
+
     pub ready_to_go : IsTrueDisk v → Touches name v w → IsDurableFile w name (store_text Tagged new) → IsReplacing v.files name (store_text Tagged new) w
     ready_to_go sound touches durable = written v rest name these.kind here kind new plan sound by w over touches durable
 
@@ -87,5 +94,11 @@ module _ {told : Type 0} (is_told : told) (v : DiskView) (rest : IsAtRest v) (na
   pub done : IsFit v.files → (J : Files) → IsReplaced v.files name (store_text Tagged new) J → ((m : Name) → Contains names m → m.kind ≡ kinds.Store → IsAbsent J m) → IsCompacted v.files name.region kind J × HasOneStore v.files name.region J
   done fit J replaced gone = (
     compacted v.files J kind name new plan replaced fit,
+    one_left v.files J kind name new plan replaced (λ m is_store region present. gone m (these.every is_told m is_store region present) is_store),
+  )
+
+  pub done_in : (J : Files) → IsReplaced v.files name (store_text Tagged new) J → ((m : Name) → Contains names m → m.kind ≡ kinds.Store → IsAbsent J m) → IsCompactedIn v.files name.region kind J × HasOneStore v.files name.region J
+  done_in J replaced gone = (
+    compacted_in v.files J kind name new plan replaced,
     one_left v.files J kind name new plan replaced (λ m is_store region present. gone m (these.every is_told m is_store region present) is_store),
   )

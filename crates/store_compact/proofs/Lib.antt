@@ -4,6 +4,7 @@ pub mod Stores
 pub mod Planned
 pub mod Moments
 pub mod Leaving
+pub mod InRegion
 pub mod Planning
 pub mod Counting
 pub mod Begun

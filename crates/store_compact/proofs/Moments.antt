@@ -39,17 +39,18 @@ rest_watched by u v watches rest = record {
   no_logs = subst HasNoLogs (sym watches.files) rest.no_logs;
   no_logs_in = λ J now. rest.no_logs_in J (was_image by u v watches J now);
   stores_in = λ J m now store. rest.stores_in J m (was_image by u v watches J now) store ∙ sym (ap (λ (f : Files). content f m) watches.files);
+  small = λ m here. rest.small m (λ gone. here (ap (λ (f : Files). content f m) watches.files ∙ gone));
 }
 
 module _ (v : DiskView) (rest : IsAtRest v) (name : Name) (store_kind : name.kind ≡ kinds.Store) (absent : IsAbsent v.files name) where
   none_there : (I : Files) → IsImageNow v I → IsNotThere (content I name)
   none_there I now bytes there gate = absurd (cc (sym (rest.stores_in I name now store_kind ∙ absent) ∙ there))
 
-  no_logs_here : (I J : Files) → IsImageNow v I → ((m : Name) → m ≢ name → content J m ≡ content I m) → HasNoLogs J
+  pub no_logs_here : (I J : Files) → IsImageNow v I → ((m : Name) → m ≢ name → content J m ≡ content I m) → HasNoLogs J
   no_logs_here I J now same m holds = same m (λ at. store_apart name m store_kind holds (sym at)) ∙ rest.no_logs_in I now m holds
 
   -- an image that has the store
-  replaced : (text : List ℕ) (I J : Files) → IsImageNow v I → ((m : Name) → m ≢ name → content J m ≡ content I m) → content J name ≡ Some text → IsReplaced v.files name text J
+  pub replaced : (text : List ℕ) (I J : Files) → IsImageNow v I → ((m : Name) → m ≢ name → content J m ≡ content I m) → content J name ≡ Some text → IsReplaced v.files name text J
   replaced text I J now same whole = record {
     no_logs = no_logs_here I J now same;
     new = whole;
@@ -83,4 +84,4 @@ module _ (v : DiskView) (rest : IsAtRest v) (name : Name) (store_kind : name.kin
 
 -- an opening leaves a disk at rest
 pub opened_at_rest : (v : DiskView) → IsReady v → IsAtRest v
-opened_at_rest v ready = record { none_gone = ready.none_gone; no_logs = ready.no_logs; no_logs_in = ready.no_logs_in; stores_in = ready.stores_in }
+opened_at_rest v ready = record { none_gone = ready.none_gone; no_logs = ready.no_logs; no_logs_in = ready.no_logs_in; stores_in = ready.stores_in; small = ready.small }

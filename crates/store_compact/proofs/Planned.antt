@@ -13,8 +13,9 @@ use Rattle.recovery_laws.proofs.Names.{name_cases}
 use Rattle.recovery_laws.proofs.OneStore.{one_store}
 use Rattle.recovery_laws.proofs.Lasts.{same_last}
 use Rattle.store_file.proofs.Texts.{tagged_text}
+use Rattle.region_replay.specs.Stored.{IsNextNumber}
 use Rattle.store_compact.specs.declared.kind.CompactKind.{CompactKind}
-use Rattle.store_compact.specs.Compacting.{kept_by, AreStoredCells, IsCompacted, HasOneStore}
+use Rattle.store_compact.specs.Compacting.{kept_by, AreStoredCells, IsCompacted, IsCompactedIn, HasOneStore}
 use Rattle.store_compact.specs.Plan.{IsReplaced}
 use Rattle.store_compact.proofs.Stores.{none_logged, alike_where}
 
@@ -24,7 +25,7 @@ pub record IsPlan (found : Files) (kind : CompactKind) (name : Name) (s : Store)
   pub region : s.region ≡ name.region
   pub store : IsStore s
   pub scope : s.scope ≡ 1
-  pub above : (m : Name) → m.kind ≡ kinds.Store → m.region ≡ name.region → IsPresent found m → m.number < name.number
+  pub number : IsNextNumber found name.region name.number
   pub cells : List NumberedCell
   pub before : AreStoredCells found name.region cells
   pub kept : s.cells ≡ kept_by kind cells
@@ -51,7 +52,7 @@ module _ (F J : Files) (kind : CompactKind) (name : Name) (s : Store) (plan : Is
   old_file : (m : Name) (t : Store) → IsStoreFile J name.region m t → (m ≡ name) ⊎ (m.number < name.number)
   old_file m t f = elim (name_cases m name) as (λ _. (m ≡ name) ⊎ (m.number < name.number)) [
     | inl at ↦ inl at
-    | inr apart ↦ inr (plan.above m f.kind f.of (λ none. elim (is.own m f.kind f.of apart) as (λ _. ⊥) [
+    | inr apart ↦ inr (plan.number.above m f.kind f.of (λ none. elim (is.own m f.kind f.of apart) as (λ _. ⊥) [
       | inl same ↦ absurd (cc (sym (same ∙ none) ∙ f.there))
       | inr gone ↦ absurd (cc (sym gone ∙ f.there))
     ]))
@@ -107,6 +108,15 @@ module _ (F J : Files) (kind : CompactKind) (name : Name) (s : Store) (plan : Is
       (top.1.to, inl (top.0, top.1, top.2, refl), (let reached = top.3 in omega (arith, same, to, reached)))
   seen_old m (inr e) = absurd (none_logged J is.no_logs e.0 e.1)
 
+  pub compacted_in : IsCompactedIn F name.region kind J
+  compacted_in = record {
+    cells = plan.cells;
+    before = plan.before;
+    after = subst (λ (l : List NumberedCell). AreStoredCells J name.region l) plan.kept stored;
+    last = λ n. same_last F J name.region seen_new seen_old n;
+    others = is.others;
+  }
+
   module _ (fit : IsFit F) where
     from_found : (m : Name) (bytes : List ℕ) → m.kind ≡ kinds.Store → content J m ≡ content F m → content J m ≡ Some bytes → IsThere bytes → (t : Store) × IsStoreFile J m.region m t
     from_found m bytes store same there gate =
@@ -146,7 +156,7 @@ module _ (F J : Files) (kind : CompactKind) (name : Name) (s : Store) (plan : Is
     store = s;
     file = new_file;
     scope = plan.scope;
-    above = plan.above;
+    number = plan.number;
     from = plan.from;
     to = plan.to;
     only = λ m store region present. elim (name_cases m name) as (λ _. m ≡ name) [

@@ -94,7 +94,11 @@ module _ (told : Type 0) (is_told : told) (found : Files) (name : Name) (names :
     region = refl;
     store = store;
     scope = refl;
-    above = λ m is region present. these.above m (these.every is_told m is region present) is;
+    number = record {
+      given = these.number.given;
+      above = λ m is region present. these.number.above m (these.every is_told m is region present) is;
+      least = λ k bound. these.number.least k (λ m has is. bound m is (these.of m has) (these.there is_told m has));
+    };
     cells = cells;
     before = before;
     kept = refl;

@@ -13,14 +13,13 @@ use Rattle.found_files.specs.OfRegion.{AreNamesOf, IsDamageIn}
 use Rattle.found_files.specs.Counting.{AreCounting}
 use Rattle.found_files.specs.Watching.{OnlyWatches}
 use Rattle.found_files.proofs.Replaced.{counting_of}
-use Rattle.region_replay.specs.Alone.{IsNextStore}
 use Rattle.region_replay.specs.Names.{store_name}
 use Rattle.wal_split.specs.Moments.{During}
 use Rattle.store_compact.specs.declared.kind.CompactKind.{CompactKind}
 use Rattle.store_compact.specs.declared.kind.CompactKind.TheVariants as compacts
 use Rattle.store_compact.specs.Compacting.{least_files, WasOrCompacted}
 use Rattle.store_compact.specs.Ready.{IsAtRest}
-use Rattle.store_compact.specs.Plan.{AreToReplace}
+use Rattle.store_compact.specs.Plan.{IsAbove, AreToReplace}
 use Rattle.store_compact.proofs.Moments.{was}
 
 pub least_given : (kind : CompactKind) → 1 ≤ least_files kind
@@ -34,14 +33,14 @@ module _ (told : Type 0) (files : Files) (r : ℕ) (names : List Name) (es : Lis
       let region : x.name.region ≡ r = ap (λ (m : Name). m.region) e.2 ∙ (are.each e.0 e.1).0 in
       omega (arith, low, region)
 
-  pub to_replace : (ss : List FoundStore) (number : ℕ) → AreCounting every ss → IsNextStore names number → AreToReplace told files (store_name r number) names ss
+  pub to_replace : (ss : List FoundStore) (number : ℕ) → AreCounting every ss → IsAbove names number → AreToReplace told files (store_name r number) names ss
   to_replace ss number counting next = record {
     kind = refl;
     of = λ m has. (are.each m has).0;
     there = are.there;
     every = λ is_told m store region present. are.all is_told m (region, inl store) present;
     rise = are.rise;
-    above = next.above;
+    number = next;
     each = λ x has. (
         let f = read.each x (counting.each x has).0 in
         (f.0, ap (λ (m : Name). m.kind) f.1.2 ∙ f.1.3, ap (λ (m : Name). m.region) f.1.2 ∙ (are.each f.1.0 f.1.1).0));

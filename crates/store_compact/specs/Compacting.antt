@@ -7,10 +7,11 @@ use Rattle.mask_model.specs.Masked.{shown}
 use Rattle.log_model.specs.declared.name.Name.{Name}
 use Rattle.log_model.specs.declared.name.NameKind.TheVariants as names
 use Rattle.log_model.specs.StoreText.{Store}
-use Rattle.log_model.specs.Files.{Files, name_cmp, IsPresent, IsStoreFile, IsFit}
+use Rattle.log_model.specs.Files.{Files, name_cmp, content, IsPresent, IsStoreFile, IsFit}
 use Rattle.log_model.specs.Recovered.{IsCounting, IsStored, IsLast, RecoversAlike}
 use Rattle.recovery_laws.specs.Alike.{AllAlike}
 use Rattle.recovery_laws.specs.Kept.{HasNoLogs}
+use Rattle.region_replay.specs.Stored.{IsNextNumber}
 use Rattle.store_compact.specs.declared.kind.CompactKind.{CompactKind}
 use Rattle.store_compact.specs.declared.kind.CompactKind.TheVariants as compacts
 use Rattle.store_compact.specs.declared.kind.Compacted.{Compacted}
@@ -45,14 +46,33 @@ pub record IsCompacted (found : Files) (r : ℕ) (kind : CompactKind) (files : F
 abbrev pub WasOrCompacted : Files → ℕ → CompactKind → Files → Type 0
 WasOrCompacted found r kind files = (HasNoLogs files × AllAlike found files) ⊎ IsCompacted found r kind files
 
--- the region's one store file: of the scope 1, with a number above all that were found, and it covers what those covered
--- that counted
+-- What is stored of the region is what was found, up to the same last number, and each store file of another region is as it
+-- was found, whether it is whole or not.
+pub record IsAsFound (found : Files) (r : ℕ) (files : Files) : Type 0 where
+  pub stored : (v : VersionKey) (p : Payload) → IsStored found r v p ↔ IsStored files r v p
+  pub last : (n : ℕ) → IsLast found r n ↔ IsLast files r n
+  pub others : (m : Name) → m.kind ≡ names.Store → m.region ≢ r → content files m ≡ content found m
+
+-- The same, but what is kept of the cells that were stored of the region is stored.
+pub record IsCompactedIn (found : Files) (r : ℕ) (kind : CompactKind) (files : Files) : Type 0 where
+  pub cells : List NumberedCell
+  pub before : AreStoredCells found r cells
+  pub after : AreStoredCells files r (kept_by kind cells)
+  pub last : (n : ℕ) → IsLast found r n ↔ IsLast files r n
+  pub others : (m : Name) → m.kind ≡ names.Store → m.region ≢ r → content files m ≡ content found m
+
+-- the region is compacted, or as it was found
+abbrev pub WasOrCompactedIn : Files → ℕ → CompactKind → Files → Type 0
+WasOrCompactedIn found r kind files = IsAsFound found r files ⊎ IsCompactedIn found r kind files
+
+-- the region's one store file: of the scope 1, with the next number of those that were found, one above the greatest, and it
+-- covers what those covered that counted
 pub record HasOneStore (found : Files) (r : ℕ) (files : Files) : Type 0 where
   pub name : Name
   pub store : Store
   pub file : IsStoreFile files r name store
   pub scope : store.scope ≡ 1
-  pub above : (m : Name) → m.kind ≡ names.Store → m.region ≡ r → IsPresent found m → m.number < name.number
+  pub number : IsNextNumber found r name.number
   pub from : ((m : Name) (t : Store) → IsCounting found r m t → store.from ≤ t.from) × ((m : Name) × (t : Store) × IsCounting found r m t × (t.from ≡ store.from))
   pub to : ((m : Name) (t : Store) → IsCounting found r m t → t.to ≤ store.to) × ((m : Name) × (t : Store) × IsCounting found r m t × (t.to ≡ store.to))
   pub only : (m : Name) → m.kind ≡ names.Store → m.region ≡ r → IsPresent files m → m ≡ name

@@ -1,5 +1,5 @@
 -- How a compaction goes on, step after step.
-use Rattle.std.specs.Prelude.{◌≡◌, ◌≢◌, ◌⊎◌, ℕ, ◌<◌, ◌≤◌, List, [], Contains, AllPairs, Some, None}
+use Rattle.std.specs.Prelude.{◌≡◌, ◌≢◌, ◌⊎◌, ℕ, ◌+◌, ◌<◌, ◌≤◌, List, [], Contains, AllPairs, Some, None}
 use Rattle.std.specs.declared.cmp.Ordering.TheVariants.{Less}
 use Rattle.cell_model.specs.Order.{NumberedCell}
 use Rattle.log_model.specs.declared.name.Name.{Name}
@@ -23,14 +23,20 @@ pub record AreCovered (stores : List FoundStore) (from to : ℕ) : Type 0 where
   pub first : (x : FoundStore) × Contains stores x × (x.text.from ≡ from)
   pub last : (x : FoundStore) × Contains stores x × (x.text.to ≡ to)
 
--- these are the names of a region's files, and these stores of it count; the next store's name is above them all
+-- one above the greatest number of a store among these names, 1 where there is none
+pub record IsAbove (all : List Name) (n : ℕ) : Type 0 where
+  pub given : 1 ≤ n
+  pub above : (m : Name) → Contains all m → m.kind ≡ names.Store → m.number < n
+  pub least : (k : ℕ) → ((m : Name) → Contains all m → m.kind ≡ names.Store → m.number ≤ k) → n ≤ k + 1
+
+-- these are the names of a region's files, and these stores of it count; the new store's name has the number above theirs
 pub record AreToReplace (told : Type 0) (found : Files) (name : Name) (all : List Name) (stores : List FoundStore) : Type 0 where
   pub kind : name.kind ≡ names.Store
   pub of : (m : Name) → Contains all m → m.region ≡ name.region
   pub there : told → (m : Name) → Contains all m → IsPresent found m
   pub every : told → (m : Name) → m.kind ≡ names.Store → m.region ≡ name.region → IsPresent found m → Contains all m
   pub rise : told → AllPairs (λ a b. name_cmp a b ≡ Less) all
-  pub above : (m : Name) → Contains all m → m.kind ≡ names.Store → m.number < name.number
+  pub number : IsAbove all name.number
   pub each : (x : FoundStore) → Contains stores x → IsStore (store_of x) × (x.name.kind ≡ names.Store) × (x.name.region ≡ name.region)
   pub counting : told → AreCountingOf found name.region stores
   pub in_order : told → AreInNameOrder stores

@@ -10,22 +10,24 @@ ghost use Rattle.found_files.specs.Found.{AreContents};
 ghost use Rattle.found_files.specs.OfRegion.{AreNamesOf};
 ghost use Rattle.found_files.specs.Watching.{OnlyWatches};
 ghost use Rattle.wal_split.specs.Moments.{During};
-ghost use Rattle.store_compact.specs.Compacting.{WasOrCompacted, IsCompacted, HasOneStore, AreCounts, HasCounting, least_files, IsOtherFile};
+ghost use Rattle.store_compact.specs.Compacting.{WasOrCompacted, WasOrCompactedIn, IsCompacted, IsCompactedIn};
+ghost use Rattle.store_compact.specs.Compacting.{HasOneStore, AreCounts, HasCounting, least_files, IsOtherFile};
 ghost use Rattle.store_compact.specs.Ready.{IsAtRest, IfDamaged, IfNothing, IfRead};
 
 use crate::kind::{CompactKind, Compacted};
+use crate::numbering::number_above;
 use crate::range::range_of;
 use crate::refusal::{CompactRefusal, refused};
 use crate::replacing::replace_stores;
 use disk_images::{Disk, Name, NameKind};
 use found_files::{FoundFiles, RegionFinding, counting_stores, find_region};
-use region_replay::next_store;
 use std::alloc::Global;
 use store_file::FileRefusal;
 
 /// Compacts a region, 1 to 64, of a store that was opened and is served by nobody: one store file of the scope 1 takes the
-/// place of the region's others. Each of these is read and checked first. `Memory` comes before the first create, and too
-/// where no number up to 2^63 is left for the new store.
+/// place of the region's others, under the next number. Each of these is read and checked first. `Memory` comes before the
+/// first create. No name of the store may have a number above 2^63, as an opening leaves it; where the disk doesn't tell its
+/// names, a store file of the region with such a number is told as damaged at 0.
 pub fn compact<D: Disk>(
     alloc: Global,
     disk: &mut D,
@@ -40,6 +42,11 @@ pub fn compact<D: Disk>(
         → During (WasOrCompacted (D.view disk.old).files region kind) (D.view disk.old) (D.view disk.new) }
     ensures compacted { IsTrue D.told → IsFit (D.view disk.old).files → OnOk result ((J : Files) → IsImageNow (D.view disk.new) J
         → IsCompacted (D.view disk.old).files region kind J × HasOneStore (D.view disk.old).files region J) }
+    // The same of the region alone, whatever the store files of other regions are.
+    ensures region { IsTrue D.told
+        → During (WasOrCompactedIn (D.view disk.old).files region kind) (D.view disk.old) (D.view disk.new) }
+    ensures region_compacted { IsTrue D.told → OnOk result ((J : Files) → IsImageNow (D.view disk.new) J
+        → IsCompactedIn (D.view disk.old).files region kind J × HasOneStore (D.view disk.old).files region J) }
     ensures others { IsTrue D.told → (m : TheName) → IsOtherFile region m
         → content (D.view disk.new).files m ≡ content (D.view disk.old).files m }
     ensures counts { IsTrue D.told → IfOk result (AreCounts (D.view disk.old).files region kind) }
@@ -79,19 +86,26 @@ fn compact_found<D: Disk>(
         → During (WasOrCompacted (D.view disk.old).files region kind) (D.view disk.old) (D.view disk.new) }
     ensures compacted { IsTrue D.told → IsFit (D.view disk.old).files → OnOk result ((J : Files) → IsImageNow (D.view disk.new) J
         → IsCompacted (D.view disk.old).files region kind J × HasOneStore (D.view disk.old).files region J) }
+    ensures region { IsTrue D.told
+        → During (WasOrCompactedIn (D.view disk.old).files region kind) (D.view disk.old) (D.view disk.new) }
+    ensures region_compacted { IsTrue D.told → OnOk result ((J : Files) → IsImageNow (D.view disk.new) J
+        → IsCompactedIn (D.view disk.old).files region kind J × HasOneStore (D.view disk.old).files region J) }
     ensures others { IsTrue D.told → (m : TheName) → IsOtherFile region m
         → content (D.view disk.new).files m ≡ content (D.view disk.old).files m }
     ensures counts { IsTrue D.told → IfOk result (AreCounts (D.view disk.old).files region kind) }
     ensures enough { IsTrue D.told → OnOk result ((n : ℕ) × HasCounting (D.view disk.old).files region n × (least_files kind ≤ n)) }
     ensures nothing { IsTrue D.told → IfNothing result (λ n. HasCounting (D.view disk.old).files region n × (n < least_files kind)) }
     ensures nothing_done { IfNothing result (λ n. disk.new ≡ disk.old) }
-    ensures undamaged { IfDamaged result (λ name at. ⊥) }
+    ensures undamaged { IsTrue D.told → IfDamaged result (λ name at. ⊥) }
     ensures memory { IsErrOf result CompactRefusal.Memory → disk.new ≡ disk.old }
     ensures cause { HasCause (D.faults disk.old) (D.faults disk.new) (IsErrOf result CompactRefusal.DiskFault) }
 {
     let RegionFinding { names, files } = found;
     let FoundFiles { stores, .. } = files;
-    let number = next_store(&names)?;
+    let number = match number_above(&names) {
+        Ok(number) => number,
+        Err(name) => return Err(CompactRefusal::Damaged { name, at: 0 }),
+    };
     let stores = counting_stores(alloc, stores)?;
     let files = stores.len() as u64;
     if kind.is_too_few(files) {

@@ -5,6 +5,7 @@
 mod compacting;
 mod kind;
 mod merging;
+mod numbering;
 mod range;
 mod refusal;
 mod removing;

@@ -6,7 +6,7 @@ ghost use Rattle.log_model.specs.Files.{Files, IsFit, content};
 ghost use Rattle.disk_images.specs.Crash.{IsImageNow};
 ghost use Rattle.disk_images.specs.Calls.{HasCause};
 ghost use Rattle.wal_split.specs.Moments.{During};
-ghost use Rattle.store_compact.specs.Compacting.{WasOrCompacted, IsCompacted, HasOneStore, AreCounts, IsOtherFile};
+ghost use Rattle.store_compact.specs.Compacting.{WasOrCompacted, WasOrCompactedIn, IsCompacted, IsCompactedIn, HasOneStore, AreCounts, IsOtherFile};
 ghost use Rattle.store_compact.specs.Ready.{IsAtRest};
 ghost use Rattle.store_compact.specs.Plan.{AreCovered, AreToReplace};
 
@@ -39,6 +39,10 @@ pub(crate) fn replace_stores<D: Disk>(
         → During (WasOrCompacted (D.view disk.old).files name.region kind) (D.view disk.old) (D.view disk.new) }
     ensures compacted { IsTrue D.told → IsFit (D.view disk.old).files → OnOk result ((J : Files) → IsImageNow (D.view disk.new) J
         → IsCompacted (D.view disk.old).files name.region kind J × HasOneStore (D.view disk.old).files name.region J) }
+    ensures region { IsTrue D.told
+        → During (WasOrCompactedIn (D.view disk.old).files name.region kind) (D.view disk.old) (D.view disk.new) }
+    ensures region_compacted { IsTrue D.told → OnOk result ((J : Files) → IsImageNow (D.view disk.new) J
+        → IsCompactedIn (D.view disk.old).files name.region kind J × HasOneStore (D.view disk.old).files name.region J) }
     ensures others { IsTrue D.told → (m : TheName) → IsOtherFile name.region m
         → content (D.view disk.new).files m ≡ content (D.view disk.old).files m }
     ensures counts { IsTrue D.told → IfOk result (AreCounts (D.view disk.old).files name.region kind) }

@@ -11,8 +11,9 @@ use Rattle.found_files.specs.Watching.{OnlyWatches}
 use Rattle.found_files.proofs.Sound.{of_same_files}
 use Rattle.region_replay.proofs.StillSplit.{same_names}
 use Rattle.store_compact.specs.declared.kind.Compacted.{Compacted}
-use Rattle.store_compact.specs.Compacting.{IsCompacted, HasOneStore, AreCounts, HasCounting, least_files}
+use Rattle.store_compact.specs.Compacting.{IsCompacted, IsCompactedIn, HasOneStore, AreCounts, HasCounting, least_files}
 use Rattle.store_compact.proofs.Moments.{rest_watched}
+use Rattle.store_compact.proofs.InRegion.{watched_in, then_in}
 use Rattle.store_compact.proofs.Reading.{watched_moments, then_moments, no_disagreement}
 use Rattle.store_compact.proofs.Refusing.{told_damage, not_read, not_nothing, damaged_on, nothing_both, read_where}
 use Rattle.store_compact.proofs.compacting.compact.Goals as goal
@@ -52,6 +53,22 @@ returns-in-Ok-clause-compacted g c told fit =
     let same = (c.find_region.ensures.watches told).1.files in
     subst (λ (f : Files). OnOk c.compact_found.result ((J : Files) → IsImageNow w J → IsCompacted f c.args.region c.args.kind J × HasOneStore f c.args.region J)) same
     (c.compact_found.ensures.compacted told (subst IsFit (sym same) fit))
+
+pub returns-in-Ok-clause-region : goal.returns-in-Ok-clause-region
+returns-in-Ok-clause-region g c told =
+    let u = g.D.Disk.view c.args.disk.now in
+    let v = g.D.Disk.view c.find_region.new.disk in
+    then_in u v (g.D.Disk.view c.compact_found.new.disk) (c.find_region.ensures.watches told) (c.requires.rest told) c.args.region c.args.kind (c.compact_found.ensures.region told)
+
+pub returns-in-Err-clause-region : goal.returns-in-Err-clause-region
+returns-in-Err-clause-region g c told =
+    watched_in (g.D.Disk.view c.args.disk.now) (c.requires.rest told) (g.D.Disk.view c.find_region.new.disk) (c.find_region.ensures.watches told) c.args.region c.args.kind
+
+pub returns-in-Ok-clause-region_compacted : goal.returns-in-Ok-clause-region_compacted
+returns-in-Ok-clause-region_compacted g c told =
+    let w = g.D.Disk.view c.compact_found.new.disk in
+    subst (λ (f : Files). OnOk c.compact_found.result ((J : Files) → IsImageNow w J → IsCompactedIn f c.args.region c.args.kind J × HasOneStore f c.args.region J)) (c.find_region.ensures.watches told).1.files
+    (c.compact_found.ensures.region_compacted told)
 
 pub returns-in-Ok-clause-others : goal.returns-in-Ok-clause-others
 returns-in-Ok-clause-others g c told m other = c.compact_found.ensures.others told m other ∙ ap (λ (f : Files). content f m) (c.find_region.ensures.watches told).1.files
@@ -96,7 +113,7 @@ returns-in-Err-clause-sound g c told =
 pub returns-in-Ok-clause-damaged : goal.returns-in-Ok-clause-damaged
 returns-in-Ok-clause-damaged g c told =
     let u = g.D.Disk.view c.args.disk.now in
-    damaged_on (λ name at. ⊥) (λ name at. IsFirstDamageOf u.files c.args.region name at × OnlyWatches u (g.D.Disk.view c.compact_found.new.disk)) c.compact_found.result (λ name at none. absurd none) c.compact_found.ensures.undamaged
+    damaged_on (λ name at. ⊥) (λ name at. IsFirstDamageOf u.files c.args.region name at × OnlyWatches u (g.D.Disk.view c.compact_found.new.disk)) c.compact_found.result (λ name at none. absurd none) (c.compact_found.ensures.undamaged told)
 
 pub returns-in-Err-clause-damaged : goal.returns-in-Err-clause-damaged
 returns-in-Err-clause-damaged g c told =

@@ -8,7 +8,8 @@ use Rattle.log_model.specs.StoreText.{store_text}
 use Rattle.store_compact.specs.Compacting.{kept_by}
 use Rattle.store_compact.specs.Plan.{whole_store}
 use Rattle.store_compact.proofs.Planning.{merged_store}
-use Rattle.store_compact.proofs.InPlace.{none_done, absent, are_others, still_there, other_named, cells_stored, first_moments, ready_to_go, all_moments, done}
+use Rattle.store_compact.proofs.InPlace.{none_done, absent, are_others, still_there, other_named, cells_stored, first_moments, first_moments_in, ready_to_go, all_moments, all_moments_in, done, done_in}
+use Rattle.store_compact.proofs.InRegion.{none_done_in}
 use Rattle.store_compact.proofs.replacing.replace_stores.Goals as goal
 
 on_ok_two : {T E P Q R : Type 0} (r : Result T E) → (P → Q → R) → OnOk r P → OnOk r Q → OnOk r R
@@ -74,6 +75,49 @@ returns-in-Ok-clause-compacted g c told fit =
     let over = c.write_kept.ensures.any_moment told in
     let replaced = c.in-Ok.ensures.replaced told v.files c.args.name (store_text Tagged (whole_store c.args.name c.args.from c.args.to (kept_by c.args.kind (cells_of c.deref-2.result.now)))) (ready_to_go told v (c.requires.rest told) c.args.name c.args.names.now c.args.stores.items c.requires.these c.args.from c.args.to c.requires.covered c.deref-2.result.now is c.args.kind c.write_kept.ensures.whole over.0 w over.1 (g.met.D.Disk.is_true c.args.disk.now told) (c.write_kept.ensures.touches told) (c.in_ok-after.ensures.stored told)) (are_others (IsTrue g.D.Disk.told) told v.files c.args.name c.args.names.now c.args.stores.items c.requires.these) in
     λ J now. done told v (c.requires.rest told) c.args.name c.args.names.now c.args.stores.items c.requires.these c.args.from c.args.to c.requires.covered c.deref-2.result.now is c.args.kind c.write_kept.ensures.whole fit J (replaced J now) (λ m has store. c.in-Ok.ensures.gone told J m now has store)
+
+pub returns-in_err-merged-clause-region : goal.returns-in_err-merged-clause-region
+returns-in_err-merged-clause-region g c told =
+    let v = g.D.Disk.view c.args.disk.now in
+    none_done_in v (c.requires.rest told) c.args.name.region c.args.kind
+
+pub returns-in_err-after-clause-region : goal.returns-in_err-after-clause-region
+returns-in_err-after-clause-region g c told =
+    let v = g.D.Disk.view c.args.disk.now in
+    let w = g.D.Disk.view c.write_kept.new.disk in
+    let is = c.deref-2.ensures ∙ c.in_ok-merged.ensures.content in
+    let over = c.write_kept.ensures.any_moment told in
+    first_moments_in told v (c.requires.rest told) c.args.name c.args.names.now c.args.stores.items c.requires.these c.args.from c.args.to c.requires.covered c.deref-2.result.now is c.args.kind c.write_kept.ensures.whole over.0 w over.1
+
+pub returns-in-Ok-clause-region : goal.returns-in-Ok-clause-region
+returns-in-Ok-clause-region g c told =
+    let v = g.D.Disk.view c.args.disk.now in
+    let w = g.D.Disk.view c.write_kept.new.disk in
+    let x = g.D.Disk.view c.remove_stores.new.disk in
+    let is = c.deref-2.ensures ∙ c.in_ok-merged.ensures.content in
+    let over = c.write_kept.ensures.any_moment told in
+    let second = c.remove_stores.ensures.any_moment told v.files c.args.name (store_text Tagged (whole_store c.args.name c.args.from c.args.to (kept_by c.args.kind (cells_of c.deref-2.result.now)))) (ready_to_go told v (c.requires.rest told) c.args.name c.args.names.now c.args.stores.items c.requires.these c.args.from c.args.to c.requires.covered c.deref-2.result.now is c.args.kind c.write_kept.ensures.whole over.0 w over.1 (g.met.D.Disk.is_true c.args.disk.now told) (c.write_kept.ensures.touches told) (c.in_ok-after.ensures.stored told)) (are_others (IsTrue g.D.Disk.told) told v.files c.args.name c.args.names.now c.args.stores.items c.requires.these) in
+    all_moments_in told v (c.requires.rest told) c.args.name c.args.names.now c.args.stores.items c.requires.these c.args.from c.args.to c.requires.covered c.deref-2.result.now is c.args.kind c.write_kept.ensures.whole over.0 w over.1 (length c.args.names.now + 1) x second
+
+pub returns-clause-region : goal.returns-clause-region
+returns-clause-region g c told =
+    let v = g.D.Disk.view c.args.disk.now in
+    let w = g.D.Disk.view c.write_kept.new.disk in
+    let x = g.D.Disk.view c.remove_stores.new.disk in
+    let is = c.deref-2.ensures ∙ c.in_ok-merged.ensures.content in
+    let over = c.write_kept.ensures.any_moment told in
+    let second = c.remove_stores.ensures.any_moment told v.files c.args.name (store_text Tagged (whole_store c.args.name c.args.from c.args.to (kept_by c.args.kind (cells_of c.deref-2.result.now)))) (ready_to_go told v (c.requires.rest told) c.args.name c.args.names.now c.args.stores.items c.requires.these c.args.from c.args.to c.requires.covered c.deref-2.result.now is c.args.kind c.write_kept.ensures.whole over.0 w over.1 (g.met.D.Disk.is_true c.args.disk.now told) (c.write_kept.ensures.touches told) (c.in_ok-after.ensures.stored told)) (are_others (IsTrue g.D.Disk.told) told v.files c.args.name c.args.names.now c.args.stores.items c.requires.these) in
+    all_moments_in told v (c.requires.rest told) c.args.name c.args.names.now c.args.stores.items c.requires.these c.args.from c.args.to c.requires.covered c.deref-2.result.now is c.args.kind c.write_kept.ensures.whole over.0 w over.1 (length c.args.names.now + 1) x second
+
+pub returns-in-Ok-clause-region_compacted : goal.returns-in-Ok-clause-region_compacted
+returns-in-Ok-clause-region_compacted g c told =
+    let v = g.D.Disk.view c.args.disk.now in
+    let w = g.D.Disk.view c.write_kept.new.disk in
+    let x = g.D.Disk.view c.remove_stores.new.disk in
+    let is = c.deref-2.ensures ∙ c.in_ok-merged.ensures.content in
+    let over = c.write_kept.ensures.any_moment told in
+    let replaced = c.in-Ok.ensures.replaced told v.files c.args.name (store_text Tagged (whole_store c.args.name c.args.from c.args.to (kept_by c.args.kind (cells_of c.deref-2.result.now)))) (ready_to_go told v (c.requires.rest told) c.args.name c.args.names.now c.args.stores.items c.requires.these c.args.from c.args.to c.requires.covered c.deref-2.result.now is c.args.kind c.write_kept.ensures.whole over.0 w over.1 (g.met.D.Disk.is_true c.args.disk.now told) (c.write_kept.ensures.touches told) (c.in_ok-after.ensures.stored told)) (are_others (IsTrue g.D.Disk.told) told v.files c.args.name c.args.names.now c.args.stores.items c.requires.these) in
+    λ J now. done_in told v (c.requires.rest told) c.args.name c.args.names.now c.args.stores.items c.requires.these c.args.from c.args.to c.requires.covered c.deref-2.result.now is c.args.kind c.write_kept.ensures.whole J (replaced J now) (λ m has store. c.in-Ok.ensures.gone told J m now has store)
 
 pub returns-in_err-after-clause-others : goal.returns-in_err-after-clause-others
 returns-in_err-after-clause-others g c told m other =
