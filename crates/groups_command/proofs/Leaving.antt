@@ -35,7 +35,7 @@ use Rattle.groups_run.specs.Starting.{AreAlike, IsAlike}
 use Rattle.groups_run.specs.Found.{AreFound, IsFoundSo, found_views, or_that, value_of, views}
 use Rattle.groups_run.specs.Ends.{HaveClosed}
 use Rattle.groups_command.specs.Carried.{AreNotOpened}
-use Rattle.groups_command.specs.Disks.{AreInARow, HaveNoOthers, OfEach, SomeRose}
+use Rattle.groups_command.specs.Disks.{AreInARow, HaveNoOthers, OfEach, RoseAt, SomeRose}
 use Rattle.groups_command.proofs.Pairs.{group_at, pair_at, pair_there, there_at, there_of, value_at}
 
 if_there : {A B : Type 0} (P : A → B → Type 0) (Q : B → Type 0) → ((a : A) (b : B) → P a b → Q b) → (x : Option A) (y : Option B) → AtBoth P x y → IfSome y Q
@@ -80,13 +80,16 @@ module _ {D : Type 0} (g : Ghosts D) (regions handlers : ℕ) where
     }
 
     -- a count that rose since a store was opened rose
+    pub rose_since : (left : GroupList D) (k : ℕ) → Rose (g.faults (disk_now (value_of opened k))) (g.faults (value_of left k)) → RoseAt g.faults disks left k
+    rose_since left k = rose_from (g.faults (value_of disks k)) (g.faults (disk_now (value_of opened k))) (g.faults (value_of left k)) (opened_at k).goes_on.later
+
     pub rose_of : AreInARow disks → (left : GroupList D)
         → ((k : ℕ) × (at_group opened k ≢ None) × Rose (g.faults (disk_now (value_of opened k))) (g.faults (value_of left k))) → SomeRose g.faults disks left
     rose_of row left r =
         let found = partner (IsOpened g regions handlers) disks opened each r.0 (value_of opened r.0) (there_of opened.first (at_group opened r.0) r.1) in (
           r.0,
           group_at disks row r.0 found.0 found.1,
-          rose_from (g.faults (value_of disks r.0)) (g.faults (disk_now (value_of opened r.0))) (g.faults (value_of left r.0)) (opened_at r.0).goes_on.later r.2,
+          rose_since left r.0 r.2,
         )
 
 -- ---- names
@@ -116,11 +119,29 @@ named_each P a b c d x y z w (suc (suc (suc (suc n)))) = w
 
 -- ---- run
 
-pub closed_ran : (n groups : ℕ) (made script : Script) (found before left : ℕ → DiskView) (regions : List ClosedRegion) (parts : List (List ReplyLine)) (spent : Option Spent) (broken : Bool)
-    → n ≡ groups → made ≡ script → found ≡ before → HaveClosed n made found left regions parts spent broken → HaveClosed groups script before left regions parts spent broken
-closed_ran n groups made script found before left regions parts spent broken as_many same so c =
-    subst (λ f. HaveClosed groups script f left regions parts spent broken) so
-    (subst (λ s. HaveClosed groups s found left regions parts spent broken) same (subst (λ k. HaveClosed k made found left regions parts spent broken) as_many c))
+-- a fault since the stores were opened is one since the disks were found
+since : (groups : ℕ) (script : Script) (found left : ℕ → DiskView) (later rose : ℕ → Type 0) (regions : List ClosedRegion) (parts : List (List ReplyLine)) (spent : Option Spent) (broken : Bool)
+    → ((k : ℕ) → later k → rose k) → HaveClosed groups script found left later regions parts spent broken → HaveClosed groups script found left rose regions parts spent broken
+since groups script found left later rose regions parts spent broken then c = record {
+  names = c.names;
+  handlers = c.handlers;
+  closes = c.closes;
+  breaks = c.breaks;
+  closed = c.closed;
+  causes = λ k is broke. then k (c.causes k is broke);
+  chosen = c.chosen;
+  lines = c.lines;
+  first_told = c.first_told;
+  none_broken = c.none_broken;
+}
+
+pub closed_ran : (n groups : ℕ) (made script : Script) (found before left : ℕ → DiskView) (later rose : ℕ → Type 0) (regions : List ClosedRegion) (parts : List (List ReplyLine)) (spent : Option Spent) (broken : Bool)
+    → n ≡ groups → made ≡ script → found ≡ before → ((k : ℕ) → later k → rose k) → HaveClosed n made found left later regions parts spent broken
+    → HaveClosed groups script before left rose regions parts spent broken
+closed_ran n groups made script found before left later rose regions parts spent broken as_many same so then c =
+    since groups script before left later rose regions parts spent broken then
+    (subst (λ f. HaveClosed groups script f left later regions parts spent broken) so
+    (subst (λ s. HaveClosed groups s found left later regions parts spent broken) same (subst (λ k. HaveClosed k made found left later regions parts spent broken) as_many c)))
 
 pub of_each : (P : DiskView → DiskView → Type 0) (n groups : ℕ) (found before left : ℕ → DiskView) → n ≡ groups → found ≡ before → ((k : ℕ) → IsGroup n k → P (found k) (left k)) → OfEach groups P before left
 of_each P n groups found before left as_many so each = subst (λ f. OfEach groups P f left) so (subst (λ m. OfEach m P found left) as_many each)

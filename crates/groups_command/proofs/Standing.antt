@@ -46,8 +46,8 @@ all_lines (h ∷ hs) = ap (λ (l : List ReplyLine). map reply_line h.replies ++ 
 
 -- ---- a run whose servers are closed
 
-module _ (groups : ℕ) (some : 1 ≤ groups) (script : Script) (before after : ℕ → DiskView) (regions : List ClosedRegion) (parts : List (List ReplyLine)) (spent : Option Spent)
-    (broken : Bool) (c : HaveClosed groups script before after regions parts spent broken) where
+module _ (groups : ℕ) (some : 1 ≤ groups) (script : Script) (before after : ℕ → DiskView) (rose : ℕ → Type 0) (regions : List ClosedRegion) (parts : List (List ReplyLine)) (spent : Option Spent)
+    (broken : Bool) (c : HaveClosed groups script before after rose regions parts spent broken) (cause : broken ≡ true → (k : ℕ) × IsGroup groups k × rose k) where
   said : joined parts ≡ map reply_line (all_replies c.handlers)
   said = ap joined c.lines ∙ all_lines c.handlers
 
@@ -71,50 +71,50 @@ module _ (groups : ℕ) (some : 1 ≤ groups) (script : Script) (before after : 
   whole k is no_5 = c.none_broken (whole_of broken spent (joined parts) no_5) k is
 
   report_stands : IsReport (report_in regions (joined parts) (exit_status (decided broken spent (joined parts))))
-      → IsGroupsReport groups script before after (exit_status (decided broken spent (joined parts))) (report_text (report_in regions (joined parts) (exit_status (decided broken spent (joined parts)))))
+      → IsGroupsReport groups script before after rose (exit_status (decided broken spent (joined parts))) (report_text (report_in regions (joined parts) (exit_status (decided broken spent (joined parts)))))
   report_stands reads =
       let status = exit_status (decided broken spent (joined parts)) in
-      subst (IsGroupsReport groups script before after status) (ap report_text (same status))
-      (groups_headline_with some c.closed (map closed_at regions) c.chosen status its_status whole (λ histories replies. IsReport (report_of histories replies status)) (subst IsReport (sym (same status)) reads))
+      subst (IsGroupsReport groups script before after rose status) (ap report_text (same status))
+      (groups_headline_with some c.closed (map closed_at regions) c.chosen rose c.causes status its_status (λ is_5. cause (broken_of broken spent (joined parts) is_5)) whole (λ histories replies. IsReport (report_of histories replies status)) (subst IsReport (sym (same status)) reads))
 
   spent_stands : (region last : ℕ) → decided broken spent (joined parts) ≡ ends.NumbersSpent region last → IsReport (report_in regions (joined parts) 8)
-      → IsSpentGroupsReport groups script before after (record { region = region; last = last }) (report_text (report_in regions (joined parts) 8))
+      → IsSpentGroupsReport groups script before after rose (record { region = region; last = last }) (report_text (report_in regions (joined parts) 8))
   spent_stands region last is reads =
       let at = spent_of broken spent (joined parts) region last is in
       let s : Spent = record { region = region; last = last } in
-      subst (IsSpentGroupsReport groups script before after s) (ap report_text (same 8))
-      (∥∥₁_map (groups_headline_with some c.closed (map closed_at regions) c.chosen 8 (subst (λ s. FitsStatus (exit_status s) (all_replies c.handlers)) is its_status) (λ k there no_5. c.none_broken at.0 k there)
+      subst (IsSpentGroupsReport groups script before after rose s) (ap report_text (same 8))
+      (∥∥₁_map (groups_headline_with some c.closed (map closed_at regions) c.chosen rose c.causes 8 (subst (λ s. FitsStatus (exit_status s) (all_replies c.handlers)) is its_status) (λ is_5. absurd cc) (λ k there no_5. c.none_broken at.0 k there)
       (λ histories replies. IsFirstSpent s replies × IsReport (report_of histories replies 8)) (first_of_closes some c.closed s (c.first_told ∙ at.1), subst IsReport (sym (same 8)) reads))
       (λ h. (h.0, h.1.0, h.1.1)))
 
   at : (status : Status) → decided broken spent (joined parts) ≡ status → IsReport (report_in regions (joined parts) (exit_status status))
-      → IsGroupsReport groups script before after (exit_status status) (report_text (report_in regions (joined parts) (exit_status status)))
+      → IsGroupsReport groups script before after rose (exit_status status) (report_text (report_in regions (joined parts) (exit_status status)))
   at status is =
-      subst (λ s. IsReport (report_in regions (joined parts) (exit_status s)) → IsGroupsReport groups script before after (exit_status s) (report_text (report_in regions (joined parts) (exit_status s)))) is report_stands
+      subst (λ s. IsReport (report_in regions (joined parts) (exit_status s)) → IsGroupsReport groups script before after rose (exit_status s) (report_text (report_in regions (joined parts) (exit_status s)))) is report_stands
 
   -- the whole report of a status that is decided
-  of_end : (rose sank : Type 0) (status : Status) → decided broken spent (joined parts) ≡ status → IsDecided status → IsReport (report_in regions (joined parts) (exit_status status))
+  of_end : (sank : Type 0) (status : Status) → decided broken spent (joined parts) ≡ status → IsDecided status → IsReport (report_in regions (joined parts) (exit_status status))
       → EndsGroups (status_as status) groups script before after rose sank (report_text (report_in regions (joined parts) (exit_status status)))
-  of_end rose sank ends.Done is e reads = at ends.Done is reads
-  of_end rose sank ends.Memory is e reads = inl (at ends.Memory is reads)
-  of_end rose sank ends.DiskFault is e reads = inl (at ends.DiskFault is reads)
-  of_end rose sank ends.Usage is e reads = absurd e
-  of_end rose sank (ends.Script line why) is e reads = absurd e
-  of_end rose sank ends.SourceFault is e reads = absurd e
-  of_end rose sank ends.SinkFault is e reads = absurd e
-  of_end rose sank (ends.Damaged damage) is e reads = absurd e
-  of_end rose sank (ends.NotEmpty name) is e reads = absurd e
-  of_end rose sank (ends.NoPosition number entries) is e reads = absurd e
-  of_end rose sank (ends.NumbersSpent region last) is e reads = spent_stands region last is reads
+  of_end sank ends.Done is e reads = at ends.Done is reads
+  of_end sank ends.Memory is e reads = inl (at ends.Memory is reads)
+  of_end sank ends.DiskFault is e reads = inl (at ends.DiskFault is reads)
+  of_end sank ends.Usage is e reads = absurd e
+  of_end sank (ends.Script line why) is e reads = absurd e
+  of_end sank ends.SourceFault is e reads = absurd e
+  of_end sank ends.SinkFault is e reads = absurd e
+  of_end sank (ends.Damaged damage) is e reads = absurd e
+  of_end sank (ends.NotEmpty name) is e reads = absurd e
+  of_end sank (ends.NoPosition number entries) is e reads = absurd e
+  of_end sank (ends.NumbersSpent region last) is e reads = spent_stands region last is reads
 
   -- what the sink took of the report of closed servers, or of the line that refuses
-  pub closed_ends : (rose sank : Type 0) (status : Status) (told : GroupsStatus) (old new : List ℕ) → told ≡ status_as status → (broken ≡ true → rose)
+  pub closed_ends : (sank : Type 0) (status : Status) (told : GroupsStatus) (old new : List ℕ) → told ≡ status_as status
       → IsPrinted sank status old new regions (joined parts) spent broken → EndsGroups told groups script before after rose sank (taken_of old new)
-  closed_ends rose sank status told old new so cause (Printed is reads p) =
+  closed_ends sank status told old new so (Printed is reads p) =
       let end : IsDecided status = subst IsDecided (sym is) (decided_end broken spent (joined parts)) in
       subst (λ s. EndsGroups s groups script before after rose sank (taken_of old new)) (sym so)
-      (subst (EndsGroups (status_as status) groups script before after rose sank) (sym (taken_whole old new _ _ p (no_cut status end))) (of_end rose sank status (sym is) end reads))
-  closed_ends rose sank status told old new so cause (Cut is reads p) =
+      (subst (EndsGroups (status_as status) groups script before after rose sank) (sym (taken_whole old new _ _ p (no_cut status end))) (of_end sank status (sym is) end reads))
+  closed_ends sank status told old new so (Cut is reads p) =
       subst (λ s. EndsGroups s groups script before after rose sank (taken_of old new)) (sym (so ∙ ap status_as is))
       record {
         text = report_text (report_in regions (joined parts) (exit_status (decided broken spent (joined parts))));
@@ -123,17 +123,17 @@ module _ (groups : ℕ) (some : 1 ≤ groups) (script : Script) (before after : 
         report = report_stands reads;
         cause = λ is_5. cause (broken_of broken spent (joined parts) is_5);
       }
-  closed_ends rose sank status told old new so cause (Refused is p) =
+  closed_ends sank status told old new so (Refused is p) =
       subst (λ s. EndsGroups s groups script before after rose sank (taken_of old new)) (sym (so ∙ ap status_as is)) (inr (refused_so old new refused_memory sank p, closes_keep c.closed))
 
 -- ---- one whose servers aren't
 
-pub left_ends : (rose sank : Type 0) (status : GroupsStatus) (old new : List ℕ) (groups : ℕ) (script : Script) (before after : ℕ → DiskView) → status ≡ statuses.Memory → OfEach groups KeepsFound before after
+pub left_ends : (rose : ℕ → Type 0) (sank : Type 0) (status : GroupsStatus) (old new : List ℕ) (groups : ℕ) (script : Script) (before after : ℕ → DiskView) → status ≡ statuses.Memory → OfEach groups KeepsFound before after
     → ((text : List ℕ) → refusal_line statuses.Memory ≡ Some text → Prints old new text sank) → EndsGroups status groups script before after rose sank (taken_of old new)
 left_ends rose sank status old new groups script before after is keeps p =
     subst (λ s. EndsGroups s groups script before after rose sank (taken_of old new)) (sym is) (inr (refused_so old new refused_memory sank (p refused_memory refl), keeps))
 
-pub refused_ends : (rose sank : Type 0) (why : GroupsWhy) (disk : ℕ) (status : GroupsStatus) (old new : List ℕ) (groups : ℕ) (script : Script) (before after : ℕ → DiskView) → status ≡ status_for why disk
+pub refused_ends : (rose : ℕ → Type 0) (sank : Type 0) (why : GroupsWhy) (disk : ℕ) (status : GroupsStatus) (old new : List ℕ) (groups : ℕ) (script : Script) (before after : ℕ → DiskView) → status ≡ status_for why disk
     → AreNotOpened groups before after why disk → ((text : List ℕ) → refusal_line (status_for why disk) ≡ Some text → Prints old new text sank)
     → EndsGroups status groups script before after rose sank (taken_of old new)
 refused_ends rose sank why disk status old new groups script before after is n prints = subst (λ s. EndsGroups s groups script before after rose sank (taken_of old new)) (sym is) (go why prints)

@@ -184,7 +184,7 @@ parsed_each P done memory fault sink damaged spent wrong statuses.Usage may = ab
 parsed_each P done memory fault sink damaged spent wrong (statuses.Script line why) may = absurd may
 parsed_each P done memory fault sink damaged spent wrong statuses.SourceFault may = absurd may
 
-pub run_ends : (groups : ℕ) (script : Script) (text had has : List ℕ) (before after : ℕ → DiskView) (rose sank : Type 0) → Says Groups text script → (status : GroupsStatus) → IsParsedEnd status
+pub run_ends : (groups : ℕ) (script : Script) (text had has : List ℕ) (before after : ℕ → DiskView) (rose : ℕ → Type 0) (sank : Type 0) → Says Groups text script → (status : GroupsStatus) → IsParsedEnd status
     → EndsGroups status groups script before after rose sank (taken_of had has) → GroupsEnd status (groups_invocation groups text before after had has) rose sank
 run_ends groups script text had has before after rose sank says =
     parsed_each (λ s. EndsGroups s groups script before after rose sank (taken_of had has) → GroupsEnd s (groups_invocation groups text before after had has) rose sank)
@@ -235,7 +235,7 @@ input_cases P memory script source (ends.NoPosition number entries) may = absurd
 pub input_shared : (status : Status) → IsInputRefusal status → IsShared status
 input_shared = input_cases IsShared tt (λ line why. tt) tt
 
-pub input_ends : (groups : ℕ) (text had has : List ℕ) (disks : ℕ → DiskView) (rose sank : Type 0) (status : Status) → IsInputRefusal status
+pub input_ends : (groups : ℕ) (text had has : List ℕ) (disks : ℕ → DiskView) (rose : ℕ → Type 0) (sank : Type 0) (status : Status) → IsInputRefusal status
     → ((line : List ℕ) → refusal_line (status_as status) ≡ Some line → Prints had has line sank) → GroupsEnd (status_as status) (groups_invocation groups text disks disks had has) rose sank
 input_ends groups text had has disks rose sank =
     input_cases (λ s. ((line : List ℕ) → refusal_line (status_as s) ≡ Some line → Prints had has line sank) → GroupsEnd (status_as s) (groups_invocation groups text disks disks had has) rose sank)

@@ -8,11 +8,12 @@ use Rattle.run_model.specs.Headline.{KeepsFound, IsHalfOpened}
 use Rattle.run_command.specs.recover_command.Recovered.{IsStoreDamage}
 use Rattle.groups_model.specs.Groups.{IsGroup}
 use Rattle.groups_run.specs.group_servers.group_lists.declared.lists.GroupList.{GroupList}
+use Rattle.groups_run.specs.group_servers.group_lists.Lists.{count_of}
 use Rattle.groups_run.specs.group_servers.declared.refusal.GroupsWhy.{GroupsWhy}
 use Rattle.groups_run.specs.group_servers.declared.refusal.GroupsWhy.TheVariants as whys
 use Rattle.groups_run.specs.Found.{views}
 use Rattle.groups_run.specs.Ends.{HaveClosed}
-use Rattle.groups_command.specs.Disks.{OfEach, SomeRose, HaveNoOthers, IsFirstWrong}
+use Rattle.groups_command.specs.Disks.{OfEach, RoseAt, SomeRose, HaveNoOthers, IsFirstWrong}
 use Rattle.groups_command.specs.declared.ran.GroupsRan.{GroupsRan}
 use Rattle.groups_command.specs.declared.ran.GroupsRan.TheVariants as rans
 
@@ -31,13 +32,14 @@ pub record AreNotOpened (groups : ℕ) (before after : ℕ → DiskView) (why : 
   -- those before this disk are sound, and all are where it is another group's region that is told
   pub sound : (k : ℕ) → IsGroup groups k → (k < disk) ⊎ ((region : ℕ) × (why ≡ whys.WrongGroup region)) → IsSound (before k).files
 
--- What is left of a script on so many stores that were found so: closed servers, with what the headline wants of them, of which none had another
--- group's region; all cells that were found; or stores that could not be opened.
-abbrev pub HaveRan : {D : Type 0} → (D → DiskView) → ℕ → Script → (ℕ → DiskView) → GroupsRan D → Type 0
-HaveRan view groups script before (rans.Closed disks regions replies spent broken) =
-    HaveNoOthers groups before × HaveClosed groups script before (views view disks) regions.items replies.items spent broken
-HaveRan view groups script before (rans.Left disks) = OfEach groups KeepsFound before (views view disks)
-HaveRan view groups script before (rans.NotOpened why disk disks) = AreNotOpened groups before (views view disks) why disk
+-- What is left of a script on stores on these disks: closed servers, with what the headline wants of them, of which none had another group's region;
+-- all cells that were found; or stores that could not be opened.
+abbrev pub HaveRan : {D : Type 0} → (D → DiskView) → (D → ℕ) → Script → GroupList D → GroupsRan D → Type 0
+HaveRan view faults script before (rans.Closed disks regions replies spent broken) =
+    HaveNoOthers (count_of before) (views view before)
+    × HaveClosed (count_of before) script (views view before) (views view disks) (RoseAt faults before disks) regions.items replies.items spent broken
+HaveRan view faults script before (rans.Left disks) = OfEach (count_of before) KeepsFound (views view before) (views view disks)
+HaveRan view faults script before (rans.NotOpened why disk disks) = AreNotOpened (count_of before) (views view before) (views view disks) why disk
 
 -- a broken log, and stores that aren't opened for a fault of a disk, have their cause in a disk's count of faults
 abbrev pub HaveRanCause : {D : Type 0} → (D → ℕ) → GroupList D → GroupsRan D → Type 0

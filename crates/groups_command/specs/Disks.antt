@@ -27,9 +27,13 @@ AreInARow xs = InARow xs.second xs.third xs.fourth
 abbrev pub OfEach : (groups : ℕ) → (DiskView → DiskView → Type 0) → (before after : ℕ → DiskView) → Type 0
 OfEach groups P before after = (k : ℕ) → IsGroup groups k → P (before k) (after k)
 
--- the count of faults of some disk rose
+-- the count of faults of this group's disk rose
+abbrev pub RoseAt : {D : Type 0} → (D → ℕ) → (before after : GroupList D) → ℕ → Type 0
+RoseAt faults before after k = Rose (faults (value_of before k)) (faults (value_of after k))
+
+-- that of some disk rose
 abbrev pub SomeRose : {D : Type 0} → (D → ℕ) → (before after : GroupList D) → Type 0
-SomeRose faults before after = (k : ℕ) × IsGroup (count_of before) k × Rose (faults (value_of before k)) (faults (value_of after k))
+SomeRose faults before after = (k : ℕ) × IsGroup (count_of before) k × RoseAt faults before after k
 
 -- all stores are sound as they were found
 abbrev pub AreSound : (groups : ℕ) → (found : ℕ → DiskView) → Type 0

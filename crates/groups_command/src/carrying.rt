@@ -31,7 +31,7 @@ pub fn carry_out_groups<R: Threads + Wait + Sync, D: Disk + Send, G: Gate + Sync
 ) -> GroupsRan<D>
     requires script { IsScript script }
     requires row { AreInARow disks }
-    ensures ran { IsTrue D.told → HaveRan D.view (count_of disks) script (views D.view disks) result }
+    ensures ran { IsTrue D.told → HaveRan D.view D.faults script disks result }
     // At each moment a crash leaves on each disk an image of it as found, or the cells that were found; former moments stay.
     ensures any_moment { IsTrue D.told → OfEach (count_of disks) KeepsThroughout (views D.view disks) (views D.view (disks_of result)) }
     ensures cause { HaveRanCause D.faults disks result }

@@ -14,7 +14,7 @@ ghost use Rattle.run_command.specs.recover_command.Recovered.{IsStoreDamage};
 ghost use Rattle.groups_model.specs.Groups.{IsGroup};
 ghost use Rattle.groups_run.specs.group_servers.group_lists.Lists.{count_of};
 ghost use Rattle.groups_run.specs.Found.{value_of, views};
-ghost use Rattle.groups_command.specs.Disks.{AreInARow, OfEach, SomeRose, AreSound, HaveNoOthers, IsFirstDamaged, IsFirstWrong};
+ghost use Rattle.groups_command.specs.Disks.{AreInARow, OfEach, RoseAt, SomeRose, AreSound, HaveNoOthers, IsFirstDamaged, IsFirstWrong};
 ghost use Rattle.groups_command.specs.Ends.{groups_invocation, EndsGroups, GroupsEnd};
 ghost use Rattle.groups_command.specs.Status.{refusal_line, LeavesDisks, IsRefusal, IsScriptFault, IsScriptAt, IsDamageOf, IsWrongGroupOf, IsOrEarlier};
 ghost use Rattle.groups_command.specs.Status.{IsParsedEnd, IsComplete, status_for};
@@ -54,7 +54,7 @@ pub fn run_groups<R: Threads + Wait + Sync, D: Disk + Send, S: Source, K: Sink, 
     // What stands with each status.
     ensures ends { IsTrue S.told → IsTrue D.told → IsTrue K.told
         → GroupsEnd result.status (groups_invocation (count_of disks) (S.left script.old) (views D.view disks) (views D.view result.disks)
-        (K.taken out.old) (K.taken out.new)) (SomeRose D.faults disks result.disks) (Rose (K.faults out.old) (K.faults out.new)) }
+        (K.taken out.old) (K.taken out.new)) (RoseAt D.faults disks result.disks) (Rose (K.faults out.old) (K.faults out.new)) }
     // A refusal is one line, whole unless the sink fails.
     ensures refusal { IsTrue K.told → IsRefusal result.status → (text : List ℕ) → refusal_line result.status ≡ Some text
         → Prints (K.taken out.old) (K.taken out.new) text (Rose (K.faults out.old) (K.faults out.new)) }
@@ -126,7 +126,7 @@ fn run_parsed<R: Threads + Wait + Sync, D: Disk + Send, K: Sink, G: Gate + Sync>
     requires script { IsScript script }
     requires row { AreInARow disks }
     ensures ends { IsTrue D.told → IsTrue K.told
-        → EndsGroups result.status (count_of disks) script (views D.view disks) (views D.view result.disks) (SomeRose D.faults disks result.disks)
+        → EndsGroups result.status (count_of disks) script (views D.view disks) (views D.view result.disks) (RoseAt D.faults disks result.disks)
         (Rose (K.faults out.old) (K.faults out.new)) (taken_of (K.taken out.old) (K.taken out.new)) }
     ensures refusal { IsTrue K.told → IsRefusal result.status → (text : List ℕ) → refusal_line result.status ≡ Some text
         → Prints (K.taken out.old) (K.taken out.new) text (Rose (K.faults out.old) (K.faults out.new)) }

@@ -34,7 +34,7 @@ use Rattle.groups_run.specs.Ended.{HaveEnded, HasEndedOf, passes_on}
 use Rattle.groups_run.specs.Ends.{HaveClosed, HaveCounts}
 use Rattle.groups_run.specs.declared.served.GroupsServed.TheVariants as served
 use Rattle.groups_run.proofs.Kept.{keeps_now}
-use Rattle.groups_run.specs.Found.{AreFound, IsFoundSo, found_views, or_that, value_of, views}
+use Rattle.groups_run.specs.Found.{AreFound, IsFoundSo, faults_now, found_views, or_that, value_of, views}
 use Rattle.groups_run.specs.declared.started.RunEnd.{RunEnd}
 use Rattle.groups_run.proofs.Chosen.{are_chosen, closes_in, items_of}
 use Rattle.groups_run.proofs.Slots.{HasKept, both_there, each_count, ended, ended_at, held, held_at, on, on_at, refused, refused_at, rose, rose_at, there_two, there_three, there_four, value_each, value_if}
@@ -154,13 +154,23 @@ module _ {D N1 N2 N3 N4 : Type 0} (f : Ghosts D) (s1 : NameGhosts N1) (g1 : Lock
     pub all_ended : AtEach (HasKept f) opened end.closed.disks
     all_ended = subst (AtEach (HasKept f) opened) (sym h.joined.disks) ends_kept
 
+    -- a group's log is broken only where its own disk's count of faults rose
+    broke_at : (k : ℕ) → is_broken (at_group h.ends k) ≡ true
+        → (at_group opened k ≢ None) × Rose (f.faults (disk_now (value_of opened k))) (f.faults (value_of (mapped (λ e. e.disk) h.ends) k))
+    broke_at zero is = absurd (cc is)
+    broke_at (suc zero) is = ((λ x. absurd (cc x)), rose f s1 g1 l1 v1 opened.first n1 (passes_on 1 h.handlers) h.ends.first h.first is)
+    broke_at (suc (suc zero)) is = rose_at f s2 g2 l2 v2 HasRegionsOf opened.second s.second h.ends.second are.second n2 (passes_on 2 h.handlers) h.second is opened.first h.ends.first.disk
+    broke_at (suc (suc (suc zero))) is = rose_at f s3 g3 l3 v3 HasRegionsOf opened.third s.third h.ends.third are.third n3 (passes_on 3 h.handlers) h.third is opened.first h.ends.first.disk
+    broke_at (suc (suc (suc (suc zero)))) is = rose_at f s4 g4 l4 v4 HasRegionsOf opened.fourth s.fourth h.ends.fourth are.fourth n4 (passes_on 4 h.handlers) h.fourth is opened.first h.ends.first.disk
+    broke_at (suc (suc (suc (suc (suc k))))) is = absurd (cc is)
+
     -- a broken log has its cause
     rose_of : (h.ends.first.broken ≡ true) ⊎ ((is_broken h.ends.second ≡ true) ⊎ ((is_broken h.ends.third ≡ true) ⊎ (is_broken h.ends.fourth ≡ true)))
         → (k : ℕ) × (at_group opened k ≢ None) × Rose (f.faults (disk_now (value_of opened k))) (f.faults (value_of (mapped (λ e. e.disk) h.ends) k))
-    rose_of (inl is) = (1, (λ x. absurd (cc x)), rose f s1 g1 l1 v1 opened.first n1 (passes_on 1 h.handlers) h.ends.first h.first is)
-    rose_of (inr (inl is)) = let r = rose_at f s2 g2 l2 v2 HasRegionsOf opened.second s.second h.ends.second are.second n2 (passes_on 2 h.handlers) h.second is opened.first h.ends.first.disk in (2, r.0, r.1)
-    rose_of (inr (inr (inl is))) = let r = rose_at f s3 g3 l3 v3 HasRegionsOf opened.third s.third h.ends.third are.third n3 (passes_on 3 h.handlers) h.third is opened.first h.ends.first.disk in (3, r.0, r.1)
-    rose_of (inr (inr (inr is))) = let r = rose_at f s4 g4 l4 v4 HasRegionsOf opened.fourth s.fourth h.ends.fourth are.fourth n4 (passes_on 4 h.handlers) h.fourth is opened.first h.ends.first.disk in (4, r.0, r.1)
+    rose_of (inl is) = (1, broke_at 1 is)
+    rose_of (inr (inl is)) = (2, broke_at 2 is)
+    rose_of (inr (inr (inl is))) = (3, broke_at 3 is)
+    rose_of (inr (inr (inr is))) = (4, broke_at 4 is)
 
     pub cause : end.closed.broken ≡ true → (k : ℕ) × (at_group opened k ≢ None) × Rose (f.faults (disk_now (value_of opened k))) (f.faults (value_of end.closed.disks k))
     cause is = subst (λ (ds : GroupList D). (k : ℕ) × (at_group opened k ≢ None) × Rose (f.faults (disk_now (value_of opened k))) (f.faults (value_of ds k))) (sym h.joined.disks)
@@ -215,15 +225,18 @@ module _ {D N1 N2 N3 N4 : Type 0} (f : Ghosts D) (s1 : NameGhosts N1) (g1 : Lock
       are_closed = record { calls = h.handled.calls; each = λ k is. (each_on k is).0; moments = λ k is. (each_on k is).1 }
 
       have_closed : (chosen : Vec ClosedRegion) → end.closed.regions ≡ Some chosen
-          → HaveClosed s.count script (found_views f.view opened) (views f.view end.closed.disks) chosen.items end.replies.items end.spent end.closed.broken
+          → HaveClosed s.count script (found_views f.view opened) (views f.view end.closed.disks) (λ k. Rose (faults_now f.faults opened k) (f.faults (value_of end.closed.disks k)))
+          chosen.items end.replies.items end.spent end.closed.broken
       have_closed chosen is =
-          subst (λ (ds : GroupList D). HaveClosed s.count script (found_views f.view opened) (views f.view ds) chosen.items end.replies.items end.spent end.closed.broken) (sym h.joined.disks)
+          subst (λ (ds : GroupList D). HaveClosed s.count script (found_views f.view opened) (views f.view ds) (λ k. Rose (faults_now f.faults opened k) (f.faults (value_of ds k)))
+          chosen.items end.replies.items end.spent end.closed.broken) (sym h.joined.disks)
           record {
             names = names;
             handlers = h.handlers;
             closes = closes_in (regions_in h.ends);
             breaks = λ k. is_broken (at_group h.ends k);
             closed = are_closed;
+            causes = λ k is broke. (broke_at k broke).1;
             chosen = are_chosen s.count script (regions_in h.ends) chosen.items some (chosen_all chosen is) (λ k is. (each_on k is).2);
             lines = h.lines;
             first_told = h.first_told;
@@ -235,5 +248,6 @@ module _ {D N1 N2 N3 N4 : Type 0} (f : Ghosts D) (s1 : NameGhosts N1) (g1 : Lock
 
     -- all servers were closed
     pub closed_all : IsTrue f.told → AreFound f opened → IsScript script → (chosen : Vec ClosedRegion) → end.closed.regions ≡ Some chosen
-        → HaveClosed s.count script (found_views f.view opened) (views f.view end.closed.disks) chosen.items end.replies.items end.spent end.closed.broken
+        → HaveClosed s.count script (found_views f.view opened) (views f.view end.closed.disks) (λ k. Rose (faults_now f.faults opened k) (f.faults (value_of end.closed.disks k)))
+        chosen.items end.replies.items end.spent end.closed.broken
     closed_all told found right chosen is = have_closed told found right (chosen_all chosen is).there chosen is

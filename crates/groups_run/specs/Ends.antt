@@ -24,25 +24,28 @@ use Rattle.groups_run.specs.declared.served.GroupsServed.TheVariants as served
 abbrev pub lines_of : GroupHandled → List ReplyLine
 lines_of h = map reply_line h.replies
 
--- the handlers ran and the servers were closed, with these replies
-pub record HaveClosed (groups : ℕ) (script : Script) (found left : ℕ → DiskView) (regions : List ClosedRegion) (replies : List (List ReplyLine))
-    (spent : Option Spent) (broken : Bool) : Type 0 where
+-- The handlers ran and the servers were closed, with these replies. `rose` says of each group that the count of faults of its disk did.
+pub record HaveClosed (groups : ℕ) (script : Script) (found left : ℕ → DiskView) (rose : ℕ → Type 0) (regions : List ClosedRegion)
+    (replies : List (List ReplyLine)) (spent : Option Spent) (broken : Bool) : Type 0 where
   pub names : ℕ → Naming
   pub handlers : List GroupHandled
   pub closes : ℕ → List ClosedAt
   pub breaks : ℕ → Bool
   pub closed : AreClosed groups script found left names handlers closes breaks
+  -- a group's log is broken only where the count of faults of its own disk rose
+  pub causes : (k : ℕ) → IsGroup groups k → breaks k ≡ true → rose k
   pub chosen : AreChosen groups script closes (map closed_at regions)
   pub lines : replies ≡ map lines_of handlers
   pub first_told : first_spent (all_replies handlers) ≡ spent
   -- no group's log is broken where that isn't told
   pub none_broken : broken ≡ false → (k : ℕ) → IsGroup groups k → breaks k ≡ false
 
--- How it ends, on disks that tell what they hold, which were found so: closed, or left, each with all cells that were found.
-abbrev pub AreServed : {D : Type 0} → (D → DiskView) → ℕ → Script → (ℕ → DiskView) → GroupsServed D → Type 0
-AreServed view groups script found (served.Closed disks regions replies spent broken) =
-    HaveClosed groups script found (views view disks) regions.items replies.items spent broken
-AreServed view groups script found (served.Left disks) = (k : ℕ) → IsGroup groups k → KeepsFound (found k) (views view disks k)
+-- How it ends, on disks that tell what they hold, which were found so, and whose faults were so many when the stores were opened: closed, or left,
+-- each with all cells that were found.
+abbrev pub AreServed : {D : Type 0} → (D → DiskView) → (D → ℕ) → ℕ → Script → (ℕ → DiskView) → (ℕ → ℕ) → GroupsServed D → Type 0
+AreServed view faults groups script found had (served.Closed disks regions replies spent broken) =
+    HaveClosed groups script found (views view disks) (λ k. Rose (had k) (faults (value_of disks k))) regions.items replies.items spent broken
+AreServed view faults groups script found had (served.Left disks) = (k : ℕ) → IsGroup groups k → KeepsFound (found k) (views view disks k)
 
 abbrev pub disks_left : {D : Type 0} → GroupsServed D → GroupList D
 disks_left (served.Closed disks regions replies spent broken) = disks

@@ -25,6 +25,10 @@ views view disks k = view (value_of disks k)
 abbrev pub found_views : {D : Type 0} → (D → DiskView) → GroupList (OpenedStore D) → ℕ → DiskView
 found_views view opened k = view (disk_found (value_of opened k))
 
+-- the count of faults of each group's disk, as it is
+abbrev pub faults_now : {D : Type 0} → (D → ℕ) → GroupList (OpenedStore D) → ℕ → ℕ
+faults_now faults opened k = faults (disk_now (value_of opened k))
+
 module _ {D : Type 0} (g : Ghosts D) where
   -- the store's files were sound as they were found, and what its opening went through
   pub record IsFoundSo (o : OpenedStore D) : Type 0 where

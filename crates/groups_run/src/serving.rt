@@ -11,7 +11,7 @@ ghost use Rattle.group_calls.specs.group_servers.group_lists.Lists.{count_of, ma
 ghost use Rattle.group_calls.specs.group_servers.Starting.{IsNamedBy, IsNamedAt};
 ghost use Rattle.group_calls.specs.Passes.{named};
 ghost use Rattle.groups_run.specs.Starting.{AreAlike};
-ghost use Rattle.groups_run.specs.Found.{AreFound, views, found_views};
+ghost use Rattle.groups_run.specs.Found.{AreFound, views, found_views, faults_now};
 ghost use Rattle.groups_run.specs.Ends.{AreServed, HaveCounts, disks_left};
 
 use crate::closing::GroupsClosed;
@@ -74,8 +74,8 @@ pub fn serve_groups<
     requires named_4 { IsNamedAt D.Disk N4.ServerNaming N4.LockNaming N4.ServiceNaming N4.VersionsNaming opened.fourth }
     requires fits { (k : ℕ) → IsNameFor (script_in time (regions_of opened.first) rooms.items) (named N1.name N2.name N3.name N4.name k) }
 
-    ensures served { IsTrue D.told → AreServed D.view (count_of opened) (script_in time (regions_of opened.first) rooms.items)
-        (found_views D.view opened) result }
+    ensures served { IsTrue D.told → AreServed D.view D.faults (count_of opened) (script_in time (regions_of opened.first) rooms.items)
+        (found_views D.view opened) (faults_now D.faults opened) result }
     // At each moment a crash leaves on each group's disk an image of the disk as found, or the cells that were found; former moments stay.
     ensures any_moment { IsTrue D.told → (k : ℕ) → IsGroup (count_of opened) k
         → KeepsThroughout (found_views D.view opened k) (views D.view (disks_left result) k) }

@@ -1,4 +1,5 @@
 use Rattle.std.proofs.Common.{◌≡◌, sym, ◌∙◌, subst, arith}
+use Rattle.disk_images.specs.Calls.{Rose}
 use Rattle.script_model.specs.Calls.{IsScript}
 use Rattle.groups_run.specs.region_calls.Store.{regions_of}
 use Rattle.run_model.specs.Closed.{IsNameFor, flushes_in}
@@ -8,8 +9,9 @@ use Rattle.run_command.proofs.Leaving.{stays_throughout, untouched}
 use Rattle.groups_run.specs.group_servers.group_lists.Lists.{count_of}
 use Rattle.groups_run.proofs.group_servers_laws.group_lists_laws.Each.{same_count}
 use Rattle.groups_run.specs.group_servers.Refusals.{GoesOn}
-use Rattle.groups_run.specs.Found.{found_views, value_of, views}
-use Rattle.groups_command.proofs.Leaving.{opened_at, found_at, are_found, are_alike, rose_of, named_by, named_at, fits_script, named_each, closed_ran, of_each, none_has_others, went_on, no_less, not_opened, refused_rose}
+use Rattle.groups_run.specs.Found.{faults_now, found_views, value_of, views}
+use Rattle.groups_command.specs.Disks.{RoseAt}
+use Rattle.groups_command.proofs.Leaving.{opened_at, found_at, are_found, are_alike, rose_of, rose_since, named_by, named_at, fits_script, named_each, closed_ran, of_each, none_has_others, went_on, no_less, not_opened, refused_rose}
 use Rattle.groups_command.proofs.carrying.carry_out_groups.Goals as goal
 
 -- ---- no memory for the rooms
@@ -63,8 +65,10 @@ returns-in-Closed-clause-ran g c told =
     let same : (script_in c.script.inside.time (regions_of c.in-Ok-open_groups.opened.first) c.in-Ok.rooms.items) ≡ c.args.script = (λ i. record { time = c.script.inside.time; regions = c.in-Ok-open_groups.ensures.opened.first.sizes.0 i; handlers = c.in-Ok.ensures.calls i }) ∙ c.script.view_is in (
       none_has_others g.D.Disk c.args.disks (c.in-Ok-open_groups.ensures.none_of_others told),
       closed_ran (count_of c.in-Ok-open_groups.opened) (count_of c.args.disks) (script_in c.script.inside.time (regions_of c.in-Ok-open_groups.opened.first) c.in-Ok.rooms.items) c.args.script (found_views g.D.Disk.view c.in-Ok-open_groups.opened) (views g.D.Disk.view c.args.disks) (views g.D.Disk.view c.in-Closed.disks)
+          (λ k. Rose (faults_now g.D.Disk.faults c.in-Ok-open_groups.opened k) (g.D.Disk.faults (value_of c.in-Closed.disks k))) (RoseAt g.D.Disk.faults c.args.disks c.in-Closed.disks)
           c.in-Closed.regions.items c.in-Closed.replies.items c.in-Closed.spent c.in-Closed.broken c.in-Ok-open_groups.ensures.count same
-          (found_at g.D.Disk _ _ c.args.disks c.in-Ok-open_groups.opened c.in-Ok-open_groups.ensures.opened) (c.in-Closed.ensures.served told),
+          (found_at g.D.Disk _ _ c.args.disks c.in-Ok-open_groups.opened c.in-Ok-open_groups.ensures.opened)
+          (rose_since g.D.Disk _ _ c.args.disks c.in-Ok-open_groups.opened c.in-Ok-open_groups.ensures.opened c.in-Closed.disks) (c.in-Closed.ensures.served told),
     )
 
 pub returns-in-Closed-clause-any_moment : goal.returns-in-Closed-clause-any_moment

@@ -7,7 +7,7 @@ use Rattle.run_command.proofs.Leaving.{stays_throughout}
 use Rattle.run_model.specs.Headline.{MayKeep}
 use Rattle.groups_run.specs.group_servers.group_lists.Lists.{count_of}
 use Rattle.groups_run.specs.Found.{views}
-use Rattle.groups_command.specs.Disks.{SomeRose, IsFirstDamaged, IsFirstWrong}
+use Rattle.groups_command.specs.Disks.{RoseAt, IsFirstDamaged, IsFirstWrong}
 use Rattle.groups_command.specs.Ends.{groups_invocation, GroupsEnd}
 use Rattle.groups_command.specs.Status.{refusal_line, IsScriptFault, IsScriptAt, IsDamageOf, IsWrongGroupOf, IsOrEarlier, IsComplete}
 use Rattle.groups_command.specs.declared.status.GroupsStatus.{GroupsStatus}
@@ -58,7 +58,7 @@ status_of-requires g c = input_shared c.in-Err.status c.in-Err.ensures.refused
 pub returns-in-Err-clause-ends : goal.returns-in-Err-clause-ends
 returns-in-Err-clause-ends g c told told_disk told_sink =
     subst (λ (s : GroupsStatus). GroupsEnd s (groups_invocation (count_of c.args.disks) (g.S.Source.left c.args.script.now) (views g.D.Disk.view c.args.disks) (views g.D.Disk.view c.args.disks)
-    (g.K.Sink.taken c.args.out.now) (g.K.Sink.taken c.refuse-in-Err.new.out)) (SomeRose g.D.Disk.faults c.args.disks c.args.disks) (Rose (g.K.Sink.faults c.args.out.now) (g.K.Sink.faults c.refuse-in-Err.new.out)))
+    (g.K.Sink.taken c.args.out.now) (g.K.Sink.taken c.refuse-in-Err.new.out)) (RoseAt g.D.Disk.faults c.args.disks c.args.disks) (Rose (g.K.Sink.faults c.args.out.now) (g.K.Sink.faults c.refuse-in-Err.new.out)))
     (sym (c.refuse-in-Err.ensures.status ∙ c.status_of.ensures))
     (input_ends (count_of c.args.disks) (g.S.Source.left c.args.script.now) (g.K.Sink.taken c.args.out.now) (g.K.Sink.taken c.refuse-in-Err.new.out) (views g.D.Disk.view c.args.disks) _ _
     c.in-Err.status c.in-Err.ensures.refused (λ line is. c.refuse-in-Err.ensures.prints told_sink line (ap refusal_line c.status_of.ensures ∙ is)))
@@ -131,7 +131,7 @@ returns-in-Err-clause-complete g c told told_disk named right sound clear no_sou
 pub returns-then-not-name_disks-clause-ends : goal.returns-then-not-name_disks-clause-ends
 returns-then-not-name_disks-clause-ends g c told told_disk told_sink =
     subst (λ (s : GroupsStatus). GroupsEnd s (groups_invocation (count_of c.args.disks) (g.S.Source.left c.args.script.now) (views g.D.Disk.view c.args.disks) (views g.D.Disk.view c.args.disks)
-    (g.K.Sink.taken c.args.out.now) (g.K.Sink.taken c.refuse.new.out)) (SomeRose g.D.Disk.faults c.args.disks c.args.disks) (Rose (g.K.Sink.faults c.args.out.now) (g.K.Sink.faults c.refuse.new.out)))
+    (g.K.Sink.taken c.args.out.now) (g.K.Sink.taken c.refuse.new.out)) (RoseAt g.D.Disk.faults c.args.disks c.args.disks) (Rose (g.K.Sink.faults c.args.out.now) (g.K.Sink.faults c.refuse.new.out)))
     (sym c.refuse.ensures.status) tt
 
 pub returns-then-not-name_disks-clause-leaves_disks : goal.returns-then-not-name_disks-clause-leaves_disks

@@ -3,7 +3,7 @@ use Rattle.disk_images.specs.Calls.{Rose}
 use Rattle.groups_run.specs.group_servers.group_lists.Lists.{count_of}
 use Rattle.groups_run.proofs.group_servers_laws.group_lists_laws.Each.{count_within}
 use Rattle.groups_run.specs.Found.{views}
-use Rattle.groups_command.specs.Disks.{SomeRose, IsFirstDamaged, IsFirstWrong}
+use Rattle.groups_command.specs.Disks.{RoseAt, IsFirstDamaged, IsFirstWrong}
 use Rattle.groups_command.specs.Status.{refusal_line, IsRefusal, IsDamageOf, IsWrongGroupOf, IsOrEarlier, IsParsedEnd, IsComplete}
 use Rattle.groups_command.specs.declared.status.GroupsStatus.{GroupsStatus}
 use Rattle.groups_command.specs.declared.status.GroupsStatus.TheVariants.{Damaged, DiskFault, WrongGroup}
@@ -18,9 +18,9 @@ status_of-requires g c = report_shared c.print_report.result c.print_report.ensu
 
 pub returns-in-Closed-clause-ends : goal.returns-in-Closed-clause-ends
 returns-in-Closed-clause-ends g c told sink =
-    closed_ends (count_of c.args.disks) (count_within c.args.disks).0 c.args.script (views g.D.Disk.view c.args.disks) (views g.D.Disk.view c.in-Closed.disks) c.in-Closed.regions.items c.in-Closed.replies.items
-    c.in-Closed.spent c.in-Closed.broken (c.in-Closed.ensures.ran told).1 (SomeRose g.D.Disk.faults c.args.disks c.in-Closed.disks) (Rose (g.K.Sink.faults c.args.out.now) (g.K.Sink.faults c.print_report.new.out))
-    c.print_report.result c.status_of.result (g.K.Sink.taken c.args.out.now) (g.K.Sink.taken c.print_report.new.out) c.status_of.ensures c.in-Closed.ensures.cause (c.print_report.ensures.printed sink)
+    closed_ends (count_of c.args.disks) (count_within c.args.disks).0 c.args.script (views g.D.Disk.view c.args.disks) (views g.D.Disk.view c.in-Closed.disks) (RoseAt g.D.Disk.faults c.args.disks c.in-Closed.disks)
+    c.in-Closed.regions.items c.in-Closed.replies.items c.in-Closed.spent c.in-Closed.broken (c.in-Closed.ensures.ran told).1 c.in-Closed.ensures.cause (Rose (g.K.Sink.faults c.args.out.now) (g.K.Sink.faults c.print_report.new.out))
+    c.print_report.result c.status_of.result (g.K.Sink.taken c.args.out.now) (g.K.Sink.taken c.print_report.new.out) c.status_of.ensures (c.print_report.ensures.printed sink)
 
 pub returns-in-Closed-clause-refusal : goal.returns-in-Closed-clause-refusal
 returns-in-Closed-clause-refusal g c sink refuses = absurd (report_refuses c.print_report.result c.print_report.ensures.status (subst IsRefusal c.status_of.ensures refuses))
