@@ -1,11 +1,11 @@
-//! Many edits of one region, each shown by a version.
+//! Edits of one region that are shown by its versions.
 
 ghost use Rattle.std.specs.Prelude.{◌≡◌, [], ◌+◌, ◌<◌, ◌≤◌, ◌^◌, IfOk, OnOk};
 ghost use Rattle.region_state.specs.States.{write_point};
 ghost use Rattle.region_state.specs.Calls.{AreBelow};
 
 use kv_cell::{Batch, Cell};
-use mem_segments::{Base, Draft, Segment};
+use mem_segments::{Base, Draft, MergeIter, Segment};
 use region_state::{Caller, Ended, RegionState, Version};
 use std::alloc::Global;
 use std::sync::Arc;
@@ -31,8 +31,14 @@ pub(crate) fn batch_of(alloc: Global, row: &[u8]) -> Result<Batch, Fail> {
     Ok(Batch::new(cells)?)
 }
 
-/// Puts one row, with the call's number as that of the edit.
-fn put(alloc: Global, state: &mut RegionState, call: u32, row: &[u8]) -> Result<u64, Fail>
+/// Puts one row, with the call's number as that of the edit, and ends the edit so. The read point then.
+fn put(
+    alloc: Global,
+    state: &mut RegionState,
+    call: u32,
+    row: &[u8],
+    ended: Ended,
+) -> Result<u64, Fail>
     requires below { AreBelow call state.old.lines }
     requires number { write_point state.old + 1 < 2 ^ 48 }
     ensures below { OnOk result (AreBelow (call + 1) state.new.lines) }
@@ -43,7 +49,7 @@ fn put(alloc: Global, state: &mut RegionState, call: u32, row: &[u8]) -> Result<
     let draft = Draft::new(alloc, &batch)?;
     let caller = Caller { handler: 1, call };
     let entry = state.begin_edit(caller, 1000, batch, draft);
-    Ok(state.end_edit(entry, Ended::Done))
+    Ok(state.end_edit(entry, ended))
 }
 
 const EDITS: u32 = 20_000;
@@ -76,7 +82,7 @@ fn put_many(alloc: Global, state: &mut RegionState) -> Result<(usize, usize), Fa
     let mut made = 0_usize;
     let mut most = 0_usize;
     for call in 1..EDITS + 1 {
-        put(alloc, state, call, &call.to_be_bytes())?;
+        put(alloc, state, call, &call.to_be_bytes(), Ended::Done)?;
         let version = version_of(alloc, state)?;
         made = made.saturating_add(rows_made(version));
         most = most.max(version.segments().len());
@@ -89,5 +95,40 @@ fn many_edits_stay_in_few_segments(rt: HostRuntime) -> Result<(), Fail> {
     let state = empty_region(rt.alloc())?;
     let (made, most) = put_many(rt.alloc(), state)?;
     assert!(rt; most <= 15 && 20_000 <= made && made <= 20_000 * 15);
+    Ok(())
+}
+
+/// Puts the rows `a`, `b` and `c`, of which the second edit fails. The last read point.
+fn put_three(alloc: Global, state: &mut RegionState) -> Result<u64, Fail>
+    requires { (state.old.lines ≡ []) × (state.old.base.last ≡ 0) }
+{
+    put(alloc, state, 1, b"a", Ended::Done)?;
+    put(alloc, state, 2, b"b", Ended::Failed)?;
+    put(alloc, state, 3, b"c", Ended::Done)
+}
+
+/// Whether the walk's next cell has this sequence id and this row.
+fn is_next(walk: &mut MergeIter<'_>, number: u64, bytes: &[u8]) -> bool {
+    match walk.next_row() {
+        Some(row) => row.number() == number && row.cell().row.as_slice() == bytes,
+        None => false,
+    }
+}
+
+/// Whether the version shows the cells of the first edit and of the third one, and no other.
+fn shows_first_and_third(alloc: Global, version: &Version) -> Result<bool, Fail> {
+    let mut walk = version.scan(alloc, b"", b"")?;
+    let is_shown = is_next(&mut walk, 1, b"a") && is_next(&mut walk, 3, b"c");
+    Ok(is_shown && walk.next_row().is_none())
+}
+
+#[test]
+fn failed_edit_is_passed_and_not_shown(rt: HostRuntime) -> Result<(), Fail> {
+    let alloc = rt.alloc();
+    let state = empty_region(alloc)?;
+    let point = put_three(alloc, state)?;
+    let version = version_of(alloc, state)?;
+    assert!(rt; point == 3 && version.point() == 3);
+    assert!(rt; shows_first_and_third(alloc, version)?);
     Ok(())
 }

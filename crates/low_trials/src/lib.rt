@@ -1,5 +1,5 @@
-//! Trials of the low crates and of the disks, of what rows can't show: cells and logs in pieces, chains of trucks, store files that are
-//! damaged, a region's parts; the disks, sources and sinks in memory, what a crash of them may leave, and a sync that is held back; the
+//! Trials of the low crates and of the disks, of what rows can't show: cells at their limits, cells and logs in pieces, chains of trucks,
+//! store files that are damaged, a region's parts; the disks, sources and sinks in memory, what a crash of them may leave, and a sync that is held back; the
 //! real folder and the streams. A library of tests alone, on which nothing stands.
 #![tactic(auto)]
 
@@ -21,6 +21,8 @@ mod files;
 mod folders;
 #[cfg(test)]
 mod frames;
+#[cfg(test)]
+mod limits;
 #[cfg(test)]
 mod numbers;
 #[cfg(test)]

@@ -79,6 +79,29 @@ fn new_queue(alloc: Global) -> Result<&'static mut WriteQueue, Fail>
     Ok(Box::leak(Box::new(alloc, queue)?))
 }
 
+/// The read points where the third of three numbers is completed first, then the first, then the second.
+fn complete_three(queue: &mut WriteQueue) -> [u64; 3]
+    requires queue { queue.old.numbers ≡ record { last = 0; done = [] } }
+    requires room { 3 ≤ queue.old.room }
+{
+    let first = queue.begin();
+    let second = queue.begin();
+    let third = queue.begin();
+    [
+        queue.complete(third),
+        queue.complete(first),
+        queue.complete(second),
+    ]
+}
+
+#[test]
+fn three_completed_out_of_order(rt: HostRuntime) -> Result<(), Fail> {
+    let queue = new_queue(rt.alloc())?;
+    let points = complete_three(queue);
+    assert!(rt; points == [0, 1, 3]);
+    Ok(())
+}
+
 #[test]
 fn two_hundred_in_the_order_of_the_generator(rt: HostRuntime) -> Result<(), Fail> {
     let queue = new_queue(rt.alloc())?;

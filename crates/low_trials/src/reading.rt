@@ -182,12 +182,6 @@ fn assert_damaged(rt: &impl Abort, alloc: Global, file: &[u8], cases: &[(&[Chang
     }
 }
 
-#[test]
-fn damage_is_told_at_its_first_place(rt: HostRuntime) {
-    assert_damaged(&rt, rt.alloc(), FORMER, FORMER_DAMAGED);
-    assert_damaged(&rt, rt.alloc(), TWO_CELLS, DAMAGED);
-}
-
 /// Where the fields and the pairs of `HWS1` begin, and those of `HWS2`.
 const FORMER_FIELDS: &[u64] = &[1, 5, 9, 17, 25, 33, 65];
 
@@ -213,10 +207,14 @@ fn assert_cut(rt: &impl Abort, alloc: Global, file: &[u8], fields: &[u64]) {
     }
 }
 
+/// Damage is reported at its first place: of fields that are wrong, and of a file that is cut.
 #[test]
-fn cut_is_told_at_its_field(rt: HostRuntime) {
-    assert_cut(&rt, rt.alloc(), FORMER, FORMER_FIELDS);
-    assert_cut(&rt, rt.alloc(), TWO_CELLS, FIELDS);
+fn bad_stores(rt: HostRuntime) {
+    let alloc = rt.alloc();
+    assert_damaged(&rt, alloc, FORMER, FORMER_DAMAGED);
+    assert_damaged(&rt, alloc, TWO_CELLS, DAMAGED);
+    assert_cut(&rt, alloc, FORMER, FORMER_FIELDS);
+    assert_cut(&rt, alloc, TWO_CELLS, FIELDS);
 }
 
 /// Whether so large a file can't be held, and is refused unread.

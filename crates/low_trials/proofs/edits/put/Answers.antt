@@ -2,7 +2,6 @@ use Rattle.std.proofs.Common.{◌≡◌, ℕ, ◌+◌, ◌<◌, ◌≤◌, refl,
 use Rattle.std.specs.Arc.{arc_value}
 use Rattle.region_model.specs.Lines.{Line, pending, IsPending, IsNextCall}
 use Rattle.region_state.specs.Calls.{AreBelow}
-use Rattle.region_state.specs.declared.line.Ended.TheVariants as end
 use Rattle.region_state.specs.Outcomes.{outcome_at_end}
 use Rattle.region_state.specs.States.{State, write_point}
 use Rattle.region_state.proofs.CallLaws.{next_call, below_put, pending_put}
@@ -20,4 +19,4 @@ pub returns-clause-below : goal.returns-clause-below
 returns-clause-below c =
     let before = subst (λ (s : State). AreBelow c.args.call s.lines) (sym c.«in_ok-ready».ensures.same) c.requires.below in
     rw (ap (λ (s : State). s.lines) c.end_edit.ensures.lines, ap (λ (s : State). s.lines) c.«begin_edit-entry».ensures.lines)
-    (below_put c.args.call (c.args.call + 1) c.«begin_edit-entry».result (outcome_at_end end.Done) c.ready.new.self.lines (pending (write_point c.ready.new.self + 1) record { handler = 1; call = c.args.call } 1000 (arc_value c.«in_ok-batch».batch)) (omega arith) (omega arith) before)
+    (below_put c.args.call (c.args.call + 1) c.«begin_edit-entry».result (outcome_at_end c.args.ended) c.ready.new.self.lines (pending (write_point c.ready.new.self + 1) record { handler = 1; call = c.args.call } 1000 (arc_value c.«in_ok-batch».batch)) (omega arith) (omega arith) before)
