@@ -1,9 +1,10 @@
-//! The accounting of a log's files over time: the oldest number while a flush is under way, and a flush that is aborted.
+//! The accounting of a log's files over time: the oldest number while a flush of a region, or of one of its families, is under way, and a
+//! flush that is aborted.
 
 ghost use Rattle.std.specs.Prelude.{◌≡◌, ◌<◌, ◌≤◌, length, IfOk, IfSome};
 ghost use Rattle.device_trials.specs.Underway.{IsIdle, IsOnly};
 
-use crate::entries::one_put;
+use kv_cell::{Batch, Cell};
 use seq_accounting::{Accounting, FamilyMarks, Flushing, RegionMark};
 use std::alloc::Global;
 use std::process::Abort;
@@ -32,22 +33,33 @@ fn three_regions(alloc: Global) -> Result<Accounting, Fail>
     Ok(accounting)
 }
 
-/// Notes an entry with a cell of family `f`. It stops where there is no memory.
-fn note(rt: &impl Abort, alloc: Global, accounting: &mut Accounting, region: u32, number: u64)
+/// Notes an entry with a cell of each of these families, whose names are one byte. It stops where there is no memory.
+fn note(
+    rt: &impl Abort,
+    alloc: Global,
+    accounting: &mut Accounting,
+    region: u32,
+    number: u64,
+    families: &[u8],
+)
     requires { region ≤ 64 }
     ensures flushing { accounting.new.flushing ≡ accounting.old.flushing }
     ensures last { accounting.new.last ≡ accounting.old.last }
 {
     assert!(rt; accounting.noted(region) < number);
-    match marks(alloc) {
+    match marks(alloc, families) {
         Ok(marks) => accounting.note(region, number, marks),
         Err(_) => panic!(rt; "no memory"),
     }
 }
 
-/// The marks of an entry with a cell of family `f`.
-fn marks(alloc: Global) -> Result<FamilyMarks, Fail> {
-    Ok(FamilyMarks::of_batch(alloc, &one_put(alloc, 1, 1)?)?)
+/// The marks of an entry with a cell of each of these families.
+fn marks(alloc: Global, families: &[u8]) -> Result<FamilyMarks, Fail> {
+    let mut cells = Vec::new(alloc);
+    for family in families {
+        cells.push(Cell::new(alloc, b"r", &[*family], b"q", 1, 4, b"v")?)?;
+    }
+    Ok(FamilyMarks::of_batch(alloc, &Batch::new(cells)?)?)
 }
 
 /// Closes the current file. It stops where there is no memory.
@@ -123,8 +135,8 @@ fn note_beside(rt: &impl Abort, alloc: Global, accounting: &mut Accounting, firs
     ensures { accounting.new.flushing ≡ accounting.old.flushing }
 {
     assert!(rt; first.region() == 1 && first.number() == 5);
-    note(rt, alloc, accounting, 1, 8);
-    note(rt, alloc, accounting, 1, 9);
+    note(rt, alloc, accounting, 1, 8, b"f");
+    note(rt, alloc, accounting, 1, 9, b"f");
     assert!(rt; accounting.oldest_unflushed(1, b"f") == Some(3));
 }
 
@@ -133,8 +145,8 @@ fn assert_oldest(rt: &impl Abort, alloc: Global, accounting: &mut Accounting)
     requires { IsIdle accounting.old.flushing }
 {
     assert!(rt; accounting.oldest_unflushed(1, b"f").is_none());
-    note(rt, alloc, accounting, 1, 3);
-    note(rt, alloc, accounting, 1, 5);
+    note(rt, alloc, accounting, 1, 3, b"f");
+    note(rt, alloc, accounting, 1, 5, b"f");
     assert!(rt; accounting.oldest_unflushed(1, b"f") == Some(3));
     let first = start(rt, alloc, accounting, 1, None);
     note_beside(rt, alloc, accounting, &first);
@@ -160,10 +172,10 @@ fn assert_kept(rt: &impl Abort, alloc: Global, accounting: &mut Accounting)
     requires last { accounting.old.last ≡ 0 }
 {
     assert!(rt; accounting.oldest_unflushed(3, b"f").is_none());
-    note(rt, alloc, accounting, 3, 9);
+    note(rt, alloc, accounting, 3, 9, b"f");
     close(rt, accounting, 1);
     let first = start(rt, alloc, accounting, 3, None);
-    note(rt, alloc, accounting, 3, 12);
+    note(rt, alloc, accounting, 3, 12, b"f");
     give_up(accounting, first);
     assert!(rt; accounting.flushed(3, b"f") == 7 && accounting.noted(3) == 12);
     assert!(rt; accounting.oldest_unflushed(3, b"f") == Some(9));
@@ -178,5 +190,50 @@ fn aborted_flush_keeps_what_is_flushed(rt: HostRuntime) -> Result<(), Fail> {
     let alloc = rt.alloc();
     let mut accounting = three_regions(alloc)?;
     assert_kept(&rt, alloc, &mut accounting);
+    Ok(())
+}
+
+/// Whether region 1 has of this family this flushed number, and this oldest number above it.
+fn has(accounting: &Accounting, family: &[u8], flushed: u64, oldest: Option<u64>) -> bool {
+    accounting.flushed(1, family) == flushed && accounting.oldest_unflushed(1, family) == oldest
+}
+
+/// Flushes family `f` of region 1 beside an entry of both, and asserts that `g` keeps its numbers.
+fn assert_first(rt: &impl Abort, alloc: Global, accounting: &mut Accounting)
+    requires idle { IsIdle accounting.old.flushing }
+    requires last { accounting.old.last ≡ 0 }
+    ensures idle { IsIdle accounting.new.flushing }
+    ensures last { accounting.new.last ≡ 1 }
+{
+    note(rt, alloc, accounting, 1, 3, b"fg");
+    note(rt, alloc, accounting, 1, 5, b"g");
+    close(rt, accounting, 1);
+    let first = start(rt, alloc, accounting, 1, Some(b"f"));
+    note(rt, alloc, accounting, 1, 8, b"fg");
+    complete(accounting, first);
+    assert!(rt; has(accounting, b"f", 5, Some(8)) && has(accounting, b"g", 0, Some(3)));
+    assert!(rt; accounting.whole(1) == 0 && next_lower(accounting, 0) == Some((1, false)));
+}
+
+/// Gives up a flush of `g`, and flushes it then: it alone changes.
+fn assert_second(rt: &impl Abort, alloc: Global, accounting: &mut Accounting)
+    requires { IsIdle accounting.old.flushing }
+{
+    let second = start(rt, alloc, accounting, 1, Some(b"g"));
+    note(rt, alloc, accounting, 1, 9, b"g");
+    give_up(accounting, second);
+    assert!(rt; has(accounting, b"f", 5, Some(8)) && has(accounting, b"g", 0, Some(3)));
+    let third = start(rt, alloc, accounting, 1, Some(b"g"));
+    complete(accounting, third);
+    assert!(rt; has(accounting, b"f", 5, Some(8)) && has(accounting, b"g", 9, None));
+    assert!(rt; accounting.whole(1) == 0 && next_lower(accounting, 0) == Some((1, true)));
+}
+
+#[test]
+fn flush_of_a_family_leaves_the_others(rt: HostRuntime) -> Result<(), Fail> {
+    let alloc = rt.alloc();
+    let mut accounting = three_regions(alloc)?;
+    assert_first(&rt, alloc, &mut accounting);
+    assert_second(&rt, alloc, &mut accounting);
     Ok(())
 }
