@@ -54,6 +54,8 @@ impl<'a, K: Sink> Peer for SinkPeer<'a, K> {
 
     ghost has = { λ p ms. HasWritten K.told p.failed (K.taken p.first.value) (K.taken p.out.now) ms };
 
+    ghost torn = { λ p ms m. Unit {0} };
+
     ghost faults = { λ p. K.faults p.out.now };
 
     ghost stays = { λ p q. (q.out.ghost_name ≡ p.out.ghost_name) × (q.first.value ≡ p.first.value) };
