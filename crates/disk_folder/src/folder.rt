@@ -39,6 +39,8 @@ pub struct FolderDisk<'a, R> {
     pub(crate) access: Access,
     // the folder itself, with its lock
     pub(crate) held: Option<File>,
+    // whether a call didn't find it
+    pub(crate) was_absent: bool,
     pub(crate) open: OpenFiles,
     // the greatest length of a file that the process may write
     pub(crate) most: u64,
@@ -63,12 +65,18 @@ impl<'a, R> FolderDisk<'a, R> {
             folder,
             access,
             held: None,
+            was_absent: false,
             open: OpenFiles::new(alloc),
             most: u64::MAX,
             is_placed: false,
             is_settled: false,
             faults: 0,
         }
+    }
+
+    /// Whether a call found no folder, which reads as an empty store. It may have been made since.
+    pub fn was_absent(&self) -> bool {
+        self.was_absent
     }
 
     /// How many faults were counted so far.

@@ -31,7 +31,10 @@ impl<R: Files<File = File> + AllocGlobal + Clone + Drop> FolderDisk<'_, R> {
         }
         match open_folder(self.rt, self.alloc, self.folder)? {
             Some(folder) => self.take_folder(folder),
-            None => Ok(()),
+            None => {
+                self.was_absent = true;
+                Ok(())
+            }
         }
     }
 

@@ -4,6 +4,9 @@
 //! hold is known to no proof.
 #![tactic(auto)]
 
+mod causes;
+
+use causes::Ended;
 use disk_folder::{Access, FolderDisk, ReaderSource, WriterSink};
 use load_run::{FreeGate, Status, refuse, run};
 use std::alloc::AllocError;
@@ -53,17 +56,25 @@ fn main(rt: HostRuntime) -> ExitCode {
     let alloc = rt.alloc();
     let mut out = WriterSink::new(io::writer(&rt));
     let Ok(args) = arguments(&rt) else {
-        return ExitCode::from(refuse(&mut out, Status::Memory).number());
+        let status = refuse(&mut out, Status::Memory);
+        return Ended::before_work(status, out.cause()).tell(&rt, &[]);
     };
     let Ok(words) = args
         .iter()
         .map(|word| word.as_str())
         .collect::<Vec<&str>>(alloc)
     else {
-        return ExitCode::from(refuse(&mut out, Status::Memory).number());
+        let status = refuse(&mut out, Status::Memory);
+        return Ended::before_work(status, out.cause()).tell(&rt, &[]);
     };
     let mut script = ReaderSource::new(rt.reader());
     let disk = FolderDisk::new(&rt, alloc, access_of(&words));
     let outcome = run(&rt, alloc, &words, &mut script, disk, &mut out, &FreeGate);
-    ExitCode::from(outcome.status.number())
+    let ended = Ended {
+        status: outcome.status,
+        input: script.cause(),
+        output: out.cause(),
+        was_absent: outcome.disk.was_absent(),
+    };
+    ended.tell(&rt, &words)
 }

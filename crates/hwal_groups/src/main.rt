@@ -5,8 +5,10 @@
 //! hold is known to no proof.
 #![tactic(auto)]
 
+mod causes;
 mod folders;
 
+use causes::{Ended, tell_absent};
 use disk_folder::{ReaderSource, WriterSink};
 use folders::folders;
 use groups_command::region_calls::FreeGate;
@@ -36,13 +38,6 @@ fn hold_streams<R: Files<File = File>>(rt: &R) -> io::Result<[File; 3]> {
     ])
 }
 
-/// Says which of the folders is damaged.
-fn tell_damage<R: Eprint + AllocGlobal>(rt: &R, status: &GroupsStatus) {
-    if let GroupsStatus::Damaged { disk, damage: _ } = status {
-        let _ = eprintln!(rt; "hwal: hwal-store-{disk} is damaged");
-    }
-}
-
 // Threads are had in `main` alone, so it makes the parts itself.
 fn main(rt: HostRuntime) -> ExitCode {
     let _held = match hold_streams(&rt) {
@@ -55,19 +50,26 @@ fn main(rt: HostRuntime) -> ExitCode {
     let alloc = rt.alloc();
     let mut out = WriterSink::new(io::writer(&rt));
     let Ok(args) = arguments(&rt) else {
-        return ExitCode::from(refuse(&mut out, GroupsStatus::Memory).number());
+        let status = refuse(&mut out, GroupsStatus::Memory);
+        return Ended::before_work(status, out.cause()).tell(&rt);
     };
     let Ok(words) = args
         .iter()
         .map(|word| word.as_str())
         .collect::<Vec<&str>>(alloc)
     else {
-        return ExitCode::from(refuse(&mut out, GroupsStatus::Memory).number());
+        let status = refuse(&mut out, GroupsStatus::Memory);
+        return Ended::before_work(status, out.cause()).tell(&rt);
     };
     let mut script = ReaderSource::new(rt.reader());
     // With words that name no number the call refuses, and no folder is looked at.
     let disks = folders(&rt, alloc, disks_in(&words).unwrap_or(1));
     let outcome = run_groups(&rt, alloc, &words, &mut script, disks, &mut out, &FreeGate);
-    tell_damage(&rt, &outcome.status);
-    ExitCode::from(outcome.status.number())
+    let ended = Ended {
+        status: outcome.status,
+        input: script.cause(),
+        output: out.cause(),
+    };
+    tell_absent(&rt, &outcome.disks);
+    ended.tell(&rt)
 }
