@@ -6,7 +6,7 @@ ghost use Rattle.region_lock.specs.log_service.Places.{IsSeatOf, IsLaterSeat};
 ghost use Rattle.region_lock.specs.Jobs.{IsJob};
 ghost use Rattle.region_lock.specs.Parts.{AreCalledBelow};
 ghost use Rattle.region_lock.specs.Passes.{IsAtService, SameView};
-ghost use Rattle.region_lock.specs.Puts.{IsAttempted, IsDrawn, IsWatched};
+ghost use Rattle.region_lock.specs.Puts.{IsAttempted, IsDrawn, IsWatched, HasDrawn};
 
 use crate::holding::hold;
 use crate::waiting::help;
@@ -36,20 +36,28 @@ fn attempt<
     requires caller { (job.caller.handler ≡ at.old.hand.number) × AreCalledBelow job.caller.call at.old.hand.record.list }
     ensures drawn { IsAttempted (last_in (N.region_base at.old.viewer.region) at.old.viewer.lines) at.old.viewer.region job
         at.old.hand.record.list at.old.told.record.list result at.new.hand.record.list at.new.told.record.list seat.new.device.knows.broken }
-    ensures watched { IsWatched result seat.old.device.knows seat.new.device.knows }
+    ensures watched { IsWatched result at.old.tally.watch at.new.tally.watch }
+    ensures unasked { at.new.tally.asked ≡ at.old.tally.asked }
     ensures same { SameView at.old at.new }
     ensures seat { IsSeatOf service.now seat.new }
     ensures later { IsLaterSeat seat.old seat.new }
 {
     let region = at.viewer.region();
     let seen = at.viewer.seen();
-    let tried = hold(rt, lock, region, seen).draw(rt, service, &mut at.hand, &mut at.told, job);
+    let tried = hold(rt, lock, region, seen).draw(
+        rt,
+        service,
+        &mut at.hand,
+        &mut at.told,
+        &mut at.tally.watch,
+        job,
+    );
     match tried {
         Tried::Begun(entry) => Ok(Ok(entry)),
         Tried::Spent { last } => Ok(Err(PutRefusal::NumbersSpent { last })),
         Tried::Memory => Ok(Err(PutRefusal::Memory { logged: None })),
         Tried::Again(back) => {
-            if service.broken(seat) {
+            if service.watch(seat, &mut at.tally.watch) {
                 Ok(Err(PutRefusal::WriteFault { number: None }))
             } else {
                 Err(back)
@@ -77,6 +85,8 @@ pub(crate) fn draw<
     requires caller { (job.caller.handler ≡ at.old.hand.number) × AreCalledBelow job.caller.call at.old.hand.record.list }
     ensures drawn { IsDrawn (last_in (N.region_base at.old.viewer.region) at.old.viewer.lines) job at.old.hand.record.list at.old.told.record.list
         result at.new.hand.record.list at.new.told.record.list seat.new.device.knows.broken }
+    ensures watched { HasDrawn result at.old.tally.watch at.new.tally.watch }
+    ensures unasked { at.new.tally.asked ≡ at.old.tally.asked }
     ensures same { SameView at.old at.new }
     ensures seat { IsSeatOf service.now seat.new }
     ensures later { IsLaterSeat seat.old seat.new }

@@ -44,6 +44,7 @@ fn end_in<
     ensures own { WasEnded (outcome_at_end ended) at.old.hand.record.list at.new.hand.record.list }
     ensures told { at.new.told.record.list ≡ at.old.told.record.list }
     ensures pass { SamePass at.old at.new }
+    ensures tally { at.new.tally ≡ at.old.tally }
     ensures lines { IsPrefix at.old.viewer.lines at.new.viewer.lines }
     ensures seen { result ≡ Left.Nothing → HasSeen (N.region_base at.new.viewer.region) entry at.new.hand.record.list at.new.viewer.lines }
 {
@@ -80,6 +81,7 @@ pub(crate) fn end<
     ensures own { WasEnded (outcome_at_end ended) at.old.hand.record.list at.new.hand.record.list }
     ensures told { at.new.told.record.list ≡ at.old.told.record.list }
     ensures pass { SamePass at.old at.new }
+    ensures tally { at.new.tally ≡ at.old.tally }
     ensures lines { IsPrefix at.old.viewer.lines at.new.viewer.lines }
     ensures seen { result ≡ Left.Nothing → HasSeen (N.region_base at.new.viewer.region) entry at.new.hand.record.list at.new.viewer.lines }
 {
@@ -97,6 +99,7 @@ fn is_seen<
     ensures seen { IsTrue result → HasSeen (N.region_base at.new.viewer.region) number at.new.hand.record.list at.new.viewer.lines }
     ensures own { (at.new.hand.record ≡ at.old.hand.record) × SameHand at.old.hand at.new.hand }
     ensures told { at.new.told.record.list ≡ at.old.told.record.list }
+    ensures tally { at.new.tally ≡ at.old.tally }
     ensures region { at.new.viewer.region ≡ at.old.viewer.region }
     ensures lines { IsPrefix at.old.viewer.lines at.new.viewer.lines }
 {
@@ -131,6 +134,7 @@ pub(crate) fn show<
     ensures lines { IsPrefix at.old.viewer.lines at.new.viewer.lines }
     ensures own { (at.new.hand.record ≡ at.old.hand.record) × SameHand at.old.hand at.new.hand }
     ensures told { at.new.told.record.list ≡ at.old.told.record.list }
+    ensures tally { at.new.tally ≡ at.old.tally }
     ensures seat { IsSeatOf service.now seat.new }
     ensures later { IsLaterSeat seat.old seat.new }
 {

@@ -3,25 +3,27 @@
 ghost use Rattle.std.specs.Prelude.{◌≡◌};
 ghost use Rattle.std.specs.Arc.{arc_value};
 ghost use Rattle.region_lock.specs.log_service.Places.{IsSeatOf, IsLaterSeat};
+ghost use Rattle.region_lock.specs.log_service.Tallies.{HasAsked};
 ghost use Rattle.region_lock.specs.Answers.{is_sync, put_answer};
 ghost use Rattle.region_lock.specs.Calls.{PutsAt};
 ghost use Rattle.region_lock.specs.Jobs.{IsJob};
 ghost use Rattle.region_lock.specs.Parts.{AreCalledBelow};
 ghost use Rattle.region_lock.specs.Passes.{IsAtService, SamePass, known_of};
-ghost use Rattle.region_lock.specs.Puts.{IsLogged, IsFaultExact};
+ghost use Rattle.region_lock.specs.Puts.{AsksLog, HasLooked, IsAskedFor, IsFaultExact, IsLogged};
 
 use crate::drawing::draw;
 use crate::ending::{Left, end, show};
 use crate::waiting::help;
 use disk_images::Disk;
 use kv_cell::Durability;
-use region_lock::log_service::{LogSeat, LogService};
+use region_lock::log_service::{Asked, LogSeat, LogService};
 use region_lock::{Gate, Job, LockNaming, Locked, PutRefusal, RegionPass, wait_logged};
 use region_state::{Caller, Ended};
 use std::alloc::Global;
 use std::sync::{Mutex, Wait};
 
-/// Asks that the region's entries up to the number be durable; given up where the log is broken.
+/// Asks that the region's entries up to the number be durable: pushes one sync request, in as many tries as it takes. Given up only where
+/// the fault word was seen set.
 fn ask<
     N: LockNaming + region_lock::log_service::ServiceNaming + region_versions::VersionsNaming,
     D: Disk,
@@ -31,16 +33,21 @@ fn ask<
     rt: &S,
     service: &LogService<D, N>,
     lock: &Mutex<Locked<N, R>>,
+    asked: &mut Asked,
     region: u32,
     seat: &mut LogSeat,
     number: u64,
 )
     requires service { IsAtService N.ring service.now region seat.old }
+    ensures asked { HasAsked region number asked.old asked.new seat.new.device.knows.broken }
     ensures seat { IsSeatOf service.now seat.new }
     ensures later { IsLaterSeat seat.old seat.new }
 {
     'asking: for _ in rt.forever() {
-        if lock.lock(rt).ask(rt, service, region, number) || service.broken(seat) {
+        if lock.lock(rt).ask(rt, service, asked, region, number) {
+            return;
+        }
+        if service.broken(seat) {
             return;
         }
         help(rt, service, seat);
@@ -59,6 +66,7 @@ fn await_log<
     rt: &S,
     service: &LogService<D, N>,
     lock: &Mutex<Locked<N, R>>,
+    asked: &mut Asked,
     region: u32,
     caller: Caller,
     seat: &mut LogSeat,
@@ -68,6 +76,7 @@ fn await_log<
 ) -> bool
     requires service { IsAtService N.ring service.now region seat.old }
     ensures logged { IsLogged (is_sync durability) result region number seat.new.device.knows }
+    ensures asked { IsAskedFor (is_sync durability) region number asked.old asked.new seat.new.device.knows.broken }
     ensures seat { IsSeatOf service.now seat.new }
     ensures later { IsLaterSeat seat.old seat.new }
 {
@@ -77,7 +86,7 @@ fn await_log<
             true
         }
         Durability::Sync => {
-            ask(rt, service, lock, region, seat, number);
+            ask(rt, service, lock, asked, region, seat, number);
             gate.logged(rt, caller.handler, caller.call);
             wait_logged(rt, service, seat, region, number)
         }
@@ -120,8 +129,10 @@ pub fn put_in<
     ensures seat { IsSeatOf service.now seat.new }
     ensures later { IsLaterSeat seat.old seat.new }
     ensures exact { IsFaultExact (is_sync durability) at.old.viewer.region result seat.old.device.knows seat.new.device.knows }
+    ensures asked { AsksLog (is_sync durability) at.old.viewer.region result at.old.tally.asked at.new.tally.asked seat.new.device.knows.broken }
+    ensures watched { HasLooked result at.old.tally.watch at.new.tally.watch }
 {
-    if service.broken(seat) {
+    if service.watch(seat, &mut at.tally.watch) {
         return Err(PutRefusal::WriteFault { number: None });
     }
     let region = at.viewer.region();
@@ -131,7 +142,16 @@ pub fn put_in<
     let number = entry.number();
     // With no lock held: the log.
     if !await_log(
-        rt, service, lock, region, caller, seat, durability, number, gate,
+        rt,
+        service,
+        lock,
+        &mut at.tally.asked,
+        region,
+        caller,
+        seat,
+        durability,
+        number,
+        gate,
     ) {
         let _left = end(rt, alloc, lock, at, entry, Ended::Failed);
         service.tell_show(region);

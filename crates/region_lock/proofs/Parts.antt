@@ -1,5 +1,5 @@
 -- The ties of a region's lock, step by step.
-use Rattle.std.proofs.Common.{◌≡◌, Result, Ok, Err, MatchResult, zero, suc, inl, inr, ℕ, ◌+◌, ◌-◌, ◌^◌, ◌<◌, ◌≤◌, get_or, List, [], ◌∷◌, ◌++◌, length, set, Contains, Some, None, Option, slice_get, refl, sym, ap, ◌∙◌, subst, arith, append-nil, length-append}
+use Rattle.std.proofs.Common.{◌≡◌, Bool, true, false, IsTrue, IsFalse, zero, suc, inl, inr, ℕ, ◌+◌, ◌-◌, ◌^◌, ◌<◌, ◌≤◌, get_or, List, [], ◌∷◌, ◌++◌, length, set, Contains, Some, None, Option, slice_get, refl, sym, ap, ◌∙◌, subst, arith, append-nil, length-append}
 use Rattle.std.specs.Global.{Box}
 use Rattle.std.proofs.lemmas.Option.{slice_get_within}
 use Rattle.crossbeam_queue.specs.Passes.{view}
@@ -16,7 +16,6 @@ use Rattle.std.specs.Arc.{arc_value}
 use Rattle.region_model.specs.Journal.{Base, Caller, Outcome, Follows}
 use Rattle.region_model.specs.Lines.{Line, edit_in, edits_in, last_in, handled_lines, with_outcome}
 use Rattle.region_model.proofs.LineLaws.{length-with_outcome}
-use Rattle.append_ring.specs.declared.ring.Full.{Full}
 use Rattle.log_service.specs.log_halves.declared.item.Item.{Item}
 use Rattle.log_service.specs.log_halves.declared.item.Item.TheVariants as items
 use Rattle.log_service.specs.Items.{appended, number_of}
@@ -226,8 +225,8 @@ last_is xs x d =
 
 -- a wish is pushed, or the ring was full
 pub asked : (flushes : List Caller) (r : ℕ) (base : Base) (xs : List Line) (mark : Option Caller) (ours : List (Record Line)) (theirs : List (Record ℕ)) (pass pass' : RingKey Item)
-    (region number : ℕ) (result : Result (Unit {0}) (Full Item)) → IsPart flushes r base xs mark ours theirs pass
-    → MatchResult result (λ _. HasPushed (view pass.pass) (items.Sync region number) (view pass'.pass)) (λ full. (full.item ≡ items.Sync region number) × (view pass'.pass ≡ view pass.pass) × HadItems 1024 (view pass.pass)) → pass'.region ≡ pass.region
+    (region number : ℕ) (result : Bool) → IsPart flushes r base xs mark ours theirs pass
+    → (IsTrue result → HasPushed (view pass.pass) (items.Sync region number) (view pass'.pass)) → (IsFalse result → (view pass'.pass ≡ view pass.pass) × HadItems 1024 (view pass.pass)) → pass'.region ≡ pass.region
     → IsPart flushes r base xs mark ours theirs pass'
-asked flushes r base xs mark ours theirs pass pass' region number (Ok u) p pushed same = part_asked flushes r base xs mark ours theirs pass pass' (items.Sync region number) p pushed same refl refl
-asked flushes r base xs mark ours theirs pass pass' region number (Err e) p full same = part_full flushes r base xs mark ours theirs pass pass' p full.1 same
+asked flushes r base xs mark ours theirs pass pass' region number true p pushed full same = part_asked flushes r base xs mark ours theirs pass pass' (items.Sync region number) p (pushed refl) same refl refl
+asked flushes r base xs mark ours theirs pass pass' region number false p pushed full same = part_full flushes r base xs mark ours theirs pass pass' p (full refl).0 same

@@ -1,23 +1,23 @@
 //! How an edit is begun and ended under its region's lock.
 
-ghost use Rattle.std.specs.Prelude.{◌≡◌, ℕ, ◌+◌, ◌<◌, ◌≤◌, ◌^◌};
+ghost use Rattle.std.specs.Prelude.{◌≡◌, ℕ, ◌+◌, ◌<◌, ◌≤◌, ◌^◌, IsTrue, IsFalse, MatchResult};
 ghost use Rattle.hand_register.specs.Desks.{with_value};
 ghost use Rattle.log_model.specs.Entry.{Entry, entry_frame};
+ghost use Rattle.log_service.specs.Tallies.{asked_for, found_full};
 ghost use Rattle.region_model.specs.Lines.{with_outcome};
 ghost use Rattle.region_state.specs.States.{write_point, IsReadPoint};
 ghost use Rattle.region_state.specs.Outcomes.{outcome_at_end};
 ghost use Rattle.region_lock.specs.Hands.{SameHand};
 ghost use Rattle.region_lock.specs.Jobs.{IsJob, IsBegun};
 ghost use Rattle.region_lock.specs.Parts.{EndsPending, WasEnded, AreCalledBelow, with_lines};
-ghost use Rattle.region_lock.specs.Tries.{IsTried};
+ghost use Rattle.region_lock.specs.Tries.{IsTried, counted_by};
 
 use crate::job::Job;
 use crate::locked::Locked;
 use crate::naming::LockNaming;
-use append_ring::Full;
 use disk_images::Disk;
 use hand_register::Hand;
-use log_service::{Item, LogService};
+use log_service::{Asked, LogService, Watch};
 use log_trucks::Truck;
 use region_state::{Ended, Line};
 use std::sync::Wait;
@@ -42,6 +42,7 @@ impl<
         service: &LogService<D, N>,
         hand: &mut Hand<Line>,
         told: &mut Hand<u64>,
+        watch: &mut Watch,
         job: Job,
     ) -> Tried
         requires ring { service.now.ring ≡ N.ring }
@@ -54,6 +55,8 @@ impl<
         ensures mark { hand.new.record.mark ≡ hand.old.record.mark }
         ensures hand { SameHand hand.old hand.new }
         ensures told { SameHand told.old told.new }
+        // Where the job comes back the ring was found full.
+        ensures counted { watch.new ≡ counted_by result watch.old }
     {
         if self.write_point() + 1 >= 1 << 48 {
             return Tried::Spent {
@@ -63,7 +66,7 @@ impl<
         if self.state.ready().is_err() {
             return Tried::Memory;
         }
-        match self.begin(rt, service, hand, job) {
+        match self.begin(rt, service, hand, watch, job) {
             Ok(entry) => Tried::Begun(entry),
             Err(back) => Tried::Again(back),
         }
@@ -76,6 +79,7 @@ impl<
         rt: &S,
         service: &LogService<D, N>,
         hand: &mut Hand<Line>,
+        watch: &mut Watch,
         job: Job,
     ) -> Result<WriteEntry, Job>
         requires ring { service.now.ring ≡ N.ring }
@@ -86,6 +90,7 @@ impl<
         requires caller { (job.caller.handler ≡ hand.old.number) × AreCalledBelow job.caller.call hand.old.record.list }
         ensures begun { IsBegun job self.old hand.old.record result self.new hand.new.record }
         ensures hand { SameHand hand.old hand.new }
+        ensures counted { MatchResult result (λ _. watch.new ≡ watch.old) (λ _. watch.new ≡ found_full watch.old) }
     {
         let Job {
             caller,
@@ -98,7 +103,7 @@ impl<
         self.desk.meet(hand);
         let number = self.state.write_point() + 1;
         stamp(&mut truck, number);
-        match service.push(rt, &mut self.pass, Item::Append(truck)) {
+        match service.append(rt, &mut self.pass, watch, truck) {
             Ok(()) => {
                 let entry = self.state.begin_edit(caller, time, batch, draft);
                 let Locked { state, desk, .. } = self;
@@ -106,11 +111,7 @@ impl<
                 desk.add(hand, &lines[lines.len() - 1]);
                 Ok(entry)
             }
-            Err(
-                Full {
-                    item: Item::Append(truck),
-                },
-            ) => {
+            Err(truck) => {
                 Err(Job {
                     caller,
                     time,
@@ -119,32 +120,28 @@ impl<
                     truck,
                 })
             }
-            Err(
-                Full {
-                    item: Item::Sync { .. },
-                },
-            ) => unreachable!(),
         }
     }
 
-    /// Asks that the region's entries up to the number be durable. False where the ring was full, or where it is another region's lock,
-    /// which no run shows.
+    /// Asks that the region's entries up to the number be durable, and counts it. False where the ring was full, or where it is another
+    /// region's lock, which no run shows.
     pub fn ask<D: Disk, S: Wait>(
         &mut self,
         rt: &S,
         service: &LogService<D, N>,
+        asked: &mut Asked,
         region: u32,
         number: u64,
     ) -> bool
         requires ring { service.now.ring ≡ N.ring }
         ensures same { self.new ≡ self.old }
+        ensures counted { IsTrue result → asked.new ≡ asked_for region number asked.old }
+        ensures uncounted { IsFalse result → asked.new ≡ asked.old }
     {
         if self.state.region() != region {
             return false;
         }
-        service
-            .push(rt, &mut self.pass, Item::Sync { region, number })
-            .is_ok()
+        service.ask(rt, &mut self.pass, asked, region, number)
     }
 
     /// Ends the handler's last line, which is pending, and gives the read point.

@@ -118,6 +118,7 @@ impl<
     pub fn meet(&mut self, at: &mut RegionPass<N>) -> bool
         requires { at.old.viewer.region ≡ self.old.state.region }
         ensures same { (self.new ≡ self.old) × (at.new.viewer ≡ at.old.viewer) }
+        ensures tally { at.new.tally ≡ at.old.tally }
         ensures hand { (at.new.hand.record ≡ at.old.hand.record) × SameHand at.old.hand at.new.hand }
         ensures told { (at.new.told.record ≡ at.old.told.record) × SameHand at.old.told at.new.told }
         ensures own { at.new.hand.record.list ≡ handled_lines at.new.hand.number self.old.state.lines }

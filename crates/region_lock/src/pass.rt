@@ -4,14 +4,16 @@ ghost use Rattle.std.specs.Prelude.{◌≡◌};
 
 use crate::naming::LockNaming;
 use hand_register::Hand;
+use log_service::PutTally;
 use region_state::Line;
 use region_versions::Viewer;
 
-/// What a pass has of one region: its hands of the region's two desks, and its viewer.
+/// What a pass has of one region: its hands of the region's two desks, its viewer, and what is counted of its puts.
 pub struct RegionPass<N: LockNaming + region_versions::VersionsNaming> {
     pub hand: Hand<Line>,
     pub told: Hand<u64>,
     pub viewer: Viewer<N>,
+    pub tally: PutTally,
     pub ghost of_desk: { hand.desk ≡ N.desk viewer.region },
     pub ghost of_spent: { told.desk ≡ N.spent viewer.region },
     pub ghost one: { told.number ≡ hand.number },
@@ -24,6 +26,7 @@ impl<N: LockNaming + region_versions::VersionsNaming> Drop for RegionPass<N> {
             hand: _,
             told: _,
             viewer: _,
+            tally: _,
         } = self;
     }
 }

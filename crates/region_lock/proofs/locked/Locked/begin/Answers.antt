@@ -14,8 +14,8 @@ use Rattle.region_lock.proofs.Parts.{part_begun, spelled, kept, came_back, last_
 use Rattle.region_lock.proofs.Shows.{shown_begun}
 use Rattle.region_lock.proofs.locked.Locked.begin.Goals as goal
 
-pub push-requires-clause-whole : goal.push-requires-clause-whole
-push-requires-clause-whole g c =
+pub append-requires-clause-whole : goal.append-requires-clause-whole
+append-requires-clause-whole g c =
     let n = c.write_point-number.result + 1 in
     let limit : write_point c.self.inside.state + 1 < 2 ^ 48 = subst (λ (p : Part). write_point p.state + 1 < 2 ^ 48) (sym c.self.view_is) c.requires.number in
     spelled c.args.self.now.state.region n c.args.job _ _ c.requires.job c.deref_mut.ensures.value c.stamp.ensures.truck c.stamp.ensures.bytes (next_is_one c.write_point-number.result n refl)
@@ -45,15 +45,15 @@ invariant_of-self g c =
     let number : Some c.stamp.new.truck.number ≡ Some n = ap (λ (t : Haul). Some t.number) c.stamp.ensures.truck ∙ ap Some drawn in
     let lines : c.journal-lines.result.now ≡ s.lines ++ x ∷ [] = c.journal-lines.ensures.lines ∙ ap (λ (t : State). t.lines) c.begin_edit-entry.ensures.lines in
     let added : c.index-lines-lines.result ≡ x = c.index-lines-lines.is ∙ ap (λ (l : List Line). get_or l (length l - 1) c.index-lines-lines.result) lines ∙ last_is s.lines x c.index-lines-lines.result in
-    let p = part_begun _ s.region s.base s.lines _ _ _ c.self.inside.pass c.push.new.pass (h - 1) c.args.hand.now.record x _ i.0 c.in-Ok.ensures.pushed c.push.ensures.same.1 c.meet.ensures.met (c.requires.caller.0 ∙ sym k) refl
+    let p = part_begun _ s.region s.base s.lines _ _ _ c.self.inside.pass c.append.new.pass (h - 1) c.args.hand.now.record x _ i.0 c.in-Ok.ensures.pushed c.append.ensures.same.1 c.meet.ensures.met (c.requires.caller.0 ∙ sym k) refl
     (held, tt) number in
     rw (c.begin_edit-entry.ensures.lines, c.add.ensures.desk, c.add.ensures.hand, added, c.meet.ensures.same.0, c.meet.ensures.same.1, c.meet.ensures.still.0) (
       p,
       record {
         desk = c.add.ensures.still.2 ∙ c.meet.ensures.still.2 ∙ i.1.desk;
         spent = i.1.spent;
-        ring = c.push.ensures.same.0 ∙ i.1.ring;
-        region = c.push.ensures.same.1 ∙ i.1.region;
+        ring = c.append.ensures.same.0 ∙ i.1.ring;
+        region = c.append.ensures.same.1 ∙ i.1.region;
         known = i.1.known;
         hands = length_set c.self.inside.desk.records (h - 1) (with_value c.args.hand.now.record x) ∙ i.1.hands;
       },
@@ -81,11 +81,10 @@ returns-in-Ok-clause-begun g c =
     let below = own_upto s.region s.base.last (c.args.hand.now.number - 1) c.self.inside.desk.records s.lines c.args.hand.now.record (follows_front s.region s.base.last s.lines (x ∷ []) all) i.0.own c.meet.ensures.met in
     rw (← c.self.view_is) (drew, ap (λ (t : State). record { state = t; mark = c.self.inside.mark }) now, hand, (λ y is. below_same y.number (write_point s + 1) e (below y is) drew))
 
-pub returns-in-Err-Append-clause-begun : goal.returns-in-Err-Append-clause-begun
-returns-in-Err-Append-clause-begun g c =
+pub returns-in-Err-clause-begun : goal.returns-in-Err-clause-begun
+returns-in-Err-clause-begun g c =
     let limit : write_point c.self.inside.state + 1 < 2 ^ 48 = subst (λ (p : Part). write_point p.state + 1 < 2 ^ 48) (sym c.self.view_is) c.requires.number in
-    let is : c.in-Err-Append.field-0.item ≡ items.Append c.in-Err-Append.truck = search in
-    let job = came_back c.args.self.now.state.region (c.write_point-number.result + 1) c.args.job c.deref_mut.result.now c.stamp.new.truck c.in-Err-Append.truck _ (sym is ∙ c.in-Err-Append.ensures.pushed.0) refl
+    let job = came_back c.args.self.now.state.region (c.write_point-number.result + 1) c.args.job c.deref_mut.result.now c.stamp.new.truck c.in-Err.truck _ c.in-Err.ensures.pushed.0 refl
     c.requires.job c.deref_mut.ensures.value c.stamp.ensures.truck c.stamp.ensures.bytes (next_is_one c.write_point-number.result (c.write_point-number.result + 1) refl)
     (next_within c.write_point-number.result (write_point c.self.inside.state) (c.write_point-number.result + 1) refl (sym c.write_point-number.ensures.point) limit) in
     (c.self.view_is, search, (job, refl))
