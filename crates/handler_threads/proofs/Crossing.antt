@@ -77,7 +77,10 @@ module _ (N : RattleType) (g : LockGhosts N.Denot) (v : VersionGhosts N.Denot) w
   region_pass_send n =
       declared_send (region_pass.the_type N g v) (
         search (hand.the_send, sendable, crosses) fits 5000 depth 30,
-        (search (hand.the_send, sendable, crosses) fits 5000 depth 30, (viewer_send N N v n, tt)),
+        (
+          search (hand.the_send, sendable, crosses) fits 5000 depth 30,
+          (viewer_send N N v n, (search (as_row_send, sendable, crosses) fits 5000 depth 30, tt)),
+        ),
       )
 
 seat_sync : (S V : RattleType) → IsSend S → IsSync (table_seat.the_row S V)

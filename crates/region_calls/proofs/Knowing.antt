@@ -3,6 +3,7 @@ use Rattle.std.proofs.Common.{◌≡◌, ◌≢◌, inl, inr, ℕ, zero, suc, �
 use Rattle.pass_calls.proofs.region_lock_laws.Lists.{get_set, length_set}
 use Rattle.log_berth.specs.Words.{NoMore}
 use Rattle.pass_calls.specs.log_service.declared.seats.LogSeat.{LogSeat}
+use Rattle.pass_calls.specs.log_service.declared.tally.PutTally.{PutTally}
 use Rattle.region_model.specs.Journal.{Edit}
 use Rattle.region_model.specs.Lines.{Line, edit_in, edits_in}
 use Rattle.server_model.specs.Pass.{Known, IsLaterOf, IsQuiet}
@@ -11,7 +12,7 @@ use Rattle.pass_calls.specs.region_lock.declared.pass.RegionPass.{RegionPass}
 use Rattle.pass_calls.specs.region_lock.declared.naming.LockNaming.{Ghosts}
 use Rattle.pass_calls.specs.region_lock.Parts.{AreCalledBelow}
 use Rattle.pass_calls.specs.region_lock.Passes.{known_of}
-use Rattle.region_calls.specs.Passes.{known_at, known_in, IsHandOf, AreHandsOf}
+use Rattle.region_calls.specs.Passes.{known_at, known_in, tally_at, tally_in, IsHandOf, AreHandsOf}
 
 get_other : {A : Type 0} → (xs : List A) (k j : ℕ) (y : A) → j ≢ k → slice_get (set xs k y) j ≡ slice_get xs j
 get_other [] k j y ne = refl
@@ -57,6 +58,12 @@ module _ {N : Type 0} {g : Ghosts N} where
 
   pub known_here : (ps : List (RegionPass N g)) (k : ℕ) (p : RegionPass N g) (seat : LogSeat) → k < length ps → known_in (set ps k p) seat (suc k) ≡ known_of (length ps) p seat
   known_here ps k p seat low = λ i. known_at (length_set ps k p i) seat (get_here ps k p low i)
+
+  pub tally_was : (ps : List (RegionPass N g)) (k : ℕ) (p : RegionPass N g) → slice_get ps k ≡ Some p → tally_in ps (suc k) ≡ p.tally
+  tally_was ps k p at = ap tally_at at
+
+  pub tally_here : (ps : List (RegionPass N g)) (k : ℕ) (p : RegionPass N g) → k < length ps → tally_in (set ps k p) (suc k) ≡ p.tally
+  tally_here ps k p low = ap tally_at (get_here ps k p low)
 
   pub hands_set : (h calls more : ℕ) (ps : List (RegionPass N g)) (k : ℕ) (p : RegionPass N g) → AreHandsOf h calls ps → calls ≤ more → IsHandOf h more (k + 1) p → AreHandsOf h more (set ps k p)
   hands_set h calls more ps k p all le one j q at = elim (get_set ps k j p q at) as (λ _. IsHandOf h more (j + 1) q) [

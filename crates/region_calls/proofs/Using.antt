@@ -11,6 +11,7 @@ use Rattle.pass_calls.specs.log_service.log_device.declared.error.Rolled.{Rolled
 use Rattle.pass_calls.specs.log_service.log_device.declared.error.RollRefusal.{RollRefusal}
 use Rattle.pass_calls.specs.log_service.log_device.declared.error.RollRefusal.TheVariants as roll
 use Rattle.pass_calls.specs.log_service.declared.seats.LogSeat.{LogSeat}
+use Rattle.pass_calls.specs.log_service.declared.tally.PutTally.{PutTally}
 use Rattle.pass_calls.specs.log_service.Places.{ServiceId, IsSeatOf, IsLaterSeat}
 use Rattle.region_model.specs.Calls.{Answer, Raw, is_put, is_scan, is_flush, is_roll}
 use Rattle.region_model.specs.Journal.{Base, Caller, last_of}
@@ -28,11 +29,12 @@ use Rattle.pass_calls.specs.region_lock.Answers.{put_answer, scan_answer, flush_
 use Rattle.pass_calls.specs.region_lock.Calls.{PutsAt, ScansAt, FlushesAt, RollsAt}
 use Rattle.pass_calls.specs.region_lock.Parts.{AreCalledBelow}
 use Rattle.pass_calls.specs.region_lock.Passes.{IsAtService, known_of, SamePass}
+use Rattle.pass_calls.specs.region_lock.Puts.{AsksLog, WatchesFault}
 use Rattle.pass_calls.proofs.region_lock_laws.Knowns.{last_same}
 use Rattle.pass_calls.proofs.region_lock_laws.Lifts.{rolls_from}
 use Rattle.region_calls.specs.Answers.{point_seen, begun_answer}
-use Rattle.region_calls.specs.Passes.{known_at, known_in, pass_of, IsHandOf, AreHandsOf}
-use Rattle.region_calls.proofs.Knowing.{all_later, known_here, below_more, called_more}
+use Rattle.region_calls.specs.Passes.{known_at, known_in, tally_in, pass_of, IsHandOf, AreHandsOf}
+use Rattle.region_calls.proofs.Knowing.{all_later, known_here, tally_was, tally_here, below_more, called_more}
 use Rattle.region_calls.proofs.Calling.{puts_all, scans_all, flushes_all}
 
 pub put_is : (x : Result ℕ PutRefusal) → IsTrue (is_put (put_answer x))
@@ -174,3 +176,20 @@ module _ {N : Type 0} {g : Ghosts N} where
       let next : last_of (bases p.viewer.region).last (edits_in p'.viewer.region lines) ≡ point_seen name (suc k) (pass_of h calls (set ps k p') seat) =
       (λ i. last_of (sym named i (u.region i)).last (sym here i).shown) in
       first ∙ next ∙ ap (λ (s : ℕ). point_seen name s (pass_of h calls (set ps k p') seat)) u.next
+
+module _ {N : Type 0} {g : Ghosts N} where
+  -- what is counted of a put, by the number of the region
+  pub asks_used : (h calls r k : ℕ) (sync : Bool) (result : Result ℕ PutRefusal) (ps : List (RegionPass N g)) (p p' : RegionPass N g) (broken : Bool) → IsUsed h calls r k ps p
+      → AsksLog sync p.viewer.region result p.tally.asked p'.tally.asked broken → AsksLog sync r result (tally_in ps r).asked (tally_in (set ps k p') r).asked broken
+  asks_used h calls r k sync result ps p p' broken u asks =
+      let here = subst (λ (n : ℕ). AsksLog sync n result p.tally.asked p'.tally.asked broken) u.region asks in
+      let old = subst (λ (t : PutTally). AsksLog sync (suc k) result t.asked p'.tally.asked broken) (sym (tally_was ps k p u.at)) here in
+      let both = subst (λ (t : PutTally). AsksLog sync (suc k) result (tally_in ps (suc k)).asked t.asked broken) (sym (tally_here ps k p' u.low)) old in
+      subst (λ (n : ℕ). AsksLog sync n result (tally_in ps n).asked (tally_in (set ps k p') n).asked broken) u.next both
+
+  pub watches_used : (h calls r k : ℕ) (result : Result ℕ PutRefusal) (ps : List (RegionPass N g)) (p p' : RegionPass N g) → IsUsed h calls r k ps p
+      → WatchesFault result p.tally.watch p'.tally.watch → WatchesFault result (tally_in ps r).watch (tally_in (set ps k p') r).watch
+  watches_used h calls r k result ps p p' u watches =
+      let old = subst (λ (t : PutTally). WatchesFault result t.watch p'.tally.watch) (sym (tally_was ps k p u.at)) watches in
+      let both = subst (λ (t : PutTally). WatchesFault result (tally_in ps (suc k)).watch t.watch) (sym (tally_here ps k p' u.low)) old in
+      subst (λ (n : ℕ). WatchesFault result (tally_in ps n).watch (tally_in (set ps k p') n).watch) u.next both

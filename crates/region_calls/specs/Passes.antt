@@ -2,7 +2,9 @@
 use Rattle.std.specs.Prelude.{◌≡◌, ℕ, zero, suc, ◌+◌, List, [], length, Option, Some, None, slice_get}
 use Rattle.hand_register.specs.Rule.{empty}
 use Rattle.pass_calls.specs.log_service.declared.seats.LogSeat.{LogSeat}
+use Rattle.pass_calls.specs.log_service.declared.tally.PutTally.{PutTally}
 use Rattle.pass_calls.specs.log_service.Places.{ServiceId, IsSeatOf}
+use Rattle.pass_calls.specs.log_service.Tallies.{no_tally}
 use Rattle.server_model.specs.Pass.{Known, Pass as ThePass}
 use Rattle.pass_calls.specs.region_lock.declared.pass.RegionPass.{RegionPass}
 use Rattle.pass_calls.specs.region_lock.declared.naming.LockNaming.{Ghosts}
@@ -28,6 +30,19 @@ module _ {N : Type 0} {g : Ghosts N} where
 
   abbrev pub knows : Pass N g → ThePass
   knows p = pass_of p.handler p.calls p.regions.items p.seat
+
+  abbrev pub tally_at : Option (RegionPass N g) → PutTally
+  tally_at None = no_tally
+  tally_at (Some p) = p.tally
+
+  -- what is counted of the puts into each region, from 1 on
+  abbrev pub tally_in : List (RegionPass N g) → ℕ → PutTally
+  tally_in ps zero = no_tally
+  tally_in ps (suc k) = tally_at (slice_get ps k)
+
+  -- what a pass counts of its puts into region r
+  abbrev pub tally_of : ℕ → Pass N g → PutTally
+  tally_of r p = tally_in p.regions.items r
 
   -- a handler's hands of this region, between calls: no flush of it is marked, and no call is above its last one
   pub record IsHandOf (handler calls r : ℕ) (p : RegionPass N g) : Type 0 where

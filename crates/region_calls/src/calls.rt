@@ -6,12 +6,12 @@ ghost use Rattle.pass_calls.specs.log_service.Places.{IsSeatOf, IsLaterSeat, wri
 ghost use Rattle.server_model.specs.Pass.{IsLater};
 ghost use Rattle.region_model.specs.Calls.{Raw};
 ghost use Rattle.server_model.specs.Steps.{IsQuietPass, Puts, Scans, Flushes, Rolls};
-ghost use Rattle.pass_calls.specs.region_lock.Puts.{IsFaultExact};
+ghost use Rattle.pass_calls.specs.region_lock.Puts.{AsksLog, IsFaultExact, WatchesFault};
 ghost use Rattle.pass_calls.specs.region_lock.Logged.{FlushesLog};
 ghost use Rattle.pass_calls.specs.log_service.Turns.{HasRolledFile};
 ghost use Rattle.pass_calls.specs.log_service.Counts.{flushed_by, rolled_by};
 ghost use Rattle.region_calls.specs.Answers.{is_sync, put_answer, scan_answer, begun_answer, point_seen, flush_answer, roll_answer};
-ghost use Rattle.region_calls.specs.Passes.{knows, IsPassOf};
+ghost use Rattle.region_calls.specs.Passes.{knows, tally_of, IsPassOf};
 
 use crate::naming::ServerNaming;
 use crate::pass::Pass;
@@ -72,6 +72,11 @@ impl<
         ensures puts { Puts N.name time region (is_sync durability) batch (record { handler = (knows pass.old).handler; call = call })
             (put_answer result) (knows pass.old) (knows pass.new) }
         ensures exact { IsFaultExact (is_sync durability) region result pass.old.seat.device.knows pass.new.seat.device.knows }
+        // Where durability was asked for it has pushed one sync request up to its number, or has seen the fault word set.
+        ensures asked { AsksLog (is_sync durability) region result (tally_of region pass.old).asked (tally_of region pass.new).asked
+            pass.new.seat.device.knows.broken }
+        // It looks at the fault word at its start and once after each try that found the ring full.
+        ensures watched { WatchesFault result (tally_of region pass.old).watch (tally_of region pass.new).watch }
         ensures of { IsPassOf self.now pass.new }
     {
         let caller = Caller {

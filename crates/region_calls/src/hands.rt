@@ -5,6 +5,7 @@ ghost use Rattle.region_calls.specs.Hands.{deal_of};
 ghost use Rattle.region_calls.specs.Passes.{IsNewHand};
 
 use hand_register::HandList;
+use pass_calls::log_service::PutTally;
 use pass_calls::region_lock::RegionPass;
 use region_state::Line;
 use region_versions::ViewerList;
@@ -53,6 +54,11 @@ impl<N: pass_calls::region_lock::LockNaming + region_versions::VersionsNaming> R
         };
         self.next += 1;
         self.left -= 1;
-        RegionPass { hand, told, viewer }
+        RegionPass {
+            hand,
+            told,
+            viewer,
+            tally: PutTally::none(),
+        }
     }
 }

@@ -6,7 +6,7 @@ ghost use Rattle.pass_calls.specs.region_lock.Answers.{is_sync, put_answer};
 ghost use Rattle.pass_calls.specs.region_lock.Calls.{PutsAt};
 ghost use Rattle.pass_calls.specs.region_lock.Parts.{AreCalledBelow};
 ghost use Rattle.pass_calls.specs.region_lock.Passes.{IsAtService, SamePass, known_of};
-ghost use Rattle.pass_calls.specs.region_lock.Puts.{IsFaultExact};
+ghost use Rattle.pass_calls.specs.region_lock.Puts.{AsksLog, IsFaultExact, WatchesFault};
 
 use disk_images::Disk;
 use kv_cell::{Batch, Durability, NoMemory};
@@ -49,6 +49,8 @@ pub(crate) fn put_at<
     ensures seat { IsSeatOf service.now seat.new }
     ensures later { IsLaterSeat seat.old seat.new }
     ensures exact { IsFaultExact (is_sync durability) at.old.viewer.region result seat.old.device.knows seat.new.device.knows }
+    ensures asked { AsksLog (is_sync durability) at.old.viewer.region result at.old.tally.asked at.new.tally.asked seat.new.device.knows.broken }
+    ensures watched { WatchesFault result at.old.tally.watch at.new.tally.watch }
 {
     let region = at.region();
     match prepare(alloc, region, caller, time, batch) {

@@ -1,4 +1,4 @@
-use Rattle.std.proofs.Common.{◌≡◌, ℕ, Bool, ap, sym, subst}
+use Rattle.std.proofs.Common.{◌≡◌, inl, inr, ℕ, Bool, refl, ap, sym, subst}
 use Rattle.region_model.specs.Calls.{Answer}
 use Rattle.region_model.specs.Journal.{Base, Caller}
 use Rattle.region_model.specs.Lines.{Line, pending}
@@ -8,6 +8,7 @@ use Rattle.pass_calls.specs.region_lock.Jobs.{line_of}
 use Rattle.pass_calls.specs.region_lock.Parts.{AreCalledBelow}
 use Rattle.pass_calls.specs.region_lock.Passes.{known_of}
 use Rattle.server_model.specs.Pass.{Known}
+use Rattle.pass_calls.proofs.WatchLaws.{asks_none}
 use Rattle.region_calls.proofs.putting.put_at.Goals as goal
 
 caller_of : (a b : Line) → a ≡ b → a.caller ≡ b.caller
@@ -30,3 +31,12 @@ returns-in-Ok-clause-puts g c =
     let seat = c.args.seat.now in
     puts_of (g.N.VersionsNaming.region_base at.viewer.region) at.viewer.region (is_sync c.args.durability) (put_answer c.put_in.result) (known_of n at seat) (known_of n c.put_in.new.at c.put_in.new.seat)
     seat.device.knows.broken c.put_in.new.seat.device.knows.broken (line_of 0 c.in-Ok.job) (pending 0 c.args.caller c.args.time c.args.batch) (c.in-Ok.ensures.of 0) c.put_in.ensures.puts
+
+pub returns-in-Ok-clause-watched : goal.returns-in-Ok-clause-watched
+returns-in-Ok-clause-watched g c = inr c.put_in.ensures.watched
+
+pub returns-in-Err-clause-asked : goal.returns-in-Err-clause-asked
+returns-in-Err-clause-asked g c = asks_none (is_sync c.args.durability) _ _ _ _ _ refl refl
+
+pub returns-in-Err-clause-watched : goal.returns-in-Err-clause-watched
+returns-in-Err-clause-watched g c = inl (refl, refl)

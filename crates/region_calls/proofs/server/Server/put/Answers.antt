@@ -5,7 +5,7 @@ use Rattle.pass_calls.specs.region_lock.Puts.{IsFaultExact}
 use Rattle.pass_calls.proofs.region_lock_laws.Lists.{length_set}
 use Rattle.region_calls.proofs.Knowing.{below_more, hands_set}
 use Rattle.region_calls.proofs.Calling.{put_hand}
-use Rattle.region_calls.proofs.Using.{put_is, used, puts_used, at_service}
+use Rattle.region_calls.proofs.Using.{put_is, used, puts_used, asks_used, watches_used, at_service}
 use Rattle.region_calls.proofs.server.Server.put.Goals as goal
 
 pub put_at-answer-requires-clause-caller : goal.put_at-answer-requires-clause-caller
@@ -35,6 +35,24 @@ returns-clause-exact g c =
     let k = c.place_of-place.result in
     let u = used pass.handler pass.calls c.args.self.now.regions c.args.region k pass.regions.items p c.requires.of.count c.place_of-place.ensures.place c.requires.region.0 c.place_of-place.ensures.few c.requires.of.hands c.index_mut.ensures.value in
     subst (λ (r : ℕ). IsFaultExact (is_sync c.args.durability) r done.result pass.seat.device.knows done.new.seat.device.knows) (u.region ∙ u.next) done.ensures.exact
+
+pub returns-clause-asked : goal.returns-clause-asked
+returns-clause-asked g c =
+    let pass = c.args.pass.now in
+    let p = c.index_mut.result.now in
+    let done = c.put_at-answer in
+    let k = c.place_of-place.result in
+    let u = used pass.handler pass.calls c.args.self.now.regions c.args.region k pass.regions.items p c.requires.of.count c.place_of-place.ensures.place c.requires.region.0 c.place_of-place.ensures.few c.requires.of.hands c.index_mut.ensures.value in
+    asks_used pass.handler pass.calls c.args.region k (is_sync c.args.durability) done.result pass.regions.items p done.new.at done.new.seat.device.knows.broken u done.ensures.asked
+
+pub returns-clause-watched : goal.returns-clause-watched
+returns-clause-watched g c =
+    let pass = c.args.pass.now in
+    let p = c.index_mut.result.now in
+    let done = c.put_at-answer in
+    let k = c.place_of-place.result in
+    let u = used pass.handler pass.calls c.args.self.now.regions c.args.region k pass.regions.items p c.requires.of.count c.place_of-place.ensures.place c.requires.region.0 c.place_of-place.ensures.few c.requires.of.hands c.index_mut.ensures.value in
+    watches_used pass.handler pass.calls c.args.region k done.result pass.regions.items p done.new.at u done.ensures.watched
 
 pub returns-clause-of : goal.returns-clause-of
 returns-clause-of g c =
