@@ -7,10 +7,10 @@ use Rattle.region_lock.specs.declared.answers.PutRefusal.TheVariants as put
 use Rattle.region_lock.specs.Puts.{AsksLog, HasLooked}
 
 -- three requests were pushed, the last of region 1 up to 7; and the ring was found full twice, with five looks, the last of which found the word clear
-asked : Asked
+abbrev asked : Asked
 asked = record { requests = 3; region = 1; number = 7 }
 
-watch : Watch
+abbrev watch : Watch
 watch = record { full = 2; looks = 5; broken = false }
 
 unasked_at : (n : ℕ) → n ≡ 3 → n ≡ 4 → ⊥
@@ -51,8 +51,11 @@ look_left_out : HasLooked (Ok 8) watch (watched false (found_full watch)) → �
 look_left_out h = look_left_out_at h.count h.each.full h.each.looked
 
 -- one that never looked
+never_looked_at : (k : ℕ) → 5 ≡ risen (suc k) 5 → ⊥
+never_looked_at k looks = let low = least k 5 (omega arith) in omega (arith, low, looks)
+
 never_looked : HasLooked (Ok 8) watch watch → ⊥
-never_looked h = let low = least h.count 5 (omega arith) in let looked = h.each.looked in omega (arith, low, looked)
+never_looked h = never_looked_at h.count h.each.looked
 
 -- a fault told where the look found the word clear, and a number drawn where it found the word set
 told_unseen : HasLooked (Err (put.WriteFault None)) watch (watched false watch) → ⊥

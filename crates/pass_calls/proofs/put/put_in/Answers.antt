@@ -113,14 +113,14 @@ returns-then-watch-clause-watched g c =
 pub returns-in_err-entry-clause-asked : goal.returns-in_err-entry-clause-asked
 returns-in_err-entry-clause-asked g c =
     asks_none (is_sync c.args.durability) _ c.from_residual.result _ _ _
-    (handed_on (λ (x : Result ℕ PutRefusal). number_of (put_answer x) ≡ None) c.from_residual.result c.in_err-entry.field-0 c.from_residual.ensures.1 (none_drawn (last_in (g.N.VersionsNaming.region_base c.args.at.now.viewer.region) c.args.at.now.viewer.lines) c.args.job c.args.at.now.hand.record.list c.draw.new.at.hand.record.list c.args.at.now.told.record.list c.draw.new.at.told.record.list c.draw.new.seat.device.knows.broken c.in_err-entry.field-0 c.in_err-entry.ensures.drawn))
+    (handed_on (λ (x : Result ℕ PutRefusal). number_of (put_answer x) ≡ None) c.from_residual.result c.in_err-entry.field-0.0 c.from_residual.ensures.1 (none_drawn (last_in (g.N.VersionsNaming.region_base c.args.at.now.viewer.region) c.args.at.now.viewer.lines) c.args.job c.args.at.now.hand.record.list c.draw.new.at.hand.record.list c.args.at.now.told.record.list c.draw.new.at.told.record.list c.draw.new.seat.device.knows.broken c.in_err-entry.field-0.0 c.in_err-entry.ensures.drawn))
     c.draw.ensures.unasked
 
 pub returns-in_err-entry-clause-watched : goal.returns-in_err-entry-clause-watched
 returns-in_err-entry-clause-watched g c =
     let mid = c.watch.ensures.counted ∙ ap (λ (b : Bool). watched b c.args.at.now.tally.watch) c.if-watch.false in
-    handed_on (λ (x : Result ℕ PutRefusal). HasLooked x c.args.at.now.tally.watch c.draw.new.at.tally.watch) c.from_residual.result c.in_err-entry.field-0 c.from_residual.ensures.1
-    (refused_looked (last_in (g.N.VersionsNaming.region_base c.args.at.now.viewer.region) c.args.at.now.viewer.lines) c.args.job c.args.at.now.hand.record.list c.draw.new.at.hand.record.list c.args.at.now.told.record.list c.draw.new.at.told.record.list c.draw.new.seat.device.knows.broken c.in_err-entry.field-0 c.args.at.now.tally.watch c.watch.new.watch c.draw.new.at.tally.watch mid c.in_err-entry.ensures.drawn c.in_err-entry.ensures.watched)
+    handed_on (λ (x : Result ℕ PutRefusal). HasLooked x c.args.at.now.tally.watch c.draw.new.at.tally.watch) c.from_residual.result c.in_err-entry.field-0.0 c.from_residual.ensures.1
+    (refused_looked (last_in (g.N.VersionsNaming.region_base c.args.at.now.viewer.region) c.args.at.now.viewer.lines) c.args.job c.args.at.now.hand.record.list c.draw.new.at.hand.record.list c.args.at.now.told.record.list c.draw.new.at.told.record.list c.draw.new.seat.device.knows.broken c.in_err-entry.field-0.0 c.args.at.now.tally.watch c.watch.new.watch c.draw.new.at.tally.watch mid c.in_err-entry.ensures.drawn c.in_err-entry.ensures.watched)
 
 pub returns-then-not-await_log-clause-asked : goal.returns-then-not-await_log-clause-asked
 returns-then-not-await_log-clause-asked g c =
