@@ -1,6 +1,6 @@
 -- What the command printed, and how it ends.
 use Rattle.std.specs.Fmt.{digits}
-use Rattle.std.proofs.Common.{codes, Bool, false, drop, length, IsTrue, ◌≡◌, ◌≢◌, ◌⊎◌, ◌≤◌, ℕ, List, [], ◌∷◌, ◌++◌, Some, None, Result, Ok, Err, IfOk, OnOk, inl, inr, refl, sym, ap, subst, ◌∙◌, arith}
+use Rattle.std.proofs.Common.{codes, Bool, false, IsTrue, ◌≡◌, ◌≢◌, ◌⊎◌, ◌≤◌, ℕ, List, [], ◌∷◌, ◌++◌, Some, None, Result, Ok, Err, IfOk, OnOk, inl, inr, refl, sym, ap, subst, ◌∙◌, arith}
 use Rattle.std.proofs.lemmas.List.{append_assoc, append-nil}
 use Rattle.log_model.specs.declared.damage.Damage.{Damage}
 use Rattle.log_model.specs.declared.damage.Damage.TheVariants.{Bytes, Two}
@@ -17,7 +17,7 @@ use Rattle.cell_model.specs.Lists.{IsPrefix}
 use Rattle.ship_queue.specs.Messages.{Message}
 use Rattle.ship_queue.specs.Refusals.{IsOrFailure}
 use Rattle.ship_queue.specs.Shipping.{ShipsBeginning, ShipsUpTo, ShipsAll, AreTexts}
-use Rattle.ship_command.specs.Sinks.{message_text, HasWritten, IsCutIn, IsTorn}
+use Rattle.ship_command.specs.Sinks.{message_text, HasWritten, IsTorn}
 use Rattle.script_model.specs.Report.{end_line}
 use Rattle.ship_queue.specs.declared.error.Shipped.{Shipped}
 use Rattle.ship_queue.specs.declared.error.ShipRefusal.{ShipRefusal}
@@ -28,7 +28,7 @@ use Rattle.command_base.specs.Status.{refusal_line, IsDamageOf, IsNoPositionOf, 
 use Rattle.command_base.specs.declared.status.Status.{Status}
 use Rattle.command_base.specs.declared.status.Status.TheVariants as ends
 use Rattle.command_base.proofs.Endings.{taken_front}
-use Rattle.ship_command.specs.Shipped.{messages_text, EndsShip, PrintsAll, PrintsCut, IsShipDamage, IsShipEnd, IsStopOf}
+use Rattle.ship_command.specs.Shipped.{messages_text, EndsShip, IsShipDamage, IsShipEnd, IsStopOf}
 use Rattle.ship_command.specs.Refusals.{HasPrinted, HasCut, refused_as}
 use Rattle.ship_command.proofs.Cuts.{cut_here, cut_as, cut_from}
 use Rattle.ship_command.proofs.Written.{texts_of}

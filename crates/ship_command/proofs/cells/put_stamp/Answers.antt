@@ -1,4 +1,4 @@
-use Rattle.std.proofs.Common.{◌≡◌, ℕ, List, [], ◌∷◌, ◌++◌, true, refl, ap, ◌∙◌}
+use Rattle.std.proofs.Common.{ℕ, List, [], ◌∷◌, ◌++◌, true, refl, ap, ◌∙◌}
 use Rattle.std.specs.Fmt.{decimal}
 use Rattle.kv_cell.specs.Kind.{code_of}
 use Rattle.script_model.specs.Report.{kind_name}

@@ -1,4 +1,4 @@
-use Rattle.std.proofs.Common.{◌≡◌, [], ◌++◌, codes, rules, true, refl}
+use Rattle.std.proofs.Common.{◌++◌, codes, rules, true, refl}
 use Rattle.script_model.specs.Text.{printed}
 use Rattle.ship_command.proofs.Cuts.{cut_here, cut_then, cut_as, table_is}
 use Rattle.ship_command.proofs.entries.put_table.Goals as goal

@@ -1,4 +1,4 @@
-use Rattle.std.proofs.Common.{◌≡◌, ◌++◌, ℕ, List, rules, true, refl, ap}
+use Rattle.std.proofs.Common.{◌≡◌, rules, true, refl}
 use Rattle.std.specs.Fmt.{decimal}
 use Rattle.ship_command.proofs.Cuts.{cut_here, cut_then, cut_as}
 use Rattle.ship_command.proofs.held.put_number.Goals as goal

@@ -1,4 +1,4 @@
-use Rattle.std.proofs.Common.{◌∷◌, ◌++◌, [], true, refl, append_assoc}
+use Rattle.std.proofs.Common.{◌∷◌, ◌++◌, true, refl, append_assoc}
 use Rattle.std.specs.Fmt.{decimal}
 use Rattle.ship_command.proofs.Cuts.{cut_here, cut_then, cut_as}
 use Rattle.ship_command.proofs.held.put_numbers.Goals as goal
