@@ -1,2 +1,3 @@
+mod Cuts
 mod Written
 pub mod Ships

@@ -13,10 +13,11 @@ use Rattle.log_tail.specs.Position.{position_of}
 use Rattle.log_tail.specs.Reads.{OnlyReads, IsDamagedAt, IsNoPosition}
 use Rattle.chronicle_model.specs.Chronicle.{Position}
 use Rattle.ship_queue.specs.Course.{LeadsTo}
+use Rattle.cell_model.specs.Lists.{IsPrefix}
 use Rattle.ship_queue.specs.Messages.{Message}
 use Rattle.ship_queue.specs.Refusals.{IsOrFailure}
 use Rattle.ship_queue.specs.Shipping.{ShipsBeginning, ShipsUpTo, ShipsAll, AreTexts}
-use Rattle.ship_command.specs.Sinks.{HasWritten}
+use Rattle.ship_command.specs.Sinks.{message_text, HasWritten, IsTorn}
 use Rattle.script_model.specs.Report.{end_line}
 use Rattle.ship_queue.specs.declared.error.Shipped.{Shipped}
 use Rattle.ship_queue.specs.declared.error.ShipRefusal.{ShipRefusal}
@@ -28,7 +29,9 @@ use Rattle.command_base.specs.declared.status.Status.{Status}
 use Rattle.command_base.specs.declared.status.Status.TheVariants as ends
 use Rattle.command_base.proofs.Endings.{taken_front}
 use Rattle.ship_command.specs.Shipped.{messages_text, EndsShip, IsShipDamage, IsShipEnd, IsStopOf}
-use Rattle.ship_command.specs.Refusals.{HasPrinted, refused_as}
+use Rattle.ship_command.specs.Refusals.{HasPrinted, HasCut, refused_as}
+use Rattle.ship_command.proofs.Cuts.{cut_here, cut_as, cut_from}
+use Rattle.ship_command.proofs.Written.{texts_of}
 
 -- ---- the disk
 
@@ -91,11 +94,26 @@ none_written files p had = record {
   why = stopped files p (Err ships.Memory) (λ name at is. absurd cc) (λ file has is. absurd cc);
 }
 
+-- the sink failed within one message
+pub torn : (files : Files) (p : Position) (told : Bool) (had before now : List ℕ) → before ≡ had
+    → ((more : List Message) × (m : Message) × (rest : List Message) × IsTorn told before now more m × ShipsBeginning files p (more ++ m ∷ rest)) → HasCut files p had now
+torn files p told had before now same s = record {
+  messages = s.0 ++ s.1 ∷ s.2;
+  records = s.4;
+  cut = cut_from same (cut_as (append_assoc (messages_text s.0) _ (messages_text s.2) ∙ sym (texts_of s.0 (s.1 ∷ s.2))) (cut_here (messages_text s.0 ++ message_text s.1) (messages_text s.2) s.3.cut));
+}
+
 -- ---- what was printed
 
 -- behind what was shipped stands what was printed then
 behind_it : (had mid has shipped front : List ℕ) → mid ≡ had ++ shipped → has ≡ mid ++ front → taken_of had has ≡ shipped ++ front
 behind_it had mid has shipped front first then = taken_front had has (shipped ++ front) (then ∙ ap (λ (l : List ℕ). l ++ front) first ∙ append_assoc had shipped front)
+
+-- what begins all that it has and a text has taken a beginning of the text
+begun_of : (had has text rest : List ℕ) → had ++ text ≡ has ++ rest → IsPrefix (taken_of had has) text
+begun_of [] has text rest is = (rest, is)
+begun_of (h ∷ hs) [] text rest is = (text, refl)
+begun_of (h ∷ hs) (k ∷ ks) text rest is = begun_of hs ks text rest (cc is)
 
 end_bytes : end_line 0 ≡ codes "end 0\n"
 unfolding end_line digits
@@ -112,6 +130,17 @@ done_sink status done sink = let no : ends.Done ≡ ends.SinkFault = sym done �
 pub whole_ends : (x : Shipped) (p : Position) (status : Status) (script had mid has : List ℕ) (v w : DiskView) (sank : Type 0) → (status ≡ ends.Done) ⊎ (status ≡ ends.SinkFault)
     → HasPrinted v.files p had mid (Ok x) → Prints mid has (codes "end 0\n") (status ≡ ends.SinkFault) → EndsShip p status (invocation script v w had has) sank
 whole_ends x p status script had mid has v w sank either written printed = record {
+  cut = λ failed.
+      let text : List ℕ = messages_text written.messages ++ end_line 0 in
+      let taken : taken_of had has ≡ messages_text written.messages ++ printed.front = behind_it had mid has (messages_text written.messages) printed.front written.is printed.is in (
+        text,
+        (
+          printed.begins.0,
+          ap (λ (l : List ℕ). messages_text written.messages ++ l) (end_bytes ∙ printed.begins.1) ∙ sym (append_assoc (messages_text written.messages) printed.front printed.begins.0)
+              ∙ ap (λ (l : List ℕ). l ++ printed.begins.0) (sym taken),
+        ),
+        inr (record { messages = written.messages; is = refl; records = written.records; last = written.stop; all = written.all.0; leads = written.leads; texts = written.all.1 }),
+      );
   done = λ done. record {
     messages = written.messages;
     is = behind_it had mid has (messages_text written.messages) printed.front written.is printed.is
@@ -137,14 +166,25 @@ never_done (ships.Damaged name at) e = absurd cc
 never_done (ships.NoPosition file has) e = absurd cc
 never_done ships.PeerFault e = absurd cc
 
+pub sink_refused : (refusal : ShipRefusal) → refused_as refusal ≡ ends.SinkFault → refusal ≡ ships.PeerFault
+sink_refused ships.Memory e = absurd cc
+sink_refused ships.DiskFault e = absurd cc
+sink_refused (ships.Damaged name at) e = absurd cc
+sink_refused (ships.NoPosition file has) e = absurd cc
+sink_refused ships.PeerFault e = refl
+
 has_line : (refusal : ShipRefusal) (line : List ℕ) → refusal_line (refused_as refusal) ≡ Some line → refusal ≢ ships.PeerFault
 has_line refusal line told is = let no : None ≡ Some line = sym (ap (λ (r : ShipRefusal). refusal_line (refused_as r)) is) ∙ told in absurd cc
 
 -- what stands in front of it was shipped, and the line printed that refuses
 pub refused_ends : (refusal : ShipRefusal) (p : Position) (status : Status) (script had mid has : List ℕ) (v w : DiskView) (cut sank : Type 0) → status ≡ refused_as refusal
     → (refusal ≢ ships.PeerFault → HasPrinted {T = Shipped} v.files p had mid (Err refusal)) → (cut → sank)
-    → ((line : List ℕ) → refusal_line (refused_as refusal) ≡ Some line → Prints mid has line cut) → EndsShip p status (invocation script v w had has) sank
-refused_ends refusal p status script had mid has v w cut sank is wrote then prints = record {
+    → ((line : List ℕ) → refusal_line (refused_as refusal) ≡ Some line → Prints mid has line cut) → (refusal ≡ ships.PeerFault → HasCut v.files p had has)
+    → EndsShip p status (invocation script v w had has) sank
+refused_ends refusal p status script had mid has v w cut sank is wrote then prints tore = record {
+  cut = λ failed.
+      let t = tore (sink_refused refusal (sym is ∙ failed)) in
+      (messages_text t.messages, begun_of had has (messages_text t.messages) t.cut.rest t.cut.is, inl (record { messages = t.messages; is = refl; records = t.records }));
   done = λ done. absurd (never_done refusal (sym is ∙ done));
   refused = λ line told.
       let told_so : refusal_line (refused_as refusal) ≡ Some line = sym (ap refusal_line is) ∙ told in
@@ -190,13 +230,6 @@ disk_refused ships.DiskFault e = refl
 disk_refused (ships.Damaged name at) e = absurd cc
 disk_refused (ships.NoPosition file has) e = absurd cc
 disk_refused ships.PeerFault e = absurd cc
-
-pub sink_refused : (refusal : ShipRefusal) → refused_as refusal ≡ ends.SinkFault → refusal ≡ ships.PeerFault
-sink_refused ships.Memory e = absurd cc
-sink_refused ships.DiskFault e = absurd cc
-sink_refused (ships.Damaged name at) e = absurd cc
-sink_refused (ships.NoPosition file has) e = absurd cc
-sink_refused ships.PeerFault e = refl
 
 -- ---- refusals that must come
 

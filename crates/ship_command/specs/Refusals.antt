@@ -10,6 +10,7 @@ use Rattle.ship_queue.specs.Messages.{Message}
 use Rattle.ship_queue.specs.Shipping.{ShipsBeginning, ShipsUpTo, ShipsAll, AreTexts}
 use Rattle.command_base.specs.declared.status.Status.{Status}
 use Rattle.command_base.specs.declared.status.Status.TheVariants as ends
+use Rattle.ship_command.specs.Sinks.{IsCutIn}
 use Rattle.ship_command.specs.Shipped.{messages_text, IsStopOf}
 
 abbrev pub refused_as : ShipRefusal → Status
@@ -30,3 +31,9 @@ pub record HasPrinted {T : Type 0} (files : Files) (p : Position) (before now : 
   pub shipped : ShipsUpTo files p messages stop
   pub all : OnOk result (ShipsAll files p messages stop × AreTexts files p.file)
   pub why : (refusal : ShipRefusal) → result ≡ Err refusal → IsStopOf (refused_as refusal) files stop
+
+-- The sink failed: behind what it had, it has a beginning of entries and records.
+pub record HasCut (files : Files) (p : Position) (before now : List ℕ) : Type 0 where
+  pub messages : List Message
+  pub records : ShipsBeginning files p messages
+  pub cut : IsCutIn now before (messages_text messages)

@@ -1,6 +1,7 @@
 -- The command that ships what stands behind a position in a store's logs.
-use Rattle.std.specs.Prelude.{◌≡◌, ℕ, List, ◌++◌, Some}
+use Rattle.std.specs.Prelude.{◌≡◌, ◌⊎◌, ℕ, List, ◌++◌, Some}
 use Rattle.std.specs.List.{flat_map}
+use Rattle.cell_model.specs.Lists.{IsPrefix}
 use Rattle.log_model.specs.declared.damage.Damage.{Damage}
 use Rattle.log_model.specs.declared.damage.Damage.TheVariants.{Bytes, Two}
 use Rattle.log_model.specs.Files.{Files}
@@ -64,10 +65,21 @@ pub record PrintsUpTo (files : Files) (p : Position) (status : Status) (line : L
   pub shipped : ShipsUpTo files p messages stop
   pub refused : IsRefused line sank rest
 
+-- Entries behind the position, in order, with such records: all of them, or a beginning.
+pub record PrintsBeginning (files : Files) (p : Position) (text : List ℕ) : Type 0 where
+  pub messages : List Message
+  pub is : text ≡ messages_text messages
+  pub records : ShipsBeginning files p messages
+
+-- What the sink took begins those, or all that is printed with the last line.
+abbrev pub PrintsCut : Files → Position → List ℕ → Type 0
+PrintsCut files p taken = (text : List ℕ) × IsPrefix taken text × (PrintsBeginning files p text ⊎ PrintsAll files p text)
+
 -- What stands with each status of the command. `sank` says that the sink's count of faults rose.
 pub record EndsShip (p : Position) (status : Status) (o : Invocation) (sank : Type 0) : Type 0 where
   pub done : status ≡ ends.Done → PrintsAll o.before.files p o.taken
   pub refused : (line : List ℕ) → refusal_line status ≡ Some line → PrintsUpTo o.before.files p status line sank o.taken
+  pub cut : status ≡ ends.SinkFault → PrintsCut o.before.files p o.taken
 
 -- ---- which statuses there are
 

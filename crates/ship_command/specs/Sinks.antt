@@ -30,3 +30,13 @@ pub record HasWritten (told failed : Bool) (before now : List ℕ) (ms : List Me
   pub tells : IsTrue told
   pub whole : failed ≡ false
   pub is : now ≡ before ++ flat_map message_text ms
+
+-- Of the bytes that it had, and of a text behind them, a sink has a beginning.
+pub record IsCutIn (now before text : List ℕ) : Type 0 where
+  pub rest : List ℕ
+  pub is : before ++ text ≡ now ++ rest
+
+-- The sink tells what it took. Behind what it had it took these messages and this one, or a beginning of them.
+pub record IsTorn (told : Bool) (before now : List ℕ) (ms : List Message) (m : Message) : Type 0 where
+  pub tells : IsTrue told
+  pub cut : IsCutIn now before (flat_map message_text ms ++ message_text m)

@@ -8,6 +8,7 @@ ghost use Rattle.disk_images.specs.Calls.{HasCause};
 ghost use Rattle.script_model.specs.Report.{cell_line};
 ghost use Rattle.script_model.specs.Report.{kind_name as name_of_code};
 ghost use Rattle.report_text.specs.Texts.{columns_text, stamp_text, tags_text};
+ghost use Rattle.ship_command.specs.Sinks.{IsCutIn};
 
 use crate::held::{Held, put, put_number};
 use crate::tokens::put_word;
@@ -36,6 +37,8 @@ fn put_columns<K: Sink>(
 ) -> Result<(), Failed>
     ensures ok { IsTrue K.told → OnOk result
         (K.taken out.new ++ held.new.items ≡ (K.taken out.old ++ held.old.items) ++ columns_text row.now family.now qualifier.now) }
+    ensures cut { IsTrue K.told → IsErr result
+        → IsCutIn (K.taken out.new) (K.taken out.old ++ held.old.items) (columns_text row.now family.now qualifier.now) }
     ensures cause { HasCause (K.faults out.old) (K.faults out.new) (IsErr result) }
 {
     put_word(out, held, row)?;
@@ -53,6 +56,7 @@ fn put_stamp<K: Sink>(
 ) -> Result<(), Failed>
     ensures ok { IsTrue K.told
         → OnOk result (K.taken out.new ++ held.new.items ≡ (K.taken out.old ++ held.old.items) ++ stamp_text ts (code_of kind) value.now) }
+    ensures cut { IsTrue K.told → IsErr result → IsCutIn (K.taken out.new) (K.taken out.old ++ held.old.items) (stamp_text ts (code_of kind) value.now) }
     ensures cause { HasCause (K.faults out.old) (K.faults out.new) (IsErr result) }
 {
     put_number(out, held, b" ", ts)?;
@@ -64,6 +68,7 @@ fn put_stamp<K: Sink>(
 /// Holds the tags behind a space, nothing where there are none.
 fn put_tags<K: Sink>(out: &mut K, held: &mut Held, tags: &[u8]) -> Result<(), Failed>
     ensures ok { IsTrue K.told → OnOk result (K.taken out.new ++ held.new.items ≡ (K.taken out.old ++ held.old.items) ++ tags_text tags.now) }
+    ensures cut { IsTrue K.told → IsErr result → IsCutIn (K.taken out.new) (K.taken out.old ++ held.old.items) (tags_text tags.now) }
     ensures cause { HasCause (K.faults out.old) (K.faults out.new) (IsErr result) }
 {
     if tags.is_empty() {
@@ -76,6 +81,7 @@ fn put_tags<K: Sink>(out: &mut K, held: &mut Held, tags: &[u8]) -> Result<(), Fa
 fn put_cell<K: Sink>(out: &mut K, held: &mut Held, number: u64, cell: &Cell) -> Result<(), Failed>
     ensures ok { IsTrue K.told
         → OnOk result (K.taken out.new ++ held.new.items ≡ (K.taken out.old ++ held.old.items) ++ cell_line (number, cell.now)) }
+    ensures cut { IsTrue K.told → IsErr result → IsCutIn (K.taken out.new) (K.taken out.old ++ held.old.items) (cell_line (number, cell.now)) }
     ensures cause { HasCause (K.faults out.old) (K.faults out.new) (IsErr result) }
 {
     let row = cell.row.as_slice();
@@ -100,6 +106,8 @@ pub(crate) fn put_cells<K: Sink>(
 ) -> Result<(), Failed>
     ensures ok { IsTrue K.told → OnOk result
         (K.taken out.new ++ held.new.items ≡ (K.taken out.old ++ held.old.items) ++ flat_map (λ (c : TheCell). cell_line (number, c)) cells.now) }
+    ensures cut { IsTrue K.told → IsErr result
+        → IsCutIn (K.taken out.new) (K.taken out.old ++ held.old.items) (flat_map (λ (c : TheCell). cell_line (number, c)) cells.now) }
     ensures cause { HasCause (K.faults out.old) (K.faults out.new) (IsErr result) }
 {
     for cell in cells {

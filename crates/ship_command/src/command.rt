@@ -1,6 +1,6 @@
 //! The command `ship`: prints what stands behind a position in a store's logs.
 
-ghost use Rattle.std.specs.Prelude.{◌≡◌, ◌≢◌, ◌≤◌, [], ◌∷◌, ℕ, List, false, IsTrue, IsErrOf, Err};
+ghost use Rattle.std.specs.Prelude.{◌≡◌, ◌≢◌, ◌≤◌, [], ◌∷◌, ℕ, List, false, IsTrue, IsErrOf, Err, Some};
 ghost use Rattle.log_model.specs.declared.name.Name.{Name as TheName};
 ghost use Rattle.log_model.specs.declared.damage.Damage.{Damage as TheDamage};
 ghost use Rattle.log_model.specs.declared.damage.Damage.TheVariants.{Bytes};
@@ -9,8 +9,9 @@ ghost use Rattle.log_tail.specs.Position.{position_of};
 ghost use Rattle.log_tail.specs.Reads.{OnlyReads};
 ghost use Rattle.ship_queue.specs.Refusals.{IsOrFailure};
 ghost use Rattle.command_base.specs.Invocation.{invocation, IsUnchanged, KeepsImages};
-ghost use Rattle.command_base.specs.Status.{IsDamageOf, IsNoPositionOf, IsOrEarlier};
-ghost use Rattle.ship_command.specs.Refusals.{HasPrinted, refused_as};
+ghost use Rattle.command_base.specs.Prints.{Prints};
+ghost use Rattle.command_base.specs.Status.{refusal_line, IsDamageOf, IsNoPositionOf, IsOrEarlier};
+ghost use Rattle.ship_command.specs.Refusals.{HasPrinted, HasCut, refused_as};
 ghost use Rattle.ship_command.specs.Shipped.{EndsShip, IsShipDamage, IsShipEnd, LacksPosition};
 
 use crate::sink_peer::SinkPeer;
@@ -53,7 +54,21 @@ pub fn ship<R: Threads + Wait + Sync, D: Disk + Send, K: Sink>(
 {
     match ship_lines(rt, alloc, from, disk, out) {
         Ok(_) => emit(out, b"end 0\n", Status::Done),
-        Err(refusal) => refuse(out, status_of(refusal)),
+        Err(refusal) => end_refused(out, refusal),
+    }
+}
+
+/// Prints the line that refuses; nothing where the sink failed, as its last line may be torn.
+fn end_refused<K: Sink>(out: &mut K, refusal: ShipRefusal) -> Status
+    ensures status { result ≡ refused_as refusal }
+    ensures prints { IsTrue K.told → (text : List ℕ) → refusal_line (refused_as refusal) ≡ Some text
+        → Prints (K.taken out.old) (K.taken out.new) text (Rose (K.faults out.old) (K.faults out.new)) }
+    ensures none { refusal ≡ ShipRefusal.PeerFault → K.taken out.new ≡ K.taken out.old }
+    ensures later { K.faults out.old ≤ K.faults out.new }
+{
+    match refusal {
+        ShipRefusal::PeerFault => Status::SinkFault,
+        other => refuse(out, status_of(other)),
     }
 }
 
@@ -67,6 +82,8 @@ fn ship_lines<R: Threads + Wait + Sync, D: Disk + Send, K: Sink>(
 ) -> Result<Shipped, ShipRefusal>
     ensures written { IsTrue D.told → IsTrue K.told → result ≢ Err ShipRefusal.PeerFault
         → HasPrinted (D.view disk.old).files (position_of from) (K.taken out.old) (K.taken out.new) result }
+    ensures torn { IsTrue D.told → IsTrue K.told → result ≡ Err ShipRefusal.PeerFault
+        → HasCut (D.view disk.old).files (position_of from) (K.taken out.old) (K.taken out.new) }
     ensures damaged { IsTrue D.told → (name : TheName) (at : ℕ) → result ≡ Err (ShipRefusal.Damaged name at)
         → IsShipDamage (position_of from) (D.view disk.old).files (Bytes name at) }
     ensures damage { IsTrue D.told → (name : TheName) (at : ℕ) → IsShipDamage (position_of from) (D.view disk.old).files (Bytes name at)
@@ -97,6 +114,8 @@ fn ship_to<'a, R: Threads + Wait + Sync, D: Disk + Send, K: Sink>(
     ensures same_reference { peer.new.out.ghost_name ≡ peer.old.out.ghost_name }
     ensures written { IsTrue D.told → IsTrue K.told → result ≢ Err ShipRefusal.PeerFault
         → HasPrinted (D.view disk.old).files tail.old (K.taken peer.old.out.now) (K.taken peer.new.out.now) result }
+    ensures torn { IsTrue D.told → IsTrue K.told → result ≡ Err ShipRefusal.PeerFault
+        → HasCut (D.view disk.old).files tail.old (K.taken peer.old.out.now) (K.taken peer.new.out.now) }
     ensures damaged { IsTrue D.told → (name : TheName) (at : ℕ) → result ≡ Err (ShipRefusal.Damaged name at)
         → IsShipDamage tail.old (D.view disk.old).files (Bytes name at) }
     ensures damage { IsTrue D.told → (name : TheName) (at : ℕ) → IsShipDamage tail.old (D.view disk.old).files (Bytes name at)

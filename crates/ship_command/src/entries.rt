@@ -5,7 +5,7 @@ ghost use Rattle.disk_images.specs.Calls.{HasCause};
 ghost use Rattle.script_model.specs.Outputs.{table_line};
 ghost use Rattle.log_tail.specs.Position.{position_of};
 ghost use Rattle.ship_queue.specs.Messages.{Entry_of, Record_of, placed};
-ghost use Rattle.ship_command.specs.Sinks.{ship_line, position_line, message_text};
+ghost use Rattle.ship_command.specs.Sinks.{ship_line, position_line, message_text, IsCutIn};
 
 use crate::cells::put_cells;
 use crate::held::{Held, put, put_numbers, send};
@@ -24,6 +24,7 @@ fn put_head<K: Sink>(
 ) -> Result<(), Failed>
     ensures ok { IsTrue K.told
         → OnOk result (K.taken out.new ++ held.new.items ≡ (K.taken out.old ++ held.old.items) ++ ship_line (placed at entry.now)) }
+    ensures cut { IsTrue K.told → IsErr result → IsCutIn (K.taken out.new) (K.taken out.old ++ held.old.items) (ship_line (placed at entry.now)) }
     ensures cause { HasCause (K.faults out.old) (K.faults out.new) (IsErr result) }
 {
     put_numbers(out, held, b"ship ", at.file, at.entries)?;
@@ -35,6 +36,7 @@ fn put_head<K: Sink>(
 /// Holds the line of a table's name, nothing where it is empty.
 fn put_table<K: Sink>(out: &mut K, held: &mut Held, name: &[u8]) -> Result<(), Failed>
     ensures ok { IsTrue K.told → OnOk result (K.taken out.new ++ held.new.items ≡ (K.taken out.old ++ held.old.items) ++ table_line name.now) }
+    ensures cut { IsTrue K.told → IsErr result → IsCutIn (K.taken out.new) (K.taken out.old ++ held.old.items) (table_line name.now) }
     ensures cause { HasCause (K.faults out.old) (K.faults out.new) (IsErr result) }
 {
     if name.is_empty() {
@@ -48,6 +50,7 @@ fn put_table<K: Sink>(out: &mut K, held: &mut Held, name: &[u8]) -> Result<(), F
 /// Writes an entry's line, that of its table's name, and the lines of its cells. It takes no memory.
 pub(crate) fn write_entry<K: Sink>(out: &mut K, at: Position, entry: &Entry) -> Result<(), Failed>
     ensures ok { IsTrue K.told → OnOk result (K.taken out.new ≡ K.taken out.old ++ message_text (Entry_of (placed at entry.now))) }
+    ensures cut { IsTrue K.told → IsErr result → IsCutIn (K.taken out.new) (K.taken out.old) (message_text (Entry_of (placed at entry.now))) }
     ensures cause { HasCause (K.faults out.old) (K.faults out.new) (IsErr result) }
 {
     let mut held = Held::new();
@@ -61,6 +64,7 @@ pub(crate) fn write_entry<K: Sink>(out: &mut K, at: Position, entry: &Entry) -> 
 #[tactic(auto, unfolding(crate::specs::Sinks::position_line))]
 pub(crate) fn write_record<K: Sink>(out: &mut K, at: Position) -> Result<(), Failed>
     ensures ok { IsTrue K.told → OnOk result (K.taken out.new ≡ K.taken out.old ++ message_text (Record_of (position_of at))) }
+    ensures cut { IsTrue K.told → IsErr result → IsCutIn (K.taken out.new) (K.taken out.old) (message_text (Record_of (position_of at))) }
     ensures cause { HasCause (K.faults out.old) (K.faults out.new) (IsErr result) }
 {
     let mut held = Held::new();

@@ -3,6 +3,7 @@
 
 ghost use Rattle.std.specs.Prelude.{◌≡◌, [], ◌∷◌, ◌++◌, decimal, IsTrue, IsErr, OnOk};
 ghost use Rattle.disk_images.specs.Calls.{HasCause};
+ghost use Rattle.ship_command.specs.Sinks.{IsCutIn};
 
 use arrayvec::ArrayVec;
 use command_base::write_all;
@@ -15,6 +16,7 @@ pub(crate) type Held = ArrayVec<u8, 512>;
 /// Writes what is held to the sink.
 pub(crate) fn send<K: Sink>(out: &mut K, held: &mut Held) -> Result<(), Failed>
     ensures ok { IsTrue K.told → OnOk result (K.taken out.new ≡ K.taken out.old ++ held.old.items) }
+    ensures cut { IsTrue K.told → IsErr result → IsCutIn (K.taken out.new) (K.taken out.old) held.old.items }
     ensures none { OnOk result (held.new.items ≡ []) }
     ensures cause { HasCause (K.faults out.old) (K.faults out.new) (IsErr result) }
 {
@@ -26,6 +28,7 @@ pub(crate) fn send<K: Sink>(out: &mut K, held: &mut Held) -> Result<(), Failed>
 /// Holds the bytes, behind what is held. Where they don't fit, what is held is written to the sink, and they behind it.
 pub(crate) fn put<K: Sink>(out: &mut K, held: &mut Held, bytes: &[u8]) -> Result<(), Failed>
     ensures ok { IsTrue K.told → OnOk result (K.taken out.new ++ held.new.items ≡ (K.taken out.old ++ held.old.items) ++ bytes.now) }
+    ensures cut { IsTrue K.told → IsErr result → IsCutIn (K.taken out.new) (K.taken out.old ++ held.old.items) bytes.now }
     ensures cause { HasCause (K.faults out.old) (K.faults out.new) (IsErr result) }
 {
     if held.try_extend_from_slice(bytes).is_ok() {
@@ -44,6 +47,7 @@ pub(crate) fn put_number<K: Sink>(
 ) -> Result<(), Failed>
     ensures ok { IsTrue K.told
         → OnOk result (K.taken out.new ++ held.new.items ≡ (K.taken out.old ++ held.old.items) ++ (words.now ++ decimal n)) }
+    ensures cut { IsTrue K.told → IsErr result → IsCutIn (K.taken out.new) (K.taken out.old ++ held.old.items) (words.now ++ decimal n) }
     ensures cause { HasCause (K.faults out.old) (K.faults out.new) (IsErr result) }
 {
     put(out, held, words)?;
@@ -60,6 +64,7 @@ pub(crate) fn put_numbers<K: Sink>(
 ) -> Result<(), Failed>
     ensures ok { IsTrue K.told → OnOk result
         (K.taken out.new ++ held.new.items ≡ (K.taken out.old ++ held.old.items) ++ (words.now ++ (decimal n ++ (32 ∷ decimal m)))) }
+    ensures cut { IsTrue K.told → IsErr result → IsCutIn (K.taken out.new) (K.taken out.old ++ held.old.items) (words.now ++ (decimal n ++ (32 ∷ decimal m))) }
     ensures cause { HasCause (K.faults out.old) (K.faults out.new) (IsErr result) }
 {
     put_number(out, held, words, n)?;

@@ -1,7 +1,7 @@
 //! A peer that is a sink.
 
 ghost use Rattle.std.specs.Prelude.{◌≡◌, false, [], IsTrue};
-ghost use Rattle.ship_command.specs.Sinks.{HasWritten};
+ghost use Rattle.ship_command.specs.Sinks.{HasWritten, IsTorn};
 
 use crate::entries::{write_entry, write_record};
 use disk_images::{Failed, Sink};
@@ -50,11 +50,11 @@ impl<'a, K: Sink> SinkPeer<'a, K> {
 
 impl<'a, K: Sink> Peer for SinkPeer<'a, K> {
     ghost use Rattle.std.proofs.Common.{◌≡◌, ◌∙◌, refl};
-    ghost use Rattle.ship_command.specs.Sinks.{HasWritten};
+    ghost use Rattle.ship_command.specs.Sinks.{HasWritten, IsTorn};
 
     ghost has = { λ p ms. HasWritten K.told p.failed (K.taken p.first.value) (K.taken p.out.now) ms };
 
-    ghost torn = { λ p ms m. Unit {0} };
+    ghost torn = { λ p ms m. IsTorn K.told (K.taken p.first.value) (K.taken p.out.now) ms m };
 
     ghost faults = { λ p. K.faults p.out.now };
 

@@ -4,6 +4,7 @@ ghost use Rattle.std.specs.Prelude.{◌≡◌, ◌<◌, ◌∷◌, ◌++◌, IsT
 ghost use Rattle.std.specs.List.{flat_map};
 ghost use Rattle.disk_images.specs.Calls.{HasCause};
 ghost use Rattle.script_model.specs.Text.{escaped, is_plain, printed, upper_hex};
+ghost use Rattle.ship_command.specs.Sinks.{IsCutIn};
 
 use crate::held::{Held, put};
 use disk_images::{Failed, Sink};
@@ -25,6 +26,7 @@ fn hex_digit(n: u8) -> u8
 
 fn put_byte<K: Sink>(out: &mut K, held: &mut Held, b: u8) -> Result<(), Failed>
     ensures ok { IsTrue K.told → OnOk result (K.taken out.new ++ held.new.items ≡ (K.taken out.old ++ held.old.items) ++ escaped b) }
+    ensures cut { IsTrue K.told → IsErr result → IsCutIn (K.taken out.new) (K.taken out.old ++ held.old.items) (escaped b) }
     ensures cause { HasCause (K.faults out.old) (K.faults out.new) (IsErr result) }
 {
     if is_plain_byte(b) {
@@ -37,6 +39,7 @@ fn put_byte<K: Sink>(out: &mut K, held: &mut Held, b: u8) -> Result<(), Failed>
 fn put_bytes<K: Sink>(out: &mut K, held: &mut Held, bytes: &[u8]) -> Result<(), Failed>
     ensures ok { IsTrue K.told
         → OnOk result (K.taken out.new ++ held.new.items ≡ (K.taken out.old ++ held.old.items) ++ flat_map escaped bytes.now) }
+    ensures cut { IsTrue K.told → IsErr result → IsCutIn (K.taken out.new) (K.taken out.old ++ held.old.items) (flat_map escaped bytes.now) }
     ensures cause { HasCause (K.faults out.old) (K.faults out.new) (IsErr result) }
 {
     for b in bytes {
@@ -48,6 +51,7 @@ fn put_bytes<K: Sink>(out: &mut K, held: &mut Held, bytes: &[u8]) -> Result<(), 
 /// Holds the bytes as a token.
 pub(crate) fn put_token<K: Sink>(out: &mut K, held: &mut Held, bytes: &[u8]) -> Result<(), Failed>
     ensures ok { IsTrue K.told → OnOk result (K.taken out.new ++ held.new.items ≡ (K.taken out.old ++ held.old.items) ++ printed bytes.now) }
+    ensures cut { IsTrue K.told → IsErr result → IsCutIn (K.taken out.new) (K.taken out.old ++ held.old.items) (printed bytes.now) }
     ensures cause { HasCause (K.faults out.old) (K.faults out.new) (IsErr result) }
 {
     if bytes.is_empty() {
@@ -63,6 +67,7 @@ pub(crate) fn put_token<K: Sink>(out: &mut K, held: &mut Held, bytes: &[u8]) -> 
 pub(crate) fn put_word<K: Sink>(out: &mut K, held: &mut Held, bytes: &[u8]) -> Result<(), Failed>
     ensures ok { IsTrue K.told
         → OnOk result (K.taken out.new ++ held.new.items ≡ (K.taken out.old ++ held.old.items) ++ (32 ∷ printed bytes.now)) }
+    ensures cut { IsTrue K.told → IsErr result → IsCutIn (K.taken out.new) (K.taken out.old ++ held.old.items) (32 ∷ printed bytes.now) }
     ensures cause { HasCause (K.faults out.old) (K.faults out.new) (IsErr result) }
 {
     put(out, held, b" ")?;

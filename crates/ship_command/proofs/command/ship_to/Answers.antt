@@ -1,5 +1,5 @@
 use Rattle.std.proofs.Common.{[], sym, ap, ◌∙◌}
-use Rattle.ship_command.proofs.Ships.{begun, printed}
+use Rattle.ship_command.proofs.Ships.{begun, printed, torn}
 use Rattle.ship_command.proofs.command.ship_to.Goals as goal
 
 pub returns-clause-same_reference : goal.returns-clause-same_reference
@@ -11,6 +11,11 @@ returns-clause-written g c told taken other =
     (ap g.K.Sink.taken (c.ship_all.ensures.stays.1 ∙ c.requires.first)) (c.ship_all.ensures.leads told)
     (c.ship_all.ensures.ships told [] (begun g.K.Sink.told _ _ _ taken c.requires.whole (ap g.K.Sink.taken (sym c.requires.first))) other)
     c.ship_all.ensures.position (c.ship_all.ensures.all told) (c.ship_all.ensures.damaged told) (c.ship_all.ensures.no_position told)
+
+pub returns-clause-torn : goal.returns-clause-torn
+returns-clause-torn g c told taken failed =
+    torn (g.D.Disk.view c.args.disk.now).files c.args.tail.now g.K.Sink.told _ _ _ (ap g.K.Sink.taken (c.ship_all.ensures.stays.1 ∙ c.requires.first))
+    (c.ship_all.ensures.torn told [] (begun g.K.Sink.told _ _ _ taken c.requires.whole (ap g.K.Sink.taken (sym c.requires.first))) failed)
 
 pub returns-clause-damaged : goal.returns-clause-damaged
 returns-clause-damaged g c told name at is = (c.ship_all.new.tail, c.ship_all.ensures.leads told, c.ship_all.ensures.damaged told name at is)
