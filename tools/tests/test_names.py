@@ -25,7 +25,7 @@ class Kept(unittest.TestCase):
     def test_edits(self):
         edit = "gate_opened_with_the_content"
         self.assertEqual(list(self.kept.lost_edits(f"(disk_images `{edit}`)")), [])
-        self.assertEqual(list(self.kept.lost_edits(f"(log_file `{edit}`)")), [f"log_file {edit}"])
+        self.assertEqual(list(self.kept.lost_edits(f"(log_tail `{edit}`)")), [f"log_tail {edit}"])
 
     def test_options(self):
         lost = lambda line: list(self.kept.lost_options(line))
