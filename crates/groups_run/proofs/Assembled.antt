@@ -167,10 +167,10 @@ module _ {D N1 N2 N3 N4 : Type 0} (f : Ghosts D) (s1 : NameGhosts N1) (g1 : Lock
     -- a broken log has its cause
     rose_of : (h.ends.first.broken ≡ true) ⊎ ((is_broken h.ends.second ≡ true) ⊎ ((is_broken h.ends.third ≡ true) ⊎ (is_broken h.ends.fourth ≡ true)))
         → (k : ℕ) × (at_group opened k ≢ None) × Rose (f.faults (disk_now (value_of opened k))) (f.faults (value_of (mapped (λ e. e.disk) h.ends) k))
-    rose_of (inl is) = (1, broke_at 1 is)
-    rose_of (inr (inl is)) = (2, broke_at 2 is)
-    rose_of (inr (inr (inl is))) = (3, broke_at 3 is)
-    rose_of (inr (inr (inr is))) = (4, broke_at 4 is)
+    rose_of (inl is) = let b = broke_at 1 is in (1, b.0, b.1)
+    rose_of (inr (inl is)) = let b = broke_at 2 is in (2, b.0, b.1)
+    rose_of (inr (inr (inl is))) = let b = broke_at 3 is in (3, b.0, b.1)
+    rose_of (inr (inr (inr is))) = let b = broke_at 4 is in (4, b.0, b.1)
 
     pub cause : end.closed.broken ≡ true → (k : ℕ) × (at_group opened k ≢ None) × Rose (f.faults (disk_now (value_of opened k))) (f.faults (value_of end.closed.disks k))
     cause is = subst (λ (ds : GroupList D). (k : ℕ) × (at_group opened k ≢ None) × Rose (f.faults (disk_now (value_of opened k))) (f.faults (value_of ds k))) (sym h.joined.disks)

@@ -1,4 +1,5 @@
 use Rattle.std.proofs.Common.{◌≡◌, ℕ, refl, sym, ap, subst, ◌∙◌, arith}
+use Rattle.disk_images.specs.Calls.{Rose}
 use Rattle.script_model.specs.Calls.{IsScript}
 use Rattle.script_run.specs.Rooms.{script_in}
 use Rattle.run_model.specs.Closed.{IsNameFor}
@@ -8,7 +9,7 @@ use Rattle.group_calls.specs.Passes.{named}
 use Rattle.group_calls.specs.Servers.{Servers}
 use Rattle.groups_run.specs.Ended.{HaveEnded}
 use Rattle.groups_run.specs.Ends.{HaveClosed}
-use Rattle.groups_run.specs.Found.{found_views, views}
+use Rattle.groups_run.specs.Found.{faults_now, found_views, value_of, views}
 use Rattle.groups_run.proofs.Assembled.{all_ended, all_held, all_refused, all_there, as_many, cause, closed_all, each_keeps, each_later, left_counts, left_found}
 use Rattle.groups_run.proofs.Slots.{HasKept}
 use Rattle.groups_run.proofs.serving.serve_groups.Goals as goal
@@ -130,7 +131,8 @@ returns-in-None-clause-as_many g c = as_many g.D.Disk c.args.opened c.run_starte
 
 pub returns-in-Some-clause-served : goal.returns-in-Some-clause-served
 returns-in-Some-clause-served g c told =
-    subst (λ n. HaveClosed n (script_in c.args.time (regions_of c.args.opened.first) c.args.rooms.items) (found_views g.D.Disk.view c.args.opened) (views g.D.Disk.view c.run_started-closed.result.closed.disks) c.in-Some.regions.items c.run_started-closed.result.replies.items
+    subst (λ n. HaveClosed n (script_in c.args.time (regions_of c.args.opened.first) c.args.rooms.items) (found_views g.D.Disk.view c.args.opened) (views g.D.Disk.view c.run_started-closed.result.closed.disks)
+    (λ k. Rose (faults_now g.D.Disk.faults c.args.opened k) (g.D.Disk.faults (value_of c.run_started-closed.result.closed.disks k))) c.in-Some.regions.items c.run_started-closed.result.replies.items
     c.run_started-closed.result.spent c.run_started-closed.result.closed.broken) c.in-Ok-start_groups.ensures.servers.count
     (closed_all g.D.Disk g.N1.ServerNaming g.N1.LockNaming g.N1.ServiceNaming g.N1.VersionsNaming
     g.N2.ServerNaming g.N2.LockNaming g.N2.ServiceNaming g.N2.VersionsNaming
