@@ -7,7 +7,7 @@ ghost use Rattle.service_trials.specs.Crew.{IsOf};
 use crate::held::HeldDisk;
 use crate::member::Member;
 use crate::puts::{ask, put};
-use crate::steps::{BUSY, OTHER, Step, Trial, Turn};
+use crate::steps::{BUSY, EMPTY, OTHER, Step, Trial, Turn};
 use crate::watch::Watch;
 use log_service::{ConsumerTurn, LogSeat, LogService, ServiceNaming, SyncTurn, Waited};
 use std::alloc::Global;
@@ -17,6 +17,7 @@ use std::thread::{Threads, for_each_mut};
 fn moved(turn: ConsumerTurn) -> u64 {
     match turn {
         ConsumerTurn::Moved(count) => count,
+        ConsumerTurn::Empty => EMPTY,
         _ => OTHER,
     }
 }

@@ -4,7 +4,7 @@ use crate::crowd::Told;
 use crate::held::run_held;
 use crate::image::{has_all, has_logs};
 use crate::steps::{LogRow, PUTS, Row, Trial};
-use disk_fakes::MemDisk;
+use disk_fakes::{CallKind, MemDisk};
 use std::alloc::Global;
 use std::process::Abort;
 use std::sync::Wait;
@@ -49,6 +49,13 @@ fn are_left(alloc: Global, disk: &MemDisk, trial: Trial, logs: &[LogRow]) -> boo
     true
 }
 
+/// Whether the disk was asked for as many writes and syncs as a trial has to ask for: a new log's header, and of a commit the content and
+/// the gate.
+fn are_made(disk: &MemDisk, trial: Trial) -> bool {
+    let made = (disk.calls(CallKind::WriteAt), disk.calls(CallKind::Sync));
+    !matches!(trial, Trial::Two) || matches!(made, (3, 3))
+}
+
 /// Runs a trial without a fault. Whether what is left is as it has to be.
 fn ends_right<R: Wait + Threads + Sync + Abort>(rt: &R, alloc: Global, trial: Trial) -> bool {
     let left = run_held(rt, alloc, &[], trial);
@@ -57,6 +64,7 @@ fn ends_right<R: Wait + Threads + Sync + Abort>(rt: &R, alloc: Global, trial: Tr
         && left.synced == synced
         && are_told(left.told, left.least, trial)
         && are_left(alloc, left.disk.disk(), trial, logs)
+        && are_made(left.disk.disk(), trial)
 }
 
 // The log has all edits, those of a region in their order.
@@ -68,6 +76,12 @@ fn sixteen_threads_put(rt: HostRuntime) {
 #[test]
 fn moves_while_committing(rt: HostRuntime) {
     assert!(rt; ends_right(&rt, rt.alloc(), Trial::Move));
+}
+
+// The edits of two seats are written by one commit: the close finds nothing to write.
+#[test]
+fn two_puts_one_commit(rt: HostRuntime) {
+    assert!(rt; ends_right(&rt, rt.alloc(), Trial::Two));
 }
 
 #[test]

@@ -43,7 +43,7 @@ pub(crate) enum Step {
     /// Pushes the wish that the edits be durable. It is answered so too.
     Ask(Way),
     /// Takes a turn. It is answered with how many items were moved, entries synced or in the log that was closed, up to which edit was
-    /// flushed, or with 1 where the edit is durable; with `BUSY`, or with `OTHER`.
+    /// flushed, or with 1 where the edit is durable; with `BUSY`, with `EMPTY` where there was nothing to move, or with `OTHER`.
     Take(Turn),
     /// All three.
     PutAnd(Way, Turn),
@@ -53,6 +53,8 @@ pub(crate) enum Step {
 pub(crate) const BUSY: u64 = u64::MAX;
 
 pub(crate) const OTHER: u64 = u64::MAX - 1;
+
+pub(crate) const EMPTY: u64 = u64::MAX - 2;
 
 /// A step, how often it is taken, and what it has to be answered each time.
 pub(crate) type Row = (Step, u64, u64);
@@ -174,7 +176,27 @@ const ROLL_FULL: &[Row] = &[
     (Step::Take(Turn::Roll), 1, FULL),
 ];
 
-/// What is tried: puts of sixteen threads, a script of one, or what two do while a third one is held back in a commit.
+/// Pushes an edit with its wish, and comes.
+const FIRST: &[Row] = &[
+    (Step::Put(ONCE), 1, 1),
+    (Step::Ask(ONCE), 1, 1),
+    (Step::Give(Sign::Come), 1, 1),
+];
+
+/// Pushes another one after it, moves the two edits and their wishes, and commits both in one turn, which begins two syncs more.
+const SECOND: &[Row] = &[
+    (Step::Give(Sign::Came(1, PATIENCE)), 1, 1),
+    (Step::Put(ONCE), 1, 1),
+    (Step::Ask(ONCE), 1, 1),
+    (Step::Take(Turn::Move), 1, 4),
+    (Step::Take(Turn::Move), 1, EMPTY),
+    (Step::Give(Sign::Syncs(1)), 1, 1),
+    (Step::Take(Turn::Sync), 1, 2),
+    (Step::Give(Sign::Syncs(3)), 1, 3),
+];
+
+/// What is tried: puts of sixteen threads, a script of one, what two do while a third one is held back in a commit, or puts of two that
+/// are committed together.
 #[derive(Clone, Copy)]
 pub(crate) enum Trial {
     Crowd,
@@ -183,6 +205,7 @@ pub(crate) enum Trial {
     Roll,
     Wait,
     Full,
+    Two,
 }
 
 /// A log, and of the edits of the last region the first one in it and the one behind the last.
@@ -200,6 +223,8 @@ impl Trial {
             (Trial::Wait, 15) => WAKE,
             (Trial::Full, 16) => FILL,
             (Trial::Full, 15) => ROLL_FULL,
+            (Trial::Two, 16) => SECOND,
+            (Trial::Two, 15) => FIRST,
             (Trial::Move | Trial::Roll | Trial::Wait | Trial::Full, 14) => COMMIT,
             _ => &[],
         }
@@ -215,6 +240,7 @@ impl Trial {
             Trial::Roll => (5, &[(1, 1, 6), (2, 6, 6)]),
             Trial::Wait => (1, &[]),
             Trial::Full => (FULL, &[(1, 1, FULL + 1), (2, FULL + 1, LAST + 1)]),
+            Trial::Two => (1, &[(1, 1, 2)]),
         }
     }
 }
