@@ -2,7 +2,7 @@
 
 use crate::meant::Meant;
 
-/// Behind a call that was refused memory.
+/// After a call that was refused memory.
 pub fn memory_text(meant: Meant) -> &'static str {
     match meant {
         Meant::Recover | Meant::Compact => {
@@ -18,7 +18,7 @@ pub fn memory_text(meant: Meant) -> &'static str {
     }
 }
 
-/// Behind a call of the disk that failed. Which one and why stands in the line before.
+/// After a call of the disk that failed. Which one and why stands in the line before.
 pub fn disk_text(meant: Meant) -> &'static str {
     match meant {
         Meant::Log => {
@@ -35,7 +35,7 @@ pub fn disk_text(meant: Meant) -> &'static str {
     }
 }
 
-/// Behind an output that could not be written.
+/// After an output that could not be written.
 pub fn output_text(meant: Meant) -> &'static str {
     match meant {
         Meant::Log =>

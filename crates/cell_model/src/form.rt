@@ -5,6 +5,6 @@
 pub enum Form {
     /// Without tags: HBase's KeyValue.
     Plain,
-    /// With tags behind the value.
+    /// With tags after the value.
     Tagged,
 }

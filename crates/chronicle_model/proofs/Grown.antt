@@ -83,7 +83,7 @@ module _ (n : ℕ) (old new : Files) (a : AppendsTo n old new) where
     | inr (inr high) ↦ absurd (none_above x high s)
   ]
 
-  -- behind the entries that the log had
+  -- after the entries that the log had
   past_had : (x y : Placed) → x.file ≡ n → (s : StandsIn new x) → length a.entries ≤ s.at → StandsIn old y → ComesBefore y x
   past_had x y same s far t = elim (cases_order y.file n) as (λ _. ComesBefore y x) [
     | inl here ↦
@@ -95,7 +95,7 @@ module _ (n : ℕ) (old new : Files) (a : AppendsTo n old new) where
     | inr (inr high) ↦ absurd (none_above y high t)
   ]
 
-  -- an entry is an old one, or comes behind the old ones
+  -- an entry is an old one, or comes after the old ones
   stood_or_later : (x : Placed) → StandsIn new x → StandsIn old x ⊎ ((y : Placed) → StandsIn old y → ComesBefore y x)
   stood_or_later x s = elim (cases_order x.file n) as (λ _. StandsIn old x ⊎ ((y : Placed) → StandsIn old y → ComesBefore y x)) [
     | inl same ↦ elim (cases_lt s.at (length a.entries)) as (λ _. StandsIn old x ⊎ ((y : Placed) → StandsIn old y → ComesBefore y x)) [

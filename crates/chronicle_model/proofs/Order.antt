@@ -42,7 +42,7 @@ not_both x y (inl lt) (inr same) = omega (arith, lt, same.0)
 not_both x y (inr same) (inl gt) = omega (arith, same.0, gt)
 not_both x y (inr same) (inr other) = omega (arith, same.1, other.1)
 
--- in an ordered list each member of a front stands before each one behind it
+-- in an ordered list each member of a front stands before each one after it
 pub front_before : (front back : List Placed) (x y : Placed) → IsOrdered (front ++ back) → Contains front x → Contains back y → ComesBefore x y
 front_before [] back x y o is behind = absurd (no_member x is)
 front_before (a ∷ front) back x y o is behind = elim (here_or_there a front x is) as (λ _. ComesBefore x y) [
@@ -71,7 +71,7 @@ all_pass p (x ∷ xs) each =
 
 -- ---- one list at the front of another
 
--- In order, a list begins another one that has its members where each other member of that one comes behind them all.
+-- In order, a list begins another one that has its members where each other member of that one comes after them all.
 pub begins_with : (c d : List Placed) → IsOrdered c → IsOrdered d → ((x : Placed) → Contains c x → Contains d x)
     → ((x : Placed) → Contains d x → Contains c x ⊎ ((y : Placed) → Contains c y → ComesBefore y x)) → IsPrefix c d
 begins_with [] d oc od all others = (d, refl)

@@ -56,7 +56,7 @@ pub record IsChronicle (files : Files) (c : List Placed) : Type 0 where
 
 -- ---- positions
 
--- behind all entries of lower logs, and behind so many of its own
+-- after all entries of lower logs, and after so many of its own
 pub record Position : Type 0 where
   pub file : ℕ
   pub entries : ℕ
@@ -64,7 +64,7 @@ pub record Position : Type 0 where
 abbrev pub is_behind : Position → Placed → Bool
 is_behind p x = nat_lt p.file x.file || (p.file == x.file && nat_lt p.entries x.place)
 
--- what stands behind a position
+-- what stands after a position
 abbrev pub behind : List Placed → Position → List Placed
 behind c p = filter (is_behind p) c
 

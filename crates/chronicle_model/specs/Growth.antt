@@ -13,7 +13,7 @@ LogsStay old new = (number : ℕ) → bytes_of new number ≡ bytes_of old numbe
 abbrev pub LowerLogsStay : ℕ → Files → Files → Type 0
 LowerLogsStay below old new = (number : ℕ) → number < below → bytes_of new number ≡ bytes_of old number
 
--- The highest log has the entries that it had, and maybe more behind them. Lower logs stay; higher ones may begin.
+-- The highest log has the entries that it had, and maybe more after them. Lower logs stay; higher ones may begin.
 pub record AppendsTo (number : ℕ) (old new : Files) : Type 0 where
   pub highest : (other : ℕ) → number < other → bytes_of old other ≡ None
   pub lower : LowerLogsStay number old new
@@ -25,7 +25,7 @@ pub record AppendsTo (number : ℕ) (old new : Files) : Type 0 where
   pub has : HasLog new number (entries ++ more) ended_now
 
 -- The chronicle before begins the one after, and each log below another one stays. No log goes, and each has the entries that it
--- had, and maybe more behind them.
+-- had, and maybe more after them.
 pub record Prolongs (old new : Files) : Type 0 where
   pub begins : (c d : List Placed) → IsChronicle old c → IsChronicle new d → IsPrefix c d
   pub lower : (number higher : ℕ) → number < higher → LogIsThere old higher → bytes_of new number ≡ bytes_of old number

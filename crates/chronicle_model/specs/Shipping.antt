@@ -16,7 +16,7 @@ pub record Shipping : Type 0 where
   pub shipped : List Placed
   pub recorded : Position
 
--- One step: the chronicle grows, behind the recorded position; or a call ships a beginning of what stands behind the recorded
+-- One step: the chronicle grows, after the recorded position; or a call ships a beginning of what stands after the recorded
 -- position, and records one up to which it has shipped.
 pub data Step (first : Position) (old new : Shipping) : Type 0 where
   Grows : (more : List Placed) → new.chronicle ≡ old.chronicle ++ more → IsOrdered new.chronicle → new.shipped ≡ old.shipped → new.recorded ≡ old.recorded
@@ -33,8 +33,8 @@ abbrev pub last_of : Shipping → List Shipping → Shipping
 last_of old [] = old
 last_of old (s ∷ ss) = last_of s ss
 
--- What was shipped, with repeats taken out, begins what stands behind the first position, and reaches the recorded one. So
--- only entries behind the recorded position are shipped again.
+-- What was shipped, with repeats taken out, begins what stands after the first position, and reaches the recorded one. So
+-- only entries after the recorded position are shipped again.
 pub record HasShipped (first : Position) (s : Shipping) : Type 0 where
   pub once : List Placed
   pub is_once : EachOnce s.shipped once

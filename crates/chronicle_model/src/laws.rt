@@ -13,7 +13,7 @@ pub fn appending_prolongs()
     ensures { AppendingProlongs }
 {}
 
-/// What a chronicle grows by stands behind each position that was reached in it.
+/// What a chronicle grows by stands after each position that was reached in it.
 pub fn later_entries_are_behind()
     ensures { LaterEntriesAreBehind }
 {}
@@ -29,7 +29,7 @@ pub fn same_logs_go_on()
 {}
 
 /// Whatever a store's log does between calls that ship, each from the recorded position on, what was shipped with repeats
-/// taken out begins what stands behind the first position.
+/// taken out begins what stands after the first position.
 pub fn shipping_goes_on()
     ensures { ShippingGoesOn }
 {}

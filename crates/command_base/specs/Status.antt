@@ -97,7 +97,7 @@ abbrev pub IsScriptAt : Status → ℕ → Why → Type 0
 IsScriptAt (ends.Script at y) line why = (at ≡ line) × (why_of y ≡ why)
 IsScriptAt _ line why = ⊥
 
--- this status, or one that is decided before it: want of memory always is
+-- this status, or one that is decided before it: out of memory always is
 abbrev pub IsOrEarlier : Status → Status → List Status → Type 0
 IsOrEarlier status it earlier = (status ≡ it) ⊎ Contains (ends.Memory ∷ earlier) status
 

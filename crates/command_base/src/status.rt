@@ -40,7 +40,7 @@ pub enum Status {
     NotEmpty {
         name: Name,
     },
-    /// There is no such position in the logs: the log of this number has so many entries, and the position stands behind more
+    /// There is no such position in the logs: the log of this number has so many entries, and the position stands after more
     /// of them; or the log isn't there, and a higher one is.
     NoPosition {
         file: u64,

@@ -47,7 +47,7 @@ pub has_compacted : (r : ℕ) (kind : CompactKind) (u v w : DiskView) (result : 
 has_compacted r kind u v w (Ok compaction) sound alike no_logs done = record { sound = sound; opened = v.files; alike = alike; no_logs = no_logs; done = done }
 has_compacted r kind u v w (Err status) sound alike no_logs done = tt
 
--- ---- no damage behind an opening
+-- ---- no damage after an opening
 
 none_told : (status : Status) (P : Damage → Type 0) (Q : Type 0) → IsDamageOf status (λ damage. ⊥) → IsDamageOf status P × IfDamaged status Q
 none_told ends.Done P Q none = (tt, tt)

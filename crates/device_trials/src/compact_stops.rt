@@ -1,5 +1,5 @@
 //! A compaction of region 1 is stopped at each moment, and meets a fault at each of its disk calls: the region reads as before
-//! or as after then. Behind a fault one more compaction ends what was begun.
+//! or as after then. After a fault one more compaction ends what was begun.
 
 use crate::compact_texts::{IN_THE_PLACE_OF_ONE, STORE_OF_A_DELETE, STORE_OF_A_PUT, THREE_EDITS};
 use crate::files::{File, crash_at, disk_of, hold, sink_of};

@@ -1,7 +1,7 @@
 //! Worked files, as they are written.
 
 /// A log with number 1 and three edits of region 1, of row `r` and column `f:q`: a put at 5, a delete of the column at 5, and a
-/// put at 6; behind it a closed gate.
+/// put at 6; after it a closed gate.
 pub(crate) const THREE_EDITS: &[u8] = &[
     b'H', b'W', b'L', b'1', 0, 0, 0, 2, 0, 0, 0, 0, 0, 0, 0, 1, 0xA5, 1, 0, 0, 0, 0x30, 0, 0, 0, 1,
     0, 0, 0, 0, 0, 0, 0, 1, 0, 0, 0, 0, 0, 0, 3, 0xE8, 0, 0, 0, 1, 0, 0, 0, 0x0F, 0, 0, 0, 1, 0, 1,

@@ -16,10 +16,10 @@ const FIRST: Position = Position {
     entries: 0,
 };
 
-/// A record stands behind each 64 entries: so many calls of the peer are 64 entries and a record.
+/// A record stands after each 64 entries: so many calls of the peer are 64 entries and a record.
 const ROUND: u64 = 65;
 
-/// The position behind the first entries of both logs.
+/// The position after the first entries of both logs.
 fn behind(logs: Logs, count: u64) -> Position {
     if count <= logs.in_first {
         Position {
@@ -34,7 +34,7 @@ fn behind(logs: Logs, count: u64) -> Position {
     }
 }
 
-/// How many entries have come once this call has failed, and behind how many of them a position was recorded. The call behind
+/// How many entries have come once this call has failed, and after how many of them a position was recorded. The call after
 /// all entries is the last record.
 fn come_and_recorded(logs: Logs, call: u64, keeps: bool) -> (u64, u64) {
     let records = call.saturating_sub(1) / ROUND;
@@ -81,7 +81,7 @@ fn ship_to_the_fault<R: Threads + Wait + Sync + AllocGlobal + Abort>(
     recorded
 }
 
-/// Ships the rest behind a position, which is so many entries up to the last position.
+/// Ships the rest after a position, which is so many entries up to the last position.
 fn ship_the_rest<R: Threads + Wait + Sync + AllocGlobal + Abort>(
     rt: &R,
     disk: &mut MemDisk,

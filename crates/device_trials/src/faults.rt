@@ -72,7 +72,7 @@ fn all_calls(disk: &MemDisk) -> u64 {
     sum
 }
 
-/// Behind the start, and behind each step of the script that came off. What isn't made yet stands at no moment.
+/// After the start, and after each step of the script that came off. What isn't made yet stands at no moment.
 type Marks = [Mark; 12];
 
 const NO_MARKS: Marks = [Mark {

@@ -61,7 +61,7 @@ fn have_first(replayed: &[Replayed], fewest: u64, most: u64) -> bool {
     false
 }
 
-/// How many edits have to be there behind a crash at this moment, as they were synced by then, and how many may be, as they were
+/// How many edits have to be there after a crash at this moment, as they were synced by then, and how many may be, as they were
 /// staged before the call that came to it.
 fn bounds_at(marks: &[Mark], moment: u64) -> (u64, u64) {
     let (mut fewest, mut most) = (0, 0);

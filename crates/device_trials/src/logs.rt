@@ -29,7 +29,7 @@ pub(crate) const MANY: Logs = Logs {
 /// What stands in front of an entry's number: the open gate, the kind and length of the frame, and region 1.
 const FRONT: [u8; 10] = [0xA5, 1, 0, 0, 0, 0x30, 0, 0, 0, 1];
 
-/// What stands behind it: the time 1000, and one put of row `r`, column `f:q`, timestamp 1, value `v`.
+/// What stands after it: the time 1000, and one put of row `r`, column `f:q`, timestamp 1, value `v`.
 const BEHIND: [u8; 36] = [
     0, 0, 0, 0, 0, 0, 3, 0xE8, 0, 0, 0, 1, 0, 0, 0, 0x0F, 0, 0, 0, 1, 0, 1, b'r', 1, b'f', b'q', 0,
     0, 0, 0, 0, 0, 0, 1, 4, b'v',

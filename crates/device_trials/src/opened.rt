@@ -21,7 +21,7 @@ pub(crate) const ONE_EDIT: Kept = Kept {
     next_store: 2,
 };
 
-/// What is wanted of an opening: what the regions have from region 1 on, with nothing in those behind them, and the files
+/// What is wanted of an opening: what the regions have from region 1 on, with nothing in those after them, and the files
 /// that it leaves.
 #[derive(Clone, Copy)]
 pub(crate) struct Want {
@@ -84,7 +84,7 @@ pub(crate) fn opened(alloc: Global, disk: &mut MemDisk) -> Result<&'static Recov
     Ok(Box::leak(Box::new(alloc, recovered)?))
 }
 
-/// Opens a store behind a crash or a fault: each region is to have its edits, with no log and no edits file left.
+/// Opens a store after a crash or a fault: each region is to have its edits, with no log and no edits file left.
 pub(crate) fn opens_again(
     alloc: Global,
     disk: &mut MemDisk,

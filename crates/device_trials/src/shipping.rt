@@ -12,7 +12,7 @@ use std::sync::Wait;
 use std::test::Fail;
 use std::thread::Threads;
 
-/// Behind each step of the script: how many of its edits are synced, and the position behind them.
+/// After each step of the script: how many of its edits are synced, and the position after them.
 const BEHIND: [(usize, u64, u64); 11] = [
     (0, 1, 0),
     (1, 1, 1),
@@ -36,7 +36,7 @@ const SHIPPED: [(u32, u64, u64, u64); 5] = [
     (2, 2, 2, 2),
 ];
 
-/// Ships what stands behind the recorded position in the logs that a crash at this moment leaves.
+/// Ships what stands after the recorded position in the logs that a crash at this moment leaves.
 fn ship_at<R: Threads + Wait + Sync + AllocGlobal>(
     rt: &R,
     disk: &MemDisk,
@@ -80,7 +80,7 @@ fn is_shipped(peer: &MemPeer, want: (usize, u64, u64)) -> bool {
     all
 }
 
-/// Takes a device through the script, and ships behind the steps with these numbers and at the end. Whether each ships what it has to.
+/// Takes a device through the script, and ships after the steps with these numbers and at the end. Whether each ships what it has to.
 fn ship_steps<R: Threads + Wait + Sync + AllocGlobal>(
     rt: &R,
     bench: &mut Bench<MemDisk>,

@@ -1,4 +1,4 @@
-//! An opening, a split, and the replay of one region alone behind a split. Each is stopped at each moment, and meets a fault
+//! An opening, a split, and the replay of one region alone after a split. Each is stopped at each moment, and meets a fault
 //! at each of its disk calls: the store is opened then, and nothing is lost.
 
 ghost use Rattle.std.specs.Prelude.{◌≡◌, OnOk, IfOk};
@@ -26,7 +26,7 @@ enum Step {
     Replay(u32),
 }
 
-/// The files of a store, a step, and what the regions have, from region 1 on, whenever the store is opened behind it.
+/// The files of a store, a step, and what the regions have, from region 1 on, whenever the store is opened after it.
 #[derive(Clone, Copy)]
 struct Trial {
     files: &'static [File],

@@ -1,7 +1,7 @@
 //! Worked files, as they are written.
 
 /// A log or edits file with number 1: the header, and edit 1 of region 1, a put of row `r`, column `f:q`, timestamp 1,
-/// value `v`, written at 1000; behind it a closed gate.
+/// value `v`, written at 1000; after it a closed gate.
 pub(crate) const LOG_1: &[u8] = &[
     b'H', b'W', b'L', b'1', 0, 0, 0, 2, 0, 0, 0, 0, 0, 0, 0, 1, 0xA5, 1, 0, 0, 0, 0x30, 0, 0, 0, 1,
     0, 0, 0, 0, 0, 0, 0, 1, 0, 0, 0, 0, 0, 0, 3, 0xE8, 0, 0, 0, 1, 0, 0, 0, 0x0F, 0, 0, 0, 1, 0, 1,

@@ -59,7 +59,7 @@ const STORE_OF_4: &[u8] = &[
     b'q', 0, 0, 0, 0, 0, 0, 0, 1, 4, b'v', 0, 2, b'a', b'b',
 ];
 
-/// A store of the former version, behind a crash after an edits file was written: edit 1 is flushed.
+/// A store of the former version, after a crash after an edits file was written: edit 1 is flushed.
 pub(crate) const FORMER: &[File] = &[
     (NameKind::Log, 0, 1, FORMER_LOG),
     (NameKind::Store, 1, 1, FORMER_STORE),

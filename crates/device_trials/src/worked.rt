@@ -7,7 +7,7 @@ use crate::texts::{
 };
 use disk_images::NameKind;
 
-/// A log of edit 1 in regions 1 and 2, behind a crash after the commit of the first region's edits file and before the
+/// A log of edit 1 in regions 1 and 2, after a crash after the commit of the first region's edits file and before the
 /// second one's was made.
 pub(crate) const BETWEEN_TWO_EDITS_FILES: &[File] = &[
     (NameKind::Log, 0, 1, TWO_REGIONS_LOG_1),
@@ -20,7 +20,7 @@ pub(crate) const STORED_AND_LOGGED: &[File] = &[
     (NameKind::Store, 1, 1, STORE_OF_1),
 ];
 
-/// An edits file of edit 1 of region 1, which is flushed, behind a crash before the file was removed.
+/// An edits file of edit 1 of region 1, which is flushed, after a crash before the file was removed.
 pub(crate) const ALL_FLUSHED: &[File] = &[
     (NameKind::Store, 1, 1, STORE_OF_1),
     (NameKind::Edits, 1, 1, LOG_1),

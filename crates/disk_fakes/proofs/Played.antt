@@ -99,7 +99,7 @@ after_all : (Q : DiskView → Type 0) (v : DiskView) (xs ys : List Op) → Q (af
 after_all Q v [] ys q = q
 after_all Q v (x ∷ xs) ys q = after_all Q (step v x) xs ys q
 
--- an image behind the first calls is one at that moment
+-- an image after the first calls is one at that moment
 pub at_moment : (first : Files) (ops : List Op) (moment : ℕ) (J : Files) → moment ≤ length ops → IsImageNow (after (quiet first) (take moment ops)) J → (after (quiet first) ops).image moment J
 at_moment first ops moment J le now =
     let v = after (quiet first) (take moment ops) in

@@ -96,7 +96,7 @@ module _ (arena more : List ℕ) (calls : List SafeCall) (call : SafeCall) (met 
     kept = λ t J le there. (omega (arith, le, length-append calls (call ∷ [])), subst (λ (f : Files). Same f J) (sym (then_same t le)) there.1);
   }
 
--- a view behind one call more
+-- a view after one call more
 pub carried_over : (Q : DiskView → Type 0) (arena arena_now more : List ℕ) (calls calls_now : List SafeCall) (call : SafeCall) → arena_now ≡ arena ++ more → calls_now ≡ calls ++ call ∷ [] → Q (view_in (arena ++ more) (calls ++ call ∷ [])) → Q (view_in arena_now calls_now)
 carried_over Q arena arena_now more calls calls_now call is are q =
     subst (λ (a : List ℕ). Q (view_in a calls_now)) (sym is) (subst (λ (l : List SafeCall). Q (view_in (arena ++ more) l)) (sym are) q)
@@ -105,11 +105,11 @@ pub stayed : (Q : DiskView → Type 0) (arena arena_now : List ℕ) (calls calls
 stayed Q arena arena_now calls calls_now is are q = subst (λ (a : List ℕ). Q (view_in a calls_now)) (sym is) (subst (λ (l : List SafeCall). Q (view_in arena l)) (sym are) q)
 
 module _ {T E : Type 0} (r : Result T E) (arena more : List ℕ) (calls : List SafeCall) (call : SafeCall) (met : AreMet arena no_files calls) where
-  -- the images behind the call
+  -- the images after the call
   after_call : (files : Files) → applied (arena ++ more) (files_after arena no_files calls) call ≡ files → (J : Files) → IsImageNow (view_in (arena ++ more) (calls ++ call ∷ [])) J → Same files J
   after_call files is J now = subst (λ (f : Files). Same f J) (noted_files arena more calls call met ∙ is) (now_same (arena ++ more) (calls ++ call ∷ []) J now)
 
-  -- the files behind the call
+  -- the files after the call
   there_now : (files : Files) (m : Name) → applied (arena ++ more) (files_after arena no_files calls) call ≡ files → content (files_after (arena ++ more) no_files (calls ++ call ∷ [])) m ≡ content files m
   there_now files m is = ap (λ (f : Files). content f m) (noted_files arena more calls call met ∙ is)
 

@@ -1,4 +1,4 @@
--- Files that a crash may leave now, and that the later calls need not leave behind: how a crash is played.
+-- Files that a crash may leave now, and that the later calls need not leave after: how a crash is played.
 use Rattle.std.specs.Prelude.{◌≡◌, ◌⊎◌, ◌≤◌, ◌<◌, ℕ, List, [], ◌∷◌, ◌++◌, length, is_some}
 use Rattle.log_model.specs.declared.name.Name.{Name}
 use Rattle.log_model.specs.Files.{Files, content, IsAbsent, Reads, SameBut}
@@ -41,7 +41,7 @@ pub record IsCandidate (v : DiskView) (rest : List Op) (J : Files) : Type 0 wher
   pub settled : IsSettled rest → (m : Name) → is_some (content J m) ≡ is_some (content v.files m)
   pub named : AreNamed J
 
--- behind any history at which the call meets its conditions, it takes a candidate to a candidate
+-- after any history at which the call meets its conditions, it takes a candidate to a candidate
 abbrev pub Carries : Op → List Op → Files → Files → Type 0
 Carries op rest I J =
     (first : Files) (done : List Op) → AreNamed first → MeetAll (quiet first) (done ++ op ∷ [])

@@ -27,7 +27,7 @@ abbrev pub moved_to : Files → Name → Name → Option (List ℕ) → Files
 moved_to files from to None = files
 moved_to files from to (Some c) = map.insert (map.remove files from) to c
 
--- the files behind a call
+-- the files after a call
 abbrev pub applied : List ℕ → Files → SafeCall → Files
 applied arena files (Create name) = map.insert files name []
 applied arena files (Write name at start len) = put_over files name at (text_in arena start len) (content files name)

@@ -78,7 +78,7 @@ impl Fate {
     }
 }
 
-/// The files that a crash behind these calls may leave, where the disk was quiet before them.
+/// The files that a crash after these calls may leave, where the disk was quiet before them.
 pub fn played(first: &FileTable, calls: &[Op], choice: u64) -> Result<FileTable, AllocError>
     requires named { AreNamed (files_in first.now) }
     requires met { MeetAll (quiet (files_in first.now)) calls.now }

@@ -133,7 +133,7 @@ impl History {
         }
     }
 
-    /// Writes. A write that is to fail leaves the first half of its bytes, and behind them others.
+    /// Writes. A write that is to fail leaves the first half of its bytes, and after them others.
     pub fn write_at(&mut self, name: Name, at: u64, bytes: &[u8], fails: bool) -> Result<(), Failed>
         requires { ∥ ((c : List ℕ) × Reads (history_view self.old).files name c × (at ≤ length c)) ∥₁ }
         ensures fits { OnOk result (at + length bytes.now < 2 ^ 63) }

@@ -30,7 +30,7 @@ impl Drop for MemDisk {
 
 impl MemDisk {
     /// An empty quiet disk whose calls of these kinds and numbers fail. A failed write leaves the first half of its
-    /// bytes, and behind them bytes that nobody wrote; another failed call does nothing.
+    /// bytes, and after them bytes that nobody wrote; another failed call does nothing.
     pub fn new(alloc: Global, fails: &[Fail]) -> Result<MemDisk, NoMemory>
         ensures empty { IfOk result (λ disk. (m : _) → IsAbsent (view_of disk).files m) }
         ensures none_gone { IfOk result (λ disk. (m : _) → ¬ (view_of disk).gone m) }

@@ -17,7 +17,7 @@ pub enum SafeCall {
     Remove(Name),
 }
 
-/// A file's size behind a call: known, or that of a file before the call, if it doesn't reach less far.
+/// A file's size after a call: known, or that of a file before the call, if it doesn't reach less far.
 #[derive(Clone, Copy)]
 pub enum SizeStep {
     Is(u64),
@@ -25,7 +25,7 @@ pub enum SizeStep {
     Before(Name, u64),
 }
 
-/// A file's byte behind a call: in memory, so far behind a place, or the byte of a file before the call.
+/// A file's byte after a call: in memory, so far behind a place, or the byte of a file before the call.
 #[derive(Clone, Copy)]
 pub enum ByteStep {
     At(usize, usize),

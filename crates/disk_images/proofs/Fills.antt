@@ -1,4 +1,4 @@
--- What writes behind a front leave.
+-- What writes after a front leave.
 use Rattle.std.proofs.Common.{◌≡◌, ℕ, ◌≤◌, List, ◌++◌, length, take, drop, Option, Some, None, refl, sym, ◌∙◌, ap, arith, length-append, take-append-drop}
 use Rattle.std.proofs.lemmas.List.{take_at, take-take}
 use Rattle.log_model.specs.declared.name.Name.{Name}

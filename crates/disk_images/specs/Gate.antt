@@ -6,14 +6,14 @@ use Rattle.log_model.specs.Files.{Files, content, Reads}
 use Rattle.disk_images.specs.Crash.{DiskView, IsImageNow}
 use Rattle.disk_images.specs.OneFile.{IsUnmoved}
 
--- the text has a closed gate behind this front, and anything behind that
+-- the text has a closed gate after this front, and anything after that
 pub record IsShut (front text : List ℕ) : Type 0 where
   pub gate : ℕ
   pub rest : List ℕ
   pub shut : gate ≢ OPEN_GATE
   pub is : text ≡ front ++ gate ∷ rest
 
--- in an image the gate behind this front is closed, or open with these bytes behind it
+-- in an image the gate after this front is closed, or open with these bytes after it
 abbrev pub ClosedOrOpen : List ℕ → List ℕ → Option (List ℕ) → Type 0
 ClosedOrOpen front behind image = (text : List ℕ) × (image ≡ Some text) × (IsShut front text ⊎ (text ≡ front ++ OPEN_GATE ∷ behind))
 

@@ -16,7 +16,7 @@ pub record Watches (by : ℕ) (old new : DiskView) : Type 0 where
 abbrev pub AreStanding : DiskView → List Name → Type 0
 AreStanding disk names = (m : Name) → Contains names m → m.kind ≢ kinds.Old → (J : Files) → IsImageNow disk J → content J m ≡ content disk.files m
 
--- Behind the barrier: but for old logs each image has each file as it reads, and no other. No name is gone.
+-- After the barrier: but for old logs each image has each file as it reads, and no other. No name is gone.
 pub record IsSettled (disk : DiskView) : Type 0 where
   pub stands : (J : Files) (m : Name) → IsImageNow disk J → m.kind ≢ kinds.Old → content J m ≡ content disk.files m
   pub none_gone : (m : Name) → ¬ disk.gone m

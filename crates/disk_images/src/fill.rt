@@ -1,4 +1,4 @@
-//! Filling a file behind a durable front, by several writes and one sync.
+//! Filling a file after a durable front, by several writes and one sync.
 
 ghost use Rattle.std.specs.Prelude.{◌≡◌, ◌≤◌, ◌<◌, ◌+◌, ◌^◌, ℕ, List, length, ◌++◌, IsTrue, OnOk, IsErr};
 ghost use Rattle.disk_images.specs.Crash.{Throughout, OnlyAt};
@@ -8,7 +8,7 @@ ghost use Rattle.disk_images.specs.Calls.{HasCause};
 
 use crate::{Disk, Failed, Name};
 
-/// Writes at the end of a file, behind its front. It makes one disk call.
+/// Writes at the end of a file, after its front. It makes one disk call.
 pub fn write_behind<D: Disk>(disk: &mut D, name: Name, at: u64, bytes: &[u8]) -> Result<(), Failed>
     requires filled { IsTrue D.told → ∥ ((front : List ℕ) × (text : List ℕ) × IsFilled (D.view disk.old) name front text × (at ≡ length text)) ∥₁ }
     requires some { 0 < length bytes.now }

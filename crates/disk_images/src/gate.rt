@@ -1,4 +1,4 @@
-//! The gate protocol: what stands behind a closed gate isn't there until the gate is opened.
+//! The gate protocol: what stands after a closed gate isn't there until the gate is opened.
 
 ghost use Rattle.std.specs.Prelude.{◌≡◌, ◌≤◌, ◌<◌, ◌+◌, ◌^◌, ℕ, [], ◌∷◌, ◌++◌, List, length, IsTrue, OnOk, IsErr};
 ghost use Rattle.disk_images.specs.Crash.{Throughout, OnlyAt};
@@ -9,7 +9,7 @@ ghost use Rattle.disk_images.specs.Calls.{HasCause};
 use crate::{Disk, Failed, Name, write_durably};
 use log_model::OPEN_GATE;
 
-/// Opens a closed gate, behind which these bytes are durable.
+/// Opens a closed gate, after which these bytes are durable.
 pub fn open_gate<D: Disk>(disk: &mut D, name: Name, gate: u64) -> Result<(), Failed>
     requires { IsTrue D.told
         → ∥ ((front : List ℕ) × (closed : ℕ) × (behind : List ℕ) × IsDurableFile (D.view disk.old) name (front ++ closed ∷ behind)
@@ -26,7 +26,7 @@ pub fn open_gate<D: Disk>(disk: &mut D, name: Name, gate: u64) -> Result<(), Fai
     write_durably(disk, name, gate, &[OPEN_GATE])
 }
 
-/// Writes behind a closed gate at the end of a file, and opens it. It makes four disk calls.
+/// Writes after a closed gate at the end of a file, and opens it. It makes four disk calls.
 pub fn commit_behind_gate<D: Disk>(
     disk: &mut D,
     name: Name,

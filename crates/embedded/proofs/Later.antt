@@ -17,7 +17,7 @@ later_trans p q t a b = record {
   broken = λ e. b.broken (a.broken e);
 }
 
--- what is kept beside a pass is right behind a call too
+-- what is kept beside a pass is right after a call too
 pub set_after : (name : Naming) (time regions calls more : ℕ) (first old new : Pass) → IsSetFor name time regions calls first old → IsLater old new → more ≡ new.calls
     → IsSetFor name time regions more first new
 set_after name time regions calls more first old new s later is = record {

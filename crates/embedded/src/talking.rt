@@ -17,7 +17,7 @@ use row_reader::mask;
 use std::alloc::Global;
 use std::sync::Wait;
 
-/// The row behind which the rows above this one begin: the row with a byte 0 behind it.
+/// The row after which the rows above this one begin: the row with a byte 0 after it.
 fn row_behind(alloc: Global, row: &[u8]) -> Result<Vec<u8>, NoMemory>
     ensures { IfOk result (λ behind. behind.items ≡ row.now ++ 0 ∷ []) }
 {

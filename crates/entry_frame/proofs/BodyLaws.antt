@@ -1,4 +1,4 @@
--- What is read behind the three numbers of an entry's body.
+-- What is read after the three numbers of an entry's body.
 use Rattle.std.proofs.Common.{◌≡◌, true, false, ℕ, ◌+◌, ◌-◌, ◌≤◌, List, [], ◌++◌, length, drop, slice_index, slice_range, refl, sym, ap, subst, ◌∙◌, arith, length-append}
 use Rattle.std.specs.List.{AllByRecursion}
 use Rattle.std.proofs.lemmas.List.{append-nil, nil_from_length}
@@ -105,7 +105,7 @@ to_table : (form : Form) (bytes table : List ℕ) → HasTable form bytes table 
 to_table Plain bytes table h = h
 to_table Tagged bytes table h = h
 
--- what is read behind the three numbers is the rest of the body
+-- what is read after the three numbers is the rest of the body
 pub rest_of : (form : Form) (bytes : List ℕ) (b : Batch) → IsBatchIn form bytes b → HasRest form bytes b
 rest_of form bytes b is = record { table = to_table form bytes b.table is.named; count = is.told; cells = is.cells }
 

@@ -33,7 +33,7 @@ spelling_bounds bytes h = record {
   most = ∥∥₁_elim h le_prop (λ x. subst (λ (b : List ℕ). length b ≤ 1048581) (sym x.2) (frame_bounds x.0 x.1).most);
 }
 
--- the head of a body, and what stands behind the number
+-- the head of a body, and what stands after the number
 head_of : Entry → List ℕ
 head_of e = kind_of (entry_form e) ∷ (big_bytes 4 (length (body e)) ++ big_bytes 4 e.region)
 
@@ -55,7 +55,7 @@ renumbered_frame e bytes n is =
     let len : length (body e) ≡ length (body d) = length-body e ∙ sym (length-body d) in
     (λ i. front i ++ (big_bytes 8 n ++ back i)) ∙ ap (λ (k : ℕ). (kind_of (entry_form e) ∷ (big_bytes 4 k ++ big_bytes 4 e.region)) ++ (big_bytes 8 n ++ behind_number e)) len ∙ sym (parts_of_frame d)
 
--- what stands behind kind and length of a frame is the body
+-- what stands after kind and length of a frame is the body
 pub body_behind : (bytes : List ℕ) (e : Entry) → bytes ≡ entry_frame e → take (length bytes - 5) (drop 5 bytes) ≡ body e
 body_behind bytes e is =
     between_to_end bytes 5 (length bytes) (omega arith) ∙ (ap (drop 5) is ∙ drop_at (kind_of (entry_form e) ∷ big_bytes 4 (length (body e))) (body e) 5 (omega arith))

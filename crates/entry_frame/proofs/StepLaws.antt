@@ -1,4 +1,4 @@
--- What stands at a gate stays, whatever comes behind it.
+-- What stands at a gate stays, whatever comes after it.
 use Rattle.std.proofs.Common.{◌≡◌, ◌≢◌, ℕ, ◌+◌, ◌<◌, ◌≤◌, ◌^◌, inl, inr, List, [], ◌∷◌, ◌++◌, length, take, drop, slice_index, Some, None, refl, sym, ap, subst, ◌∙◌, arith, length-append}
 use Rattle.std.proofs.lemmas.List.{append_assoc, append-nil, take_at, drop_at, take-append-le, drop-append-le, drop-drop, take-append-drop, length-drop}
 use Rattle.byteorder.specs.Endian.{big_bytes}
@@ -58,7 +58,7 @@ not_whole key count bytes gate some short = record {
       omega (arith, h.len, h.long, some_closed rest closed, short le);
 }
 
--- a whole frame that is dead is dead whatever comes behind it
+-- a whole frame that is dead is dead whatever comes after it
 pub dead_more : (key : TextKey) (count : ℕ) (bytes more : List ℕ) → slice_index (bytes ++ more) 0 ≡ 165 → 1 < length (bytes ++ more) → 7 + number_at 2 4 (bytes ++ more) ≤ length bytes → IsDead key count bytes → IsDead key count (bytes ++ more)
 dead_more key count bytes more gate some whole dead = record {
   no_stop = no_stop_at (bytes ++ more) 0 gate some;
@@ -180,7 +180,7 @@ stop_gate key count bytes gate whole stop = absurd (no_stop_at bytes 0 gate (ome
 pub fault_gate : (key : TextKey) (count : ℕ) (bytes : List ℕ) → count < 2 ^ 64 → slice_index bytes 0 ≡ 165 → 7 + number_at 2 4 bytes ≤ length bytes → IsNoFrame bytes → Gate key count bytes
 fault_gate key count bytes fits gate whole none = whole_dead key count bytes gate whole (no_frame_dead key count bytes fits none)
 
--- ---- a gate behind the entries of a file
+-- ---- a gate after the entries of a file
 
 pub next_behind : (version : ℕ) (file : FileKey) (count at : ℕ) (bytes given : List ℕ) (taken : List Entry) (step : Step) → IsVersion version → Begins (in_version version file) given taken bytes → 18 ≤ length given → 0 < length bytes
     → count ≡ length taken → at ≡ 16 + length (frames_of taken) → IsAtGate (in_version version file) count at bytes step → IsNext file bytes given taken step
@@ -206,7 +206,7 @@ next_behind version file count at bytes given taken (steps.Wait (Some where_)) k
   subst (λ (k : ℕ). IsDamaged file given k) (sym (same ∙ place)) (damaged_at_gate version file given bytes taken known begins some long (subst (λ (k : ℕ). IsDead (in_version version file) k bytes) n dead)),
 )
 
--- behind an entry
+-- after an entry
 pub next_later : (version : ℕ) (file : FileKey) (count at : ℕ) (bytes given : List ℕ) (taken : List Entry) (step : Step) → IsVersion version → 0 < count → 0 < length bytes → IsAtGate (in_version version file) count at bytes step → count ≡ length taken
     → Are (in_version version file) taken → given ≡ passed (in_version version file) taken ++ bytes → at ≡ length (passed (in_version version file) taken) → IsNext file bytes given taken step
 next_later version file count at bytes given [] step known lt some gate n each is place = absurd (omega (arith, lt, n))

@@ -10,7 +10,7 @@ use Rattle.cell_model.specs.Batch.{Batch, batch_form, head_length}
 abbrev pub form_of_kind : ℕ → Form
 form_of_kind kind = if kind == 3 then Tagged else Plain
 
--- from a place on these cells stand behind their count, 1 to 1,024, and nothing else
+-- from a place on these cells stand after their count, 1 to 1,024, and nothing else
 pub record IsCounted (form : Form) (bytes : List ℕ) (at : ℕ) (cs : List Cell) : Type 0 where
   pub given : 1 ≤ length cs
   pub count : length cs ≤ 1024
@@ -18,12 +18,12 @@ pub record IsCounted (form : Form) (bytes : List ℕ) (at : ℕ) (cs : List Cell
   pub told : number_at at 4 bytes ≡ length cs
   pub cells : drop (at + 4) bytes ≡ flat_map (spelled form) cs
 
--- the name of a tagged entry's table stands behind the three numbers, with its length in front
+-- the name of a tagged entry's table stands after the three numbers, with its length in front
 abbrev pub HasTable : Form → List ℕ → List ℕ → Type 0
 HasTable Plain bytes table = table ≡ []
 HasTable Tagged bytes table = (slice_index bytes 20 ≡ length table) × (slice_range bytes 21 (21 + length table) ≡ table)
 
--- behind the three numbers this batch stands, and its form is this one
+-- after the three numbers this batch stands, and its form is this one
 pub record IsBatchIn (form : Form) (bytes : List ℕ) (b : Batch) : Type 0 where
   pub form_is : batch_form b ≡ form
   pub given : 1 ≤ length b.cells

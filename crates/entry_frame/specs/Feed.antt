@@ -22,7 +22,7 @@ pub record Feeding : Type 0 where
   pub at : ℕ
   pub unread : List ℕ
 
--- one more whole entry of the file, with its next gate, stands behind these
+-- one more whole entry of the file, with its next gate, stands after these
 abbrev pub HasNext : FileKey → List ℕ → List Entry → Entry → Type 0
 HasNext key given taken e =
     (version : ℕ) × IsVersion version × (rest : List ℕ) × (0 < length rest) × Begins (in_version version key) given (taken ++ e ∷ []) rest
@@ -30,7 +30,7 @@ HasNext key given taken e =
 abbrev pub HasNoNext : FileKey → List ℕ → List Entry → Type 0
 HasNoNext key given taken = (e : Entry) → HasNext key given taken e → ⊥
 
--- what entries leave behind them when they are taken: the header goes with the first
+-- what entries leave after them when they are taken: the header goes with the first
 abbrev pub passed : TextKey → List Entry → List ℕ
 passed key [] = []
 passed key (e ∷ es) = header key.version key.number ++ flat_map (λ d. opened (entry_frame d)) (e ∷ es)
@@ -80,7 +80,7 @@ abbrev pub IsMemoryOrDamage : FileKey → List ℕ → FeedRefusal → Type 0
 IsMemoryOrDamage key bytes refusals.Memory = Unit {0}
 IsMemoryOrDamage key bytes (refusals.Damaged at) = IsDamaged key bytes at
 
--- so much of what was given is read, and it is below 2^63 bytes; behind an entry there is a byte
+-- so much of what was given is read, and it is below 2^63 bytes; after an entry there is a byte
 pub record IsWithin (count at read held : ℕ) : Type 0 where
   pub part : read ≤ held
   pub file : at + held < 2 ^ 63 + read

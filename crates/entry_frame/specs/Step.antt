@@ -10,13 +10,13 @@ use Rattle.entry_frame.specs.declared.step.Step.TheVariants as steps
 use Rattle.entry_frame.specs.Frame.{IsRefOf}
 use Rattle.entry_frame.specs.Feed.{HasNoNext, passed}
 
--- behind so many entries of the file the text neither ends at these bytes, nor goes on
+-- after so many entries of the file the text neither ends at these bytes, nor goes on
 pub record IsDead (key : TextKey) (count : ℕ) (bytes : List ℕ) : Type 0 where
   pub no_stop : IsStop bytes → ⊥
   pub no_entry : (e : Entry) (rest : List ℕ) → IsEntryOf key e → 0 < length rest → bytes ≡ opened (entry_frame e) ++ rest → ⊥
   pub no_end : (rest : List ℕ) → IsClosed rest → bytes ≡ opened (end_frame count) ++ rest → ⊥
 
--- what stands at a gate behind so many entries of the file
+-- what stands at a gate after so many entries of the file
 abbrev pub IsAtGate : TextKey → ℕ → ℕ → List ℕ → Step → Type 0
 IsAtGate key count at bytes (steps.Entry version entry used) =
     (version ≡ key.version) × (e : Entry) × IsEntryOf key e × IsRefOf entry e × (used < length bytes)

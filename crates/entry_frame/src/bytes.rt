@@ -13,7 +13,7 @@ use kv_cell::{Batch, NoMemory};
 use std::alloc::Global;
 use std::marker::Model;
 
-/// Kind, length and body of an entry: what stands behind its gate in a log, at most 1,048,581 bytes.
+/// Kind, length and body of an entry: what stands after its gate in a log, at most 1,048,581 bytes.
 #[derive(Debug)]
 pub struct EntryBytes {
     bytes: Vec<u8>,
@@ -92,7 +92,7 @@ impl EntryBytes {
     }
 }
 
-/// Writes the number over the one that stands behind kind, length and region.
+/// Writes the number over the one that stands after kind, length and region.
 fn write_number(bytes: &mut [u8], number: u64)
     requires { 17 ≤ length bytes.old }
     ensures { bytes.new ≡ renumbered bytes.old number }

@@ -64,7 +64,7 @@ fn version_of(bytes: &[u8], number: u64) -> Option<u32>
     None
 }
 
-/// What comes next behind so many entries of a text of this version. The bytes begin at this offset; where there is no
+/// What comes next after so many entries of a text of this version. The bytes begin at this offset; where there is no
 /// entry they begin with the header, and the version is what that tells.
 pub(crate) fn next_step(file: FileKey, version: u32, count: u64, at: u64, bytes: &[u8]) -> Step<'_>
     requires some { 0 < count → 0 < length bytes.now }
@@ -98,7 +98,7 @@ pub(crate) fn next_step(file: FileKey, version: u32, count: u64, at: u64, bytes:
     }
 }
 
-/// What comes next at a gate behind so many entries of the file, at this offset.
+/// What comes next at a gate after so many entries of the file, at this offset.
 fn step_at_gate(file: FileKey, version: u32, count: u64, at: u64, bytes: &[u8]) -> Step<'_>
     requires { 0 < length bytes.now }
     ensures { IsAtGate (in_version version (key_of file)) count at bytes.now result }

@@ -82,7 +82,7 @@ pub fn print_durable_entries(rt: &HostRuntime) -> Result<()> {
     // A staged entry is in memory alone, so it isn't in the file.
     stage_name(alloc, &mut log, 3, b"user3", b"Cid")?;
     print_log(rt, &mut disk, LOG)?;
-    // Byte 17 is the kind of the first frame, right behind its gate at 16.
+    // Byte 17 is the kind of the first frame, right after its gate at 16.
     disk.write_at(LOG, 17, b"?").map_err(DiskFault::from)?;
     print_log(rt, &mut disk, LOG)
 }

@@ -4,7 +4,7 @@
 //! What to know of Rattle to read them: memory can run out, so what allocates is passed an allocator and gives a `Result`. What
 //! the outside has (files, threads, printing) is reached through `rt`, which `main` gets. `ensures` says what a function
 //! promises and `requires` what its caller owes; both are proved when the file is compiled, and cost nothing when it runs.
-//! `state.old` is the value behind a `&mut` at the call, `state.new` that at the return.
+//! `state.old` is the value after a `&mut` at the call, `state.new` that at the return.
 #![tactic(auto)]
 
 mod clerk;

@@ -54,7 +54,7 @@ below_each k (e ∷ es) below m has = elim (first_or_later e.0 (map (λ (x : Pai
 some_name : Name
 some_name = record { kind = kinds.Log; region = 0; number = 0 }
 
--- a name is below those behind it
+-- a name is below those after it
 behind : (es : List Pair) → T (is_sorted name_cmp es) → (before after : List Name) (name : Name) → map (λ (e : Pair). e.0) es ≡ before ++ name ∷ after → (m : Name) → Contains after m → name_cmp name m ≡ Less
 behind [] sorted before after name is m has = absurd (no_list before is)
   where

@@ -17,7 +17,7 @@ pub record AreDealt (xs : List FoundEntry) (lists : List RegionEntries) : Type 0
   pub long : length lists ≡ 65
   pub same : (x : FoundEntry) → Contains (flat_map entries_in lists) x ↔ Contains xs x
 
--- an entry goes behind the others of its region, and no other list changes
+-- an entry goes after the others of its region, and no other list changes
 abbrev pub AddsTo : FoundEntry → List RegionEntries → List RegionEntries → Type 0
 AddsTo x old new =
     (list : RegionEntries) × (new ≡ slice_set old x.entry.region list)

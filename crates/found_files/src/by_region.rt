@@ -74,7 +74,7 @@ fn add_entry(list: &mut RegionEntries, entry: FoundEntry) -> Result<(), NoMemory
     Ok(())
 }
 
-/// The entries of these lists, of which there are so many, one list's behind the other's.
+/// The entries of these lists, of which there are so many, one list's after the other's.
 fn join(alloc: Global, lists: Vec<RegionEntries>, count: usize) -> Result<Vec<FoundEntry>, NoMemory>
     ensures { IfOk result (λ all. all.items ≡ flat_map entries_in lists.items) }
 {

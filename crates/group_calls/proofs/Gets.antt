@@ -9,7 +9,7 @@ use Rattle.group_servers.specs.region_calls.Answers.{scan_answer}
 use Rattle.script_handlers.specs.Getting.{IsGetOf}
 use Rattle.script_handlers.proofs.GetLaws.{got_answer}
 
--- what is made of the scan that begins at the row and ends behind it
+-- what is made of the scan that begins at the row and ends after it
 pub row_got : (name : Naming) (r : ℕ) (row from to : List ℕ) (old new : Pass) (versions : ℕ) (x : Result ScanReply NoMemory) (get : Answer) → from ≡ row → to ≡ row ++ 0 ∷ []
     → Scans name Raw r from to (scan_answer x) old new → IsGetOf versions x get → Scans name (Newest versions) r row (row ++ 0 ∷ []) get old new
 row_got name r row from to old new versions x get begins ends scanned is =

@@ -3,7 +3,7 @@
 ghost use Rattle.std.specs.Prelude.{◌≡◌, ◌≤◌};
 ghost use Rattle.group_lists.specs.Lists.{count_of};
 
-/// A value for each group, the first one's first, and as many as stand before the first that is left out. What stands behind it is of no region's
+/// A value for each group, the first one's first, and as many as stand before the first that is left out. What stands after it is of no region's
 /// group.
 #[derive(Drop)]
 pub struct GroupList<T> {

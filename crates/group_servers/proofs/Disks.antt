@@ -19,7 +19,7 @@ went_nowhere g disk = record {
   later = omega arith;
 }
 
--- a count that rose behind a later one rose
+-- a count that rose after a later one rose
 pub rose_since : (first mid last : ℕ) → first ≤ mid → Rose mid last → Rose first last
 rose_since first mid last low rose = omega (arith, low, rose)
 

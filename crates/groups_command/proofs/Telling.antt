@@ -262,7 +262,7 @@ input_undamaged P = input_cases (λ s. IsDamageOf (status_as s) P) tt (λ line w
 pub input_right : (P : ℕ → ℕ → Type 0) (status : Status) → IsInputRefusal status → IsWrongGroupOf (status_as status) P
 input_right P = input_cases (λ s. IsWrongGroupOf (status_as s) P) tt (λ line why. tt) tt
 
--- with a right script its reading was refused for want of memory, or for a fault
+-- with a right script its reading was refused for out of memory, or for a fault
 pub input_first : (fault : Option (ℕ × Why)) (it : GroupsStatus) (earlier : List GroupsStatus) → fault ≡ None → (status : Status) → IsInputRefusal status
     → IsOneScriptFault status (λ line why. fault ≡ Some (line, why)) → IsOrEarlier (status_as status) it (statuses.SourceFault ∷ earlier)
 input_first fault it earlier right =

@@ -11,7 +11,7 @@ use Rattle.groups_run.specs.group_servers.group_lists.Lists.{count_of}
 use Rattle.groups_run.specs.group_servers.Refusals.{HasNoOthers, IsWrong}
 use Rattle.groups_run.specs.Found.{value_of}
 
--- no disk stands behind one that is left out
+-- no disk stands after one that is left out
 abbrev pub InARow : {A : Type 0} → Option A → Option A → Option A → Type 0
 InARow None None None = Unit {0}
 InARow (Some x) None None = Unit {0}

@@ -79,7 +79,7 @@ refusal_line (statuses.Damaged disk damage) = one_line (ends.Damaged damage)
 refusal_line (statuses.NumbersSpent region last) = None
 refusal_line (statuses.WrongGroup disk region) = Some (refused_group disk region)
 
--- with which that line alone comes: want of memory and a fault of a disk may come with a report
+-- with which that line alone comes: out of memory and a fault of a disk may come with a report
 abbrev pub IsRefusal : GroupsStatus → Type 0
 IsRefusal statuses.Usage = Unit {0}
 IsRefusal (statuses.Script line why) = Unit {0}
@@ -135,7 +135,7 @@ abbrev pub IsScriptAt : GroupsStatus → ℕ → Why → Type 0
 IsScriptAt (statuses.Script at y) line why = (at ≡ line) × (why_of y ≡ why)
 IsScriptAt _ line why = ⊥
 
--- this status, or one that is decided before it: want of memory always is
+-- this status, or one that is decided before it: out of memory always is
 abbrev pub IsOrEarlier : GroupsStatus → GroupsStatus → List GroupsStatus → Type 0
 IsOrEarlier status it earlier = (status ≡ it) ⊎ Contains (statuses.Memory ∷ earlier) status
 

@@ -48,7 +48,7 @@ pub fn run_groups<R: Threads + Wait + Sync, D: Disk + Send, S: Source, K: Sink, 
     out: &mut K,
     gate: &G,
 ) -> GroupsOutcome<D>
-    // No disk stands behind one that is left out.
+    // No disk stands after one that is left out.
     requires { AreInARow disks }
 
     // What stands with each status.

@@ -53,7 +53,7 @@ module _ {D N : Type 0} (f : Ghosts D) (s : NameGhosts N) (g : LockGhosts N) (l 
   let_go_from P (Some o) (Some x) None p q = absurd q
   let_go_from P (Some o) (Some x) (Some d) p q = q
 
-  -- the store that was refused, or one behind it, is as it was opened
+  -- the store that was refused, or one after it, is as it was opened
   pub held : (k n : ℕ) (o : OpenedStore D) (d : D) → n ≤ k → d ≡ disk_now o → HeldOrLetGo f s g l v k n o d
   held k n o d low is = (λ _. is, λ high. absurd (omega (arith, low, high)))
 

@@ -34,7 +34,7 @@ pub struct GroupsStarted<
     pub helpers: GroupHelpers,
 }
 
-/// The refusal for want of memory at the store of this number.
+/// The refusal for out of memory at the store of this number.
 fn no_memory<D>(disk: u32, disks: GroupList<D>) -> GroupsRefusal<D>
     ensures { result ≡ (record { why = GroupsWhy.Memory; disk = disk; disks = disks }) }
 {

@@ -76,7 +76,7 @@ impl<X: Drop> Desk<X> {
         hand.badge = hand_back(table, &mut self.seat);
     }
 
-    /// As `meet`; then what the value shows stands behind the list in both records.
+    /// As `meet`; then what the value shows stands after the list in both records.
     pub fn add(&mut self, hand: &mut Hand<X>, value: &X)
         requires { OfDesk self.old hand.old }
         ensures given { 1 ≤ hand.old.number }

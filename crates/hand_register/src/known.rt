@@ -75,7 +75,7 @@ impl<X> Play<X, Known<X>> for Meets {
     ghost then = { Met };
 }
 
-/// It tells so, and puts a value behind both lists.
+/// It tells so, and puts a value after both lists.
 pub(crate) struct Adds;
 
 impl<X> Play<X, Known<X>> for Adds {

@@ -186,7 +186,7 @@ keeps_before u v w looks keeps J image = kept_before u v looks J (keeps J image)
 pub looked_only : (u v : DiskView) → Looks u v → AtEachMoment (MayKeep u) u v
 looked_only u v looks = looked (MayKeep u) u v looks (λ J now. ∣ inl now ∣₁)
 
--- at each moment of what comes behind a look
+-- at each moment of what comes after a look
 pub moments_before : (u v w : DiskView) → Looks u v → AtEachMoment (MayKeep v) v w → AtEachMoment (MayKeep u) u w
 moments_before u v w looks over = each_on (MayKeep u) u v w (looked_only u v looks) (each_then (MayKeep v) (MayKeep u) v w (kept_before u v looks) over)
 

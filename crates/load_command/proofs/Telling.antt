@@ -104,7 +104,7 @@ none_spent_here options before left region last ended =
 broken : (options : LoadOptions) (before left : DiskView) → HasEnded options before left ends.DiskFault → ∥ HasBroken options before left (ended_text (counts_of (made_script options)) 5) ⊎ HasStopped options left (ended_text (counts_of (made_script options)) 5) ∥₁
 broken options before left ended = ∥∥₁_map (ended.reported (λ e. absurd cc)) (λ h. inl (record { is = refl; report = h.0; headline = h.1 }))
 
--- the run was done, and the opening behind it met a fault
+-- the run was done, and the opening after it met a fault
 pub stopped_at : (options : LoadOptions) (before left after : DiskView) → HasEnded options before left ends.Done → IsImageNow left left.files → ((J : Files) → IsImageNow after J → IsImageNow left J ⊎ AllAlike left.files J)
     → ∥ HasBroken options before after (ended_text (counts_of (made_script options)) 5) ⊎ HasStopped options after (ended_text (counts_of (made_script options)) 5) ∥₁
 stopped_at options before left after ended now either = ∥∥₁_map (ended.reported (λ e. absurd cc)) (λ h. inr (stopped options before left after h.0 ended.right ended.empty h.1 now either))
@@ -122,7 +122,7 @@ broken_ends result options text script had has before left rose cut (inr (inr si
     let said : Prints had has text (result ≡ ends.SinkFault) = printed (λ e. let no : ends.SinkFault ≡ ends.Memory = sym sink ∙ e in absurd cc) in
     subst (λ (s : Status). EndsLoad s options (invocation script before left had has) rose cut) (sym sink) (text, taken_begins had has text _ said, Failed rise stands)
 
--- a status of a run that is neither done nor want of memory
+-- a status of a run that is neither done nor out of memory
 pub unfinished_ends : (status result : Status) (options : LoadOptions) (counts : CallCounts) (script had has : List ℕ) (before left : DiskView) (rose cut : Type 0) → IsDecided status → (status ≡ ends.Done → ⊥) → (status ≡ ends.Memory → ⊥)
     → IsPrintedAs status result → counts ≡ counts_of (made_script options) → HasEnded options before left status → (status ≡ ends.DiskFault → rose)
     → (result ≢ ends.Memory → Prints had has (ended_text counts (exit_status status)) (result ≡ ends.SinkFault)) → (result ≡ ends.Memory → Prints had has refused_memory cut)
@@ -146,7 +146,7 @@ unfinished_ends (ends.NoPosition number entries) result options counts script ha
 pub decided_told : (status : Status) → IsDecided status → status ≡ ends.SinkFault → ⊥
 decided_told status may is = subst IsDecided is may
 
--- printed as such a status, with no refusal but want of memory
+-- printed as such a status, with no refusal but out of memory
 pub unfinished_refusal : (status result : Status) (had has : List ℕ) (cut : Type 0) → IsDecided status → (status ≡ ends.Memory → ⊥) → IsPrintedAs status result → (result ≡ ends.Memory → Prints had has refused_memory cut) → IsRefusal result
     → (text : List ℕ) → refusal_line result ≡ Some text → Prints had has text cut
 unfinished_refusal status result had has cut may found (inl same) refused is text line = absurd (no_refusal status may found (subst IsRefusal same is))

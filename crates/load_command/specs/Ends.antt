@@ -12,7 +12,7 @@ use Rattle.command_base.specs.Status.{exit_status}
 use Rattle.command_base.specs.declared.status.Status.{Status}
 use Rattle.command_base.specs.declared.status.Status.TheVariants as ends
 
--- What stands with a text that is its output. Where want of memory alone is told, each image was one before, or has the cells that were there
+-- What stands with a text that is its output. Where out of memory alone is told, each image was one before, or has the cells that were there
 -- before and no other ones of their numbers. Where a fault of the disk alone is told, nothing was run: at each moment each image was one before or
 -- recovers alike.
 abbrev pub loads : LoadOptions → Invocation → Effects

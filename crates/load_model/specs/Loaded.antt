@@ -43,7 +43,7 @@ pub record HasBroken (options : LoadOptions) (before after : DiskView) (text : L
   pub report : List ℕ
   pub headline : IsHeadline (made_script options) before after 5 report
 
--- The run was done, and a fault of the disk ended the opening behind it: every crash still leaves, region by region, exactly the cells of the puts.
+-- The run was done, and a fault of the disk ended the opening after it: every crash still leaves, region by region, exactly the cells of the puts.
 pub record HasStopped (options : LoadOptions) (after : DiskView) (text : List ℕ) : Type 0 where
   pub is : text ≡ ended_text (counts_of (made_script options)) 5
   pub edits : ℕ → List Edit

@@ -69,7 +69,7 @@ dump n = record plain {
   ready = λ script found. (name : Name) (at : ℕ) → IsDumped found n name → IsDamagedLog found name at → ⊥;
 }
 
--- Its line stands behind what was shipped. It takes any store, so where nothing fails it may also end with damage, or where there is
+-- Its line stands after what was shipped. It takes any store, so where nothing fails it may also end with damage, or where there is
 -- no such position.
 abbrev pub ship : Position → Profile
 ship p = record plain {

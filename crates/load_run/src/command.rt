@@ -46,7 +46,7 @@ pub fn run<R: Threads + Wait + Sync, D: Disk + Send, S: Source, K: Sink, G: Gate
     ensures ends { IsTrue S.told → IsTrue D.told → IsTrue K.told → (word : TheWord) → word_of (map (λ w. w.now) words.now) ≡ Some word
         → (profile word).ends result.status (invocation (S.left script.old) (D.view disk) (D.view result.disk) (K.taken out.old) (K.taken out.new))
         (Rose (D.faults disk) (D.faults result.disk)) (Rose (K.faults out.old) (K.faults out.new)) }
-    // A refusal is one line, whole unless the sink fails. That of `ship` stands behind what was shipped.
+    // A refusal is one line, whole unless the sink fails. That of `ship` stands after what was shipped.
     ensures refusal { IsTrue K.told → (profile_of (word_of (map (λ w. w.now) words.now))).line result.status
         → (text : List ℕ) → refusal_line result.status ≡ Some text
         → Prints (K.taken out.old) (K.taken out.new) text (Rose (K.faults out.old) (K.faults out.new)) }

@@ -22,7 +22,7 @@ pub enum Word {
     Show,
     /// Prints the entries of the log of this number as they stand in its file.
     Dump { number: u64 },
-    /// Prints the entries that stand behind this position in the logs, and records between them.
+    /// Prints the entries that stand after this position in the logs, and records between them.
     Ship { from: Position },
     /// Opens a store, and prints how far each region goes.
     Recover,

@@ -20,6 +20,6 @@ number_said app m words name n is has number =
     let rows : rows_of (found_of m) ≡ matches_of load_app words = (has (ap is_simple is ∙ simple)).0 ∙ ap (λ a. matches_of a words) is in
     (number.0, sym (one_text-rows (found_of m) name ∙ ap (one_of name) rows) ∙ number.1, number.2)
 
--- where no kind of error is left, only want of memory fails
+-- where no kind of error is left, only out of memory fails
 pub free : (app : App) → app ≡ load_app → is_simple_and_free app ≡ true
 free app is = ap is_simple_and_free is ∙ simple_and_free

@@ -1,4 +1,4 @@
--- The command that reads the words behind `load`, and what it makes of them.
+-- The command that reads the words after `load`, and what it makes of them.
 use Rattle.std.specs.Prelude.{◌≡◌, ℕ, ◌≤◌, List, [], ◌∷◌, true, false, Option, Some, None, codes, pos}
 use Rattle.std.specs.Str.Parse.{digits_value, without_leading_plus}
 use Rattle.clap.specs.Words.{App, Rule, Text, new_app, new_rule, with_rule, app_of, rule_of, fault_of, matches_of, one_of, one_text, found_of, IsPlain, IsPlainArg, IsParsedFrom}

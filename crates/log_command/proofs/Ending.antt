@@ -143,7 +143,7 @@ pub may_leave : (text : List ℕ) (script : Script) (v : DiskView) → Says Log 
 may_leave text script v says J (inl was) = inl was
 may_leave text script v says J (inr first) = inr (script, says, first)
 
--- ---- the writing behind a look
+-- ---- the writing after a look
 
 others_from : (u v w : DiskView) → Looks u v → SameBut (log_name 1) v.files w.files → SameBut (log_name 1) u.files w.files
 others_from u v w looks others m other = others m other ∙ (unchanged u v looks).files m
@@ -188,7 +188,7 @@ ends_from (ends.NoPosition number entries) script had has u v w late early sank 
 pub looked_only : (text : List ℕ) (u v : DiskView) → Looks u v → AtEachMoment (LogMayLeave text u) u v
 looked_only text u v looks = looked (LogMayLeave text u) u v looks (λ J now. inl now)
 
--- at each moment of the writing behind a look
+-- at each moment of the writing after a look
 pub moments_from : (text : List ℕ) (u v w : DiskView) → Looks u v → AtEachMoment (LogMayLeave text v) v w → AtEachMoment (LogMayLeave text u) u w
 moments_from text u v w looks over = each_on (LogMayLeave text u) u v w (looked_only text u v looks) (each_then (LogMayLeave text v) (LogMayLeave text u) v w earlier over) where
   earlier : (J : Files) → LogMayLeave text v J → LogMayLeave text u J

@@ -5,7 +5,7 @@ use Rattle.log_model.specs.Entry.{IsEntry, entry_frame}
 use Rattle.region_model.specs.Calls.{Call}
 use Rattle.log_command.specs.Logged.{entries_from}
 
--- the frames of the calls' puts stand behind those that were there, and are numbered on from them
+-- the frames of the calls' puts stand after those that were there, and are numbered on from them
 pub record Framed (time : ℕ) (before frames : List (List ℕ)) (calls : List Call) : Type 0 where
   pub framed : frames ≡ before ++ map entry_frame (entries_from time (length before + 1) calls)
   pub entries : AllByRecursion IsEntry (entries_from time (length before + 1) calls)

@@ -1,4 +1,4 @@
--- The entries of calls, one list of calls behind the other.
+-- The entries of calls, one list of calls after the other.
 use Rattle.std.proofs.Common.{◌≡◌, ◌<◌, ◌≤◌, ℕ, suc, ◌+◌, ◌*◌, All, List, [], ◌∷◌, ◌++◌, map, length, take, get_or, sym, ap, subst, ◌∙◌, arith}
 use Rattle.std.proofs.lemmas.List.{append_assoc, append-nil, length-append, length-map, map-append, map_more, get_or-map, take_more, take_all}
 use Rattle.std.proofs.lemmas.Grind.{flat_map-append}

@@ -61,7 +61,7 @@ abbrev pub faults : ℕ → ℕ → List ReplyLine
 faults n zero = []
 faults n (suc count) = put_reply n (PutFault None) ∷ faults (n + 1) count
 
--- of so many puts the first ones answer ok, the next one a fault with its number, and those behind it a fault
+-- of so many puts the first ones answer ok, the next one a fault with its number, and those after it a fault
 abbrev pub stopped_replies : ℕ → ℕ → List ReplyLine
 stopped_replies count done = oks 1 done ++ put_reply (done + 1) (PutFault (Some (done + 1))) ∷ faults (done + 2) (count - (done + 1))
 
@@ -76,7 +76,7 @@ pub record LogDone (o : Invocation) (text : List ℕ) : Type 0 where
   pub alone : (J : Files) → IsImageNow o.after J → IsAlone J
   pub is : text ≡ replies_text (oks 1 (length (entries_in script))) 0
 
--- A fault ended the log in the put behind the first ones: these are in each image, and that put may be.
+-- A fault ended the log in the put after the first ones: these are in each image, and that put may be.
 pub record LogFailed (o : Invocation) (text : List ℕ) : Type 0 where
   pub script : Script
   pub says : Says Log o.script script

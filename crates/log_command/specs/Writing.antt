@@ -8,7 +8,7 @@ use Rattle.log_command.specs.Logged.{LogHolds, HasFirst}
 use Rattle.log_command.specs.declared.writing.Written.{Written}
 use Rattle.log_command.specs.declared.writing.Written.TheVariants.{Nothing, Stopped, Whole}
 
--- where it stopped behind the first entries, each image has these, or one more
+-- where it stopped after the first entries, each image has these, or one more
 abbrev pub IsStopped : Written → DiskView → List Entry → Type 0
 IsStopped Nothing disk entries = Unit {0}
 IsStopped (Stopped done) disk entries = (done < length entries) × ((J : Files) → IsImageNow disk J → LogHolds J (take done entries) ⊎ LogHolds J (take (done + 1) entries))

@@ -36,7 +36,7 @@ pub fn put_all_ok(out: &mut Vec<u8>, count: usize)
     put_line(out, &end_line(0));
 }
 
-/// The replies where the disk failed in the put behind the first `done` ones.
+/// The replies where the disk failed in the put after the first `done` ones.
 pub fn put_stopped(out: &mut Vec<u8>, count: usize, done: usize)
     requires few { count ≤ 268435456 }
     requires fewer { done < count }

@@ -77,7 +77,7 @@ fn add_frames(
     Ok(())
 }
 
-/// Adds the frame of a put, numbered behind those that are there. Other calls have none.
+/// Adds the frame of a put, numbered after those that are there. Other calls have none.
 fn add_frame(
     alloc: Global,
     time: u64,

@@ -59,7 +59,7 @@ module _ (file : OpenLog) (v : DiskView) (h : History) (b : Numbers) (keeps : Ke
             (recovers_all h.kept v.files J like keeps.orderly given now.like)
       ]) over
 
-  -- behind the commit
+  -- after the commit
   pub leaves_behind : (w : DiskView) → IsLike (committed h.kept) w.files → (J : Files) → Leaves b.stored b.closed w.files [] J → Left J
   leaves_behind w now J left = record { recovers = recovers_behind h.kept v.files w.files J like keeps.orderly given now left.recovers; in_stores = left.in_stores; in_last_log = left.in_last_log }
 

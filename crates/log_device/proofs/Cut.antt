@@ -1,4 +1,4 @@
--- What is cut of the kept entries, and the numbers behind a flush.
+-- What is cut of the kept entries, and the numbers after a flush.
 use Rattle.std.proofs.Common.{◌≡◌, inl, inr, ℕ, ◌+◌, ◌<◌, ◌≤◌, List, get_or, set, length, refl, ap, ◌∙◌, arith}
 use Rattle.std.proofs.lemmas.Bool.{cases_eq, cases_lt}
 use Rattle.std.proofs.lemmas.List.{get_or-set_same, get_or-set_other, get_or_past}

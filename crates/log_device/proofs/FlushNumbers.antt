@@ -13,7 +13,7 @@ use Rattle.log_device.proofs.Results.{then}
 use Rattle.log_device.proofs.Syncing.{rest_file, none_fell_behind}
 use Rattle.log_device.proofs.Told.{IsTold}
 
--- behind a commit
+-- after a commit
 pub numbers_behind : {D : Type 0} (r : ℕ) (family : Option (List ℕ)) (result : Result ℕ DeviceFlush) (old mid new : Device D) → numbers_of mid ≡ record (numbers_of old) { synced = (numbers_of old).drawn }
     → ((q : ℕ) → get_or (numbers_of old).synced q 0 ≤ get_or (numbers_of mid).synced q 0) → ((limit : ℕ) → AreStoresFew limit (numbers_of old) → AreStoresFew limit (numbers_of mid)) → ((file : OpenLog) → log_of old ≡ Some file → IsCommitted file (log_of mid))
     → FlushesNumbers r family result mid new → FlushesNumbers r family result old new

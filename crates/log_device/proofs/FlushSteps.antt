@@ -62,7 +62,7 @@ still_flushes {D} g h r family result old new sound whole same failed nothing af
       lower = λ file is k low. ap (λ (d : D). bytes_of (g.view d).files k) same;
     }
 
--- behind a commit
+-- after a commit
 pub flushes_behind : {D E : Type 0} (g : Ghosts D) (h : History) (r : ℕ) (family : Option (List ℕ)) (first : Result ℕ E) (result : Result ℕ DeviceFlush) (old mid new : Device D) → IsTrueDisk (view_of g old) → IsTrueDisk (view_of g mid)
     → HasHistory g old h → HasHistory g mid (committed_in h) → numbers_of mid ≡ record (numbers_of old) { synced = (numbers_of old).drawn } → ((file : OpenLog) → log_of old ≡ Some file → IsCommitted file (log_of mid))
     → Syncs g h first old mid → FlushesFrom g [] (committed_in h) r family result mid new → Flushes g h r family result old new

@@ -31,7 +31,7 @@ numbered_still file now b after is name count drawn last =
       later = omega (arith, is.later, number, last);
     }
 
--- the next file begins behind one that has an entry
+-- the next file begins after one that has an entry
 pub numbered_next : (file now : OpenLog) (b after : Numbers) → IsNumbered file b → 0 < file.entries → now.name ≡ log_name (file.name.number + 1) → now.entries ≡ 0 → now.staged ≡ 0 → sum after.drawn ≡ sum b.drawn → after.accounts.last ≡ file.name.number → IsNumbered now after
 numbered_next file now b after is some name none idle drawn last =
     let number : now.name.number ≡ file.name.number + 1 = ap (λ (n : Name). n.number) name in record {

@@ -17,7 +17,7 @@ use Rattle.log_device.proofs.Results.{after, then, err_same}
 use Rattle.log_device.proofs.Syncing.{none_fell, none_fell_behind}
 use Rattle.log_device.proofs.RollSteps.{memory_apart, fault_apart}
 
--- behind the commit
+-- after the commit
 pub numbers_behind : {D : Type 0} (result : Result Rolled RollRefusal) (old mid new : Device D) → numbers_of mid ≡ record (numbers_of old) { synced = (numbers_of old).drawn } → ((q : ℕ) → get_or (numbers_of old).synced q 0 ≤ get_or (numbers_of mid).synced q 0)
     → ((limit : ℕ) → AreStoresFew limit (numbers_of old) → AreStoresFew limit (numbers_of mid)) → ((file : OpenLog) → log_of old ≡ Some file → IsCommitted file (log_of mid)) → RollsNumbers result mid new → RollsNumbers result old new
 numbers_behind result old mid new same rises few files said =

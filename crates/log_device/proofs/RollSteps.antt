@@ -91,7 +91,7 @@ still_rolls {D} g h result old new sound whole same failed history =
       lower = λ file is k low. ap (λ (d : D). bytes_of (g.view d).files k) same;
     }
 
--- the next file was begun, or that was tried, behind what changed no file
+-- the next file was begun, or that was tried, after what changed no file
 pub rolls_by : {D T E : Type 0} (g : Ghosts D) (h : History) (first : Result T E) (result : Result Rolled RollRefusal) (old mid new : Device D) (whole : HasHistory g old h) → disk_of mid ≡ disk_of old → (numbers_of mid).stored ≡ (numbers_of old).stored
     → (numbers_of mid).closed ≡ (numbers_of old).closed → (numbers_of mid).next_store ≡ (numbers_of old).next_store → BeginsNext g h whole.file first mid new
     → IfOk result (λ rolled. HasHistory g new (closed_in h rolled.closed) × (rolled.entries ≡ length h.current)) → OnErr result ((IsBroken new → ⊥) → HasHistory g new h) → RollsFrom g 7 [] h result old new
@@ -117,7 +117,7 @@ rolls_by {D} g h first result old mid new whole disk stored closed stores begins
     }
 
 module _ {D E : Type 0} (g : Ghosts D) (h : History) (first : Result ℕ E) (old mid : Device D) (sync : Syncs g h first old mid) where
-  -- the names of a commit, and of what comes behind it
+  -- the names of a commit, and of what comes after it
   more_names : (file : OpenLog) → log_of old ≡ Some file → EachImage g (Bears h.kept.base (numbers_of old).next_store (file.name.number + 1)) 4 old mid
   more_names file is =
       let ns = (numbers_of old).next_store in
@@ -143,7 +143,7 @@ module _ {D E : Type 0} (g : Ghosts D) (h : History) (first : Result ℕ E) (old
         lower = sync.lower;
       }
 
-  -- behind the commit
+  -- after the commit
   pub rolls_behind : (result : Result Rolled RollRefusal) (new : Device D) → IsTrueDisk (view_of g old) → IsTrueDisk (view_of g mid) → HasHistory g old h → HasHistory g mid (committed_in h)
       → numbers_of mid ≡ record (numbers_of old) { synced = (numbers_of old).drawn } → ((file : OpenLog) → log_of old ≡ Some file → IsCommitted file (log_of mid)) → RollsFrom g 7 [] (committed_in h) result mid new → Rolls g h result old new
   rolls_behind result new sound sound_mid whole now same files said =

@@ -1,4 +1,4 @@
--- A commit, and what stands behind it.
+-- A commit, and what stands after it.
 use Rattle.std.proofs.Common.{◌≡◌, ◌≤◌, ℕ, List, ◌++◌, Result, Ok, Err, Some, get_or, IsErr, IsTrue, OnOk, refl, sym, ap, ◌∙◌, subst, arith}
 use Rattle.std.proofs.Math.Logic.{∥∥₁_map}
 use Rattle.disk_images.specs.Calls.{IsTrueDisk}

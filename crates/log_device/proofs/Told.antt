@@ -1,4 +1,4 @@
--- What is told of regions behind a flush.
+-- What is told of regions after a flush.
 use Rattle.std.proofs.Common.{◌≡◌, ◌≢◌, ◌↔◌, inl, inr, ℕ, ◌+◌, ◌≤◌, ◌<◌, Bool, true, false, not, List, [], length, set, Contains, Option, None, Some, IfSome, is_some, option_copied, Bor, get_or, refl, sym, ap, ◌∙◌, subst, arith}
 use Rattle.std.proofs.lemmas.Bool.{cases_eq, cases_lt}
 use Rattle.std.proofs.lemmas.List.{get_or-set_same, get_or-set_other, get_or_past}
@@ -123,7 +123,7 @@ kept_told r n family old new none place stored low = subst (λ (f : Option (List
 pub same_told_of : (r n : ℕ) (family : Option (List ℕ)) (f : List ℕ) (old : Numbers) → family ≡ Some f → IsTold r family n old old
 same_told_of r n family f old some = subst (λ (g : Option (List ℕ)). IsTold r g n old old) (sym some) (told_one r n f old old refl)
 
--- behind a flush what is told of a region is its last committed number, or as it was
+-- after a flush what is told of a region is its last committed number, or as it was
 pub told_after : (r n : ℕ) (family : Option (List ℕ)) (old new : Numbers) (h : History) → IsTold r family n old new → n ≡ lasts h.kept.first h.kept.durable r → ((q : ℕ) → get_or old.stored q 0 ≤ lasts h.kept.first h.kept.durable q)
     → (q : ℕ) → get_or new.stored q 0 ≤ lasts h.kept.first h.kept.durable q
 told_after r n None old new h told is was q = elim (cases_eq q r) as (λ _. get_or new.stored q 0 ≤ lasts h.kept.first h.kept.durable q) [

@@ -2,7 +2,7 @@
 //!
 //! Entries are staged, `sync` makes them durable, `roll` goes on to the next file, `flush` puts a region's entries into a
 //! store file, and `archive` takes wholly flushed logs away. At each moment of each call every crash image recovers to
-//! the files as they read with the first of the staged entries, and behind an Ok with all of them. The three numbers of a
+//! the files as they read with the first of the staged entries, and after an Ok with all of them. The three numbers of a
 //! region, `synced`, `stored` and `closed`, say what is so of every image from then on. The first fault breaks a device,
 //! and a broken device makes no disk call.
 //!

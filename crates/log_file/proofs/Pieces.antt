@@ -38,6 +38,6 @@ pub first_read : (new piece old : List ℕ) (n left room : ℕ) → new ≡ take
 first_read new piece old n left room is count size =
     ap (take n) is ∙ take_at (take n piece) old n (length-take n piece ∙ omega (arith, count, size))
 
--- how many bytes are read behind so many
+-- how many bytes are read after so many
 pub more_read : (given piece : List ℕ) (at n : ℕ) → length given ≡ at → n ≤ length piece → length (given ++ take n piece) ≡ at + n
 more_read given piece at n so_far le = omega (arith, length-append given (take n piece), length-take n piece, so_far, le)

@@ -9,7 +9,7 @@ use Rattle.log_model.specs.Files.{key_of}
 use Rattle.log_file.specs.LogText.{front, behind_gate, behind_end, at_rest, ended_text}
 use Rattle.log_file.specs.Open.{AreEntriesOf}
 
--- whole entry frames, each behind an open gate
+-- whole entry frames, each after an open gate
 abbrev frames : List Entry → List ℕ
 frames es = flat_map (λ (e : Entry). opened (entry_frame e)) es
 
@@ -29,7 +29,7 @@ text_with : (name : Name) (es : List Entry) (rest : List ℕ) (ended : Option �
 unfolding front
 text_with name es rest ended each ends = inr (inr (rest, record { is = append_assoc (header 2 name.number) (frames es) rest; each = each }, ends))
 
--- behind a closed gate anything may stand
+-- after a closed gate anything may stand
 pub text_closed : (name : Name) (es : List Entry) (gate : ℕ) (rest : List ℕ) → AreEntriesOf name es → gate ≢ 165 → IsLogText (key_of name) (front name.number es ++ gate ∷ rest) es None
 text_closed name es gate rest each shut = text_with name es (gate ∷ rest) None each (inl shut)
 
@@ -46,7 +46,7 @@ pub entries_ended : (name : Name) (es : List Entry) → AreEntriesOf name es →
 unfolding behind_end
 entries_ended name es each = text_with name es (165 ∷ behind_end (length es)) (Some (length es)) each (refl, (0 ∷ [], refl, zero_shut))
 
--- an opened gate shows the batch that stands behind it
+-- an opened gate shows the batch that stands after it
 pub opened_batch : (number : ℕ) (es batch : List Entry) → 0 < length batch → front number es ++ 165 ∷ behind_gate batch ≡ at_rest number (es ++ batch)
 unfolding front behind_gate
 opened_batch number es [] some = absurd (omega (arith, some))
@@ -54,7 +54,7 @@ opened_batch number es (b ∷ batch) some =
     sym (append_assoc (header 2 number ++ frames es) (frames (b ∷ batch)) (0 ∷ []))
     ∙ ap (λ (l : List ℕ). l ++ 0 ∷ []) (append_assoc (header 2 number) (frames es) (frames (b ∷ batch)) ∙ ap (λ (l : List ℕ). header 2 number ++ l) (sym (frames-append es (b ∷ batch))))
 
--- one more frame behind a gate
+-- one more frame after a gate
 pub one_staged : (batch : List Entry) (e : Entry) (frame old new : List ℕ) → frame ≡ entry_frame e → old ≡ behind_gate batch
     → (old ≡ [] → new ≡ frame ++ 0 ∷ []) → ((before : List ℕ) → old ≡ before ++ 0 ∷ [] → new ≡ before ++ 165 ∷ (frame ++ 0 ∷ [])) → new ≡ behind_gate (batch ++ e ∷ [])
 unfolding behind_gate

@@ -1,4 +1,4 @@
--- The text of a log file in parts, as it is written: up to a gate, and behind it.
+-- The text of a log file in parts, as it is written: up to a gate, and after it.
 use Rattle.std.specs.Prelude.{ℕ, List, [], ◌∷◌, ◌++◌, length}
 use Rattle.std.specs.List.{flat_map}
 use Rattle.log_model.specs.declared.format.TheConstants.{OPEN_GATE}
@@ -9,13 +9,13 @@ use Rattle.log_model.specs.LogText.{header, opened}
 unfoldable pub front : ℕ → List Entry → List ℕ
 front number entries = header 2 number ++ flat_map (λ e. opened (entry_frame e)) entries
 
--- what is written behind a closed gate to add these entries: the first one's frame, the others behind open gates, and a
+-- what is written after a closed gate to add these entries: the first one's frame, the others after open gates, and a
 -- closed gate
 unfoldable pub behind_gate : List Entry → List ℕ
 behind_gate [] = []
 behind_gate (e ∷ es) = entry_frame e ++ flat_map (λ d. opened (entry_frame d)) es ++ 0 ∷ []
 
--- what is written behind a closed gate to end a file of so many entries: an end frame, and a closed gate
+-- what is written after a closed gate to end a file of so many entries: an end frame, and a closed gate
 unfoldable pub behind_end : ℕ → List ℕ
 behind_end count = end_frame count ++ 0 ∷ []
 

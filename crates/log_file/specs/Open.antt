@@ -10,7 +10,7 @@ use Rattle.log_model.specs.Files.{key_of}
 use Rattle.recovery_laws.specs.Change.{HasText}
 use Rattle.log_file.specs.LogText.{front, behind_gate, at_rest}
 
--- its name, the place of its next gate, the number of its entries, and what is staged behind that gate: the bytes, and
+-- its name, the place of its next gate, the number of its entries, and what is staged after that gate: the bytes, and
 -- how many entries they are
 pub record OpenLog : Type 0 where
   pub name : Name

@@ -17,7 +17,7 @@ use file_base::{DiskFault, FileRefusal};
 use std::alloc::Global;
 use std::marker::Model;
 
-/// A log file that is written: its next gate stands closed, and the stage's bytes go behind it.
+/// A log file that is written: its next gate stands closed, and the stage's bytes go after it.
 #[derive(Debug, Drop)]
 pub struct LogFile {
     name: Name,
@@ -140,7 +140,7 @@ impl LogFile {
         if count == 0 {
             return Ok(0);
         }
-        // Until the second sync a crash leaves the gate closed, or open with the whole batch behind it, which is durable
+        // Until the second sync a crash leaves the gate closed, or open with the whole batch after it, which is durable
         // by the first sync.
         commit_behind_gate(disk, self.name, self.gate, self.stage.as_slice())?;
         self.gate += self.stage.as_slice().len() as u64;
@@ -165,7 +165,7 @@ impl LogFile {
         // When it fails.
         ensures cause { HasCause (D.faults disk.old) (D.faults disk.new) (IsErr result) }
     {
-        // The end frame goes behind the gate as a batch of one.
+        // The end frame goes after the gate as a batch of one.
         commit_behind_gate(disk, self.name, self.gate, &end_text(self.entries))?;
         Ok(self.entries)
     }

@@ -145,7 +145,7 @@ impl Reading {
                 break;
             }
             at += n as u64;
-            // What stands behind the text's end is no part of it, however much there is.
+            // What stands after the text's end is no part of it, however much there is.
             if self.feed.has_ended() {
                 break;
             }

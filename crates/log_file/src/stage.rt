@@ -56,7 +56,7 @@ impl Stage {
         self.bytes.len() >= STAGE_BYTES || len >= STAGE_BYTES - self.bytes.len()
     }
 
-    /// Adds a frame, for which there is room, behind the last gate, which it opens, and a closed gate behind it.
+    /// Adds a frame, for which there is room, after the last gate, which it opens, and a closed gate after it.
     pub(crate) fn add(&mut self, frame: &[u8])
         requires { length self.old + length frame.now + 1 ≤ 4194304 }
         ensures first { self.old ≡ [] → self.new ≡ frame.now ++ 0 ∷ [] }
@@ -73,7 +73,7 @@ impl Stage {
     }
 }
 
-/// Adds a frame behind bytes whose last one is a gate.
+/// Adds a frame after bytes whose last one is a gate.
 fn add_frame(bytes: &mut Vec<u8>, frame: &[u8])
     requires { vec_len bytes.old + length frame.now + 1 ≤ vec_capacity bytes.old }
     ensures first { bytes.old.items ≡ [] → bytes.new.items ≡ frame.now ++ 0 ∷ [] }

@@ -18,7 +18,7 @@ use Rattle.log_halves.specs.Ties.{KeepsNumbers}
 pub stored_on : (a b : Numbers) → b.stored ≡ a.stored → ((r : ℕ) → get_or a.synced r 0 ≤ get_or b.synced r 0) → AreStoredSynced a → AreStoredSynced b
 stored_on a b same later low r = let is = ap (λ (l : List ℕ). get_or l r 0) same in omega (arith, is, later r, low r)
 
--- behind a flush
+-- after a flush
 module _ {D : Type 0} (r : ℕ) (family : Option (List ℕ)) (old new : Device D) (low : AreStoredSynced (numbers_of old)) where
   there : (result : Result ℕ DeviceFlush) (f : Option (List ℕ)) → f ≡ family → FlushesNumbers r family result old new → (IsBroken new → IsErrOf result refusals.WriteFault) → get_or (numbers_of new).stored r 0 ≤ get_or (numbers_of new).synced r 0
   there result (Some f) one said broken = stored_on (numbers_of old) (numbers_of new) (said.stored_of_one f (sym one)) said.later.synced low r

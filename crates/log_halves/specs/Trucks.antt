@@ -21,11 +21,11 @@ abbrev pub size_of : List Held → ℕ
 size_of [] = 0
 size_of (t ∷ ts) = (length t.bytes + 1) + size_of ts
 
--- the last number of each region, behind one more truck
+-- the last number of each region, after one more truck
 abbrev pub onward : (ℕ → ℕ) → Held → ℕ → ℕ
 onward last t r = if t.region == r then t.number else last r
 
--- the last number of each region, behind these trucks
+-- the last number of each region, after these trucks
 abbrev pub come_to : (ℕ → ℕ) → List Held → ℕ → ℕ
 come_to last [] = last
 come_to last (t ∷ ts) = come_to (onward last t) ts

@@ -1,4 +1,4 @@
-//! A device's roll and flush, with the closed logs that may go behind them.
+//! A device's roll and flush, with the closed logs that may go after them.
 ghost use Rattle.std.specs.Prelude.{◌≡◌, ◌+◌, ◌<◌, ◌≤◌, ◌↔◌, ℕ, length, Some, Err, IsTrue, IfOk, IfSome, OnOk, IsErrOf};
 ghost use Rattle.std.specs.Option.{option_map};
 ghost use Rattle.crossbeam_queue.specs.Passes.{view};

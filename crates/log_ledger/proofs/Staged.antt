@@ -23,7 +23,7 @@ use Rattle.log_ledger.proofs.Logs.{counted_logs}
 use Rattle.log_ledger.proofs.Families.{and_both, family_noted, noted_family, noted_as}
 use Rattle.log_ledger.proofs.Steps.{StagedBy, flushed_same}
 
--- one entry more, behind those that were current or staged
+-- one entry more, after those that were current or staged
 joined : (h : History) (e : Entry) → (h.current ++ h.kept.staged) ++ e ∷ [] ≡ h.current ++ (h.kept.staged ++ e ∷ [])
 joined h e = append_assoc h.current h.kept.staged (e ∷ [])
 

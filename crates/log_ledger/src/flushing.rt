@@ -90,7 +90,7 @@ impl Ledger {
     }
 }
 
-/// What is stored of a region behind a flush with this room.
+/// What is stored of a region after a flush with this room.
 fn stored_by(room: &FlushRoom, number: u64, stored: u64) -> u64
     ensures all { room.now ≡ [] → result ≡ number }
     ensures one { room.now ≢ [] → result ≡ stored }

@@ -89,7 +89,7 @@ damaged_store : (files : Files) → Reads files (store 1 7) from_zero → HasDam
 unfolding field_fault form_at number_at
 damaged_store files there = Stored from_zero there refl (Field (omega arith, refl) refl)
 
--- behind a closed gate it isn't there, and not damaged
+-- after a closed gate it isn't there, and not damaged
 closed_store : (files : Files) (at : ℕ) → Reads files (store 1 7) (0 ∷ from_zero) → ¬ HasDamage files (store 1 7) at
 closed_store files at there (Logged bytes is (inl kind) damaged) = unlike kinds.Store kinds.Log kind (λ e. omega (arith, e))
 closed_store files at there (Logged bytes is (inr kind) damaged) = unlike kinds.Store kinds.Edits kind (λ e. omega (arith, e))

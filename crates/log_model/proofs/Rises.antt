@@ -1,4 +1,4 @@
--- A numbered cell behind others that are in order.
+-- A numbered cell after others that are in order.
 use Rattle.std.specs.Prelude.{◌≡◌, Bool, true, false, ◌&&◌, T, List, [], ◌∷◌, ◌++◌, map, IsTrue, ◌↔◌}
 use Rattle.std.proofs.Common.{refl, sym, ◌∙◌, subst, ◌==◌}
 use Rattle.std.specs.declared.cmp.Ordering.{Ordering}
@@ -32,7 +32,7 @@ is_less j k e = subst (λ r. T (is_lt r)) (sym e) tt
 abbrev below : VersionKey → List NumberedCell → Bool
 below k xs = below_all version_cmp k (map entry_of xs)
 
--- what is below the last one is below one behind it
+-- what is below the last one is below one after it
 below_more : (k : VersionKey) (xs : List NumberedCell) (l y : NumberedCell) → numbered_cmp l y ≡ Less → T (below k (xs ++ l ∷ [])) → T (below k ((xs ++ l ∷ []) ++ y ∷ []))
 below_more k [] l y p h = both _ _ (first _ _ h) (both _ _ (is_less k (version_of y) (version_cmp_total.trans k (version_of l) (version_of y) (less _ (first _ _ h)) p)) tt)
 below_more k (x ∷ xs) l y p h = both _ _ (first _ _ h) (below_more k xs l y p (second _ _ h))

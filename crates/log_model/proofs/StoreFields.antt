@@ -7,7 +7,7 @@ use Rattle.cell_model.specs.declared.form.Form.{Form}
 use Rattle.cell_model.specs.declared.form.Form.TheVariants.{Plain, Tagged}
 use Rattle.log_model.specs.StoreText.{magic, word_of, form_at, numbers_in, scope_faults, field_fault}
 
--- the number behind the gate
+-- the number after the gate
 abbrev pub code_of : Form → ℕ
 code_of Plain = 0x48575331
 code_of Tagged = 0x48575332
@@ -66,7 +66,7 @@ told_form : (word m : ℕ) (form : Form) → m ≡ code_of Tagged → word ≡ c
 told_form word m Plain is w = grind (arith, nat_tests)
 told_form word m Tagged is w = grind (arith, nat_tests)
 
--- the number behind the gate tells the form
+-- the number after the gate tells the form
 pub form_is : (form : Form) (bytes : List ℕ) → number_at 1 4 bytes ≡ code_of form → form_at bytes ≡ form
 unfolding form_at
 form_is form bytes word = told_form (number_at 1 4 bytes) (word_of Tagged) form (word_is Tagged) word

@@ -182,7 +182,7 @@ stands_first form r bytes s xs ys store fits said is = record {
   rising = rising_front xs ys (subst IsRising is store.rising);
 }
 
--- a further one stands behind them
+-- a further one stands after them
 next_stands : (form : Form) (r : ℕ) (bytes : List ℕ) (s : Store) (cells others : List NumberedCell) → IsStore s → FitsForm form s → Says form r bytes s → s.cells ≡ cells ++ others → length cells < length s.cells
     → ((next : NumberedCell) (more : List ℕ) → StandsAs form bytes (cells ++ next ∷ []) more → ⊥) → ⊥
 next_stands form r bytes s cells [] store fits said is lt none = omega (arith, lt, ap length is, length-append cells [])

@@ -51,7 +51,7 @@ scope_of_a_family : field_fault 1 (165 ∷ 72 ∷ 87 ∷ 83 ∷ 50 ∷ 0 ∷ 0 �
 unfolding field_fault form_at number_at
 scope_of_a_family = refl
 
--- a family that is too long, one that isn't whole, and flushed-from behind it
+-- a family that is too long, one that isn't whole, and flushed-from after it
 long_family : field_fault 1 (165 ∷ 72 ∷ 87 ∷ 83 ∷ 50 ∷ 0 ∷ 0 ∷ 0 ∷ 1 ∷ 0 ∷ 128 ∷ 102 ∷ []) ≡ Some 10
 unfolding field_fault form_at number_at
 long_family = refl
@@ -273,10 +273,10 @@ one_value p (x, (suc k, lt, is), version, payload) = absurd (omega (arith, lt))
 older_is_not_stored : (files : Files) → TwoStores files → IsStored files 1 f_of_first (payload_of (cell_with (118 ∷ []))) → ⊥
 older_is_not_stored files h stored = elim (h.no_other stored.name stored.store stored.file.file) as (λ _. ⊥) [
   | inl is ↦ (
-    let n : stored.name.number ≡ 1 = ap (λ (m : Name). m.number) is.0 in
-    let above : 2 ≤ stored.name.number = stored.newest store_2 (store_with (119 ∷ [])) (payload_of (cell_with (119 ∷ []))) (each_counts files store_2 (store_with (119 ∷ [])) h h.newer) newer_holds in
-    omega (arith, n, above))
+      let n : stored.name.number ≡ 1 = ap (λ (m : Name). m.number) is.0 in
+      let above : 2 ≤ stored.name.number = stored.newest store_2 (store_with (119 ∷ [])) (payload_of (cell_with (119 ∷ []))) (each_counts files store_2 (store_with (119 ∷ [])) h h.newer) newer_holds in
+      omega (arith, n, above))
   | inr is ↦ (
-    let v : 118 ≡ 119 = one_value (payload_of (cell_with (118 ∷ []))) (subst (λ (s : Store). Holds s f_of_first (payload_of (cell_with (118 ∷ [])))) is.1 stored.holds) in
-    omega (arith, v))
+      let v : 118 ≡ 119 = one_value (payload_of (cell_with (118 ∷ []))) (subst (λ (s : Store). Holds s f_of_first (payload_of (cell_with (118 ∷ [])))) is.1 stored.holds) in
+      omega (arith, v))
 ]

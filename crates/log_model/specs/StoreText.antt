@@ -51,7 +51,7 @@ scope_text Tagged s = s.scope ∷ (length s.family ∷ s.family)
 abbrev pub pairs_text : Form → List NumberedCell → List ℕ
 pairs_text form cells = flat_map (λ x. big_bytes 8 x.0 ++ spelled form x.1) cells
 
--- the magic word behind an open gate, the region, scope and family, the two sequence ids, the count, and the cells
+-- the magic word after an open gate, the region, scope and family, the two sequence ids, the count, and the cells
 unfoldable pub store_text : Form → Store → List ℕ
 store_text form s = OPEN_GATE ∷ (magic form ++ (big_bytes 4 s.region ++ (scope_text form s ++ (big_bytes 8 s.from ++ (big_bytes 8 s.to ++ (big_bytes 8 (length s.cells)
     ++ pairs_text form s.cells))))))
@@ -123,7 +123,7 @@ pub record IsPair (form : Form) (family : List ℕ) (from to : ℕ) (x : Numbere
   pub low : from ≤ x.0
   pub high : x.0 ≤ to
 
--- behind fields of this form these cells stand, in order and in range
+-- after fields of this form these cells stand, in order and in range
 pub record StandsAs (form : Form) (bytes : List ℕ) (cells : List NumberedCell) (rest : List ℕ) : Type 0 where
   pub is : drop (numbers_in form bytes + 24) bytes ≡ pairs_text form cells ++ rest
   pub each : AllByRecursion (IsPair form (family_in form bytes) (number_at (numbers_in form bytes) 8 bytes) (number_at (numbers_in form bytes + 8) 8 bytes)) cells
@@ -132,7 +132,7 @@ pub record StandsAs (form : Form) (bytes : List ℕ) (cells : List NumberedCell)
 abbrev pub StandsCells : List ℕ → List NumberedCell → List ℕ → Type 0
 StandsCells bytes cells rest = StandsAs (form_at bytes) bytes cells rest
 
--- how many cells the bytes say, and the place behind these cells
+-- how many cells the bytes say, and the place after these cells
 abbrev pub count_in : Form → List ℕ → ℕ
 count_in form bytes = number_at (numbers_in form bytes + 16) 8 bytes
 
@@ -140,7 +140,7 @@ abbrev pub place_in : Form → List ℕ → List NumberedCell → ℕ
 place_in form bytes cells = numbers_in form bytes + 24 + length (pairs_text form cells)
 
 -- a store that is there and no text is damaged at its first wrong field, at the first pair that is wrong or not whole,
--- or at the first byte behind the last pair
+-- or at the first byte after the last pair
 pub data IsStoreDamaged (r : ℕ) (bytes : List ℕ) (at : ℕ) : Type 0 where
   Field : IsThere bytes → field_fault r bytes ≡ Some at → IsStoreDamaged r bytes at
   Pair : IsThere bytes → field_fault r bytes ≡ None → (cells : List NumberedCell) (rest : List ℕ) → StandsCells bytes cells rest → length cells < count_in (form_at bytes) bytes

@@ -1,6 +1,6 @@
 //! The numbers that the files' formats share.
 
-/// An open gate: what stands behind it counts.
+/// An open gate: what stands after it counts.
 pub const OPEN_GATE: u8 = 0xA5;
 
 /// A closed gate as it is written. Each byte but an open gate's closes.

@@ -3,7 +3,7 @@ use Rattle.std.specs.Prelude.{◌≡◌, [], ◌∷◌, ◌++◌}
 use Rattle.log_berth.specs.Standing.{Bundle}
 use Rattle.log_service.specs.declared.seats.LogSeat.{LogSeat}
 
--- the first ones are those of before, and this one stands behind them
+-- the first ones are those of before, and this one stands after them
 abbrev pub IsBehind : Bundle → Bundle → Bundle → Bundle → LogSeat → Type 0
 IsBehind consumers now_consumers devices now_devices seat =
     (now_consumers.seats ≡ consumers.seats ++ seat.consumer ∷ []) × (now_devices.seats ≡ devices.seats ++ seat.device ∷ [])

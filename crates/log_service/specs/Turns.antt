@@ -57,7 +57,7 @@ pub record HasMovedAll {N : Type 0} (g : Ghosts N) : Type 0 where
 abbrev pub SawCommitted : List ℕ → Known → List (List Held) → Type 0
 SawCommitted lasts k chains = (r : ℕ) → 0 < r → r ≤ length lasts → seen_synced k r ≡ come_to (base_of lasts) (all_trucks chains) r
 
--- A half of this service popped a chain of n entries behind others, and committed it. The seat had seen no word above what the half told
+-- A half of this service popped a chain of n entries after others, and committed it. The seat had seen no word above what the half told
 -- before, and now it has seen each one at what all chains popped come to.
 pub record HasSynced {D N : Type 0} (d : Disks D) (g : Ghosts N) (old new : Known) (n : ℕ) : Type 0 where
   pub before : DeviceHalf D N d g

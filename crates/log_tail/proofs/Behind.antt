@@ -1,4 +1,4 @@
--- What is read of a log begins what stands behind the position, and the rest stands behind the position where the reader stops.
+-- What is read of a log begins what stands after the position, and the rest stands after the position where the reader stops.
 use Rattle.std.proofs.Common.{◌≡◌, ◌⊎◌, inl, inr, ℕ, zero, suc, ◌<◌, ◌+◌, ◌-◌, true, false, Bool, cond, List, [], ◌∷◌, ◌++◌, length, drop, filter, Contains, Option, Some, sym, ap, ◌∙◌, subst, arith}
 use Rattle.std.specs.Prelude.{slice_get}
 use Rattle.std.proofs.lemmas.Bool.{cases_Bool, cases_lt, cases_order}
@@ -42,7 +42,7 @@ stays p (x ∷ xs) y is passed = elim (here_or_there x xs y is) as (λ _. Contai
 placed_so : (file place : ℕ) (entry : Entry) (x : Placed) → file ≡ x.file → place ≡ x.place → entry ≡ x.entry → record { file = file; place = place; entry = entry } ≡ x
 placed_so file place entry x f p e i = record { file = f i; place = p i; entry = e i }
 
--- each member stands at a place behind those before it
+-- each member stands at a place after those before it
 pub record StandsAt (number before : ℕ) (es : List Entry) (x : Placed) : Type 0 where
   pub file : x.file ≡ number
   pub at : ℕ
@@ -122,7 +122,7 @@ ordered_both (x ∷ xs) ys ox oy before = (
 
 -- ---- the law
 
--- behind the position stand exactly the entries of the higher logs
+-- after the position stand exactly the entries of the higher logs
 record StopsBehind (files : Files) (file : ℕ) (q : Position) : Type 0 where
   pub higher : (x : Placed) → StandsIn files x → is_behind q x ≡ true → file < x.file
   pub all : (x : Placed) → StandsIn files x → file < x.file → is_behind q x ≡ true
@@ -176,7 +176,7 @@ module _ (files : Files) (c : List Placed) (is : IsChronicle files c) (p q : Pos
       (λ x y first later. inl (subst (λ (n : ℕ). n < y.file) (sym (placed_at p.file p.entries (drop p.entries es) x first).file) (is_higher y later))))
       here_or_later all_behind
 
--- the position before the next log, and that behind all entries of this one
+-- the position before the next log, and that after all entries of this one
 stops_next : (files : Files) (file : ℕ) → StopsBehind files file (record { file = file + 1; entries = 0 })
 stops_next files file = record {
   higher = λ x s is. elim (behind_cases (record { file = file + 1; entries = 0 }) x is) as (λ _. file < x.file) [ inl lt ↦ omega (arith, lt) | inr both ↦ omega (arith, both.0) ];

@@ -5,7 +5,7 @@ use Rattle.chronicle_model.specs.Chronicle.{Position}
 use Rattle.log_tail.specs.declared.refusal.TailRefusal.{TailRefusal}
 use Rattle.log_tail.specs.declared.refusal.TailRefusal.TheVariants.{NoPosition}
 
--- what stands behind the position
+-- what stands after the position
 abbrev pub IsGiven : Position → List Entry → List Entry → Type 0
 IsGiven p entries given = (p.entries ≤ length entries) × (given ≡ drop p.entries entries)
 
@@ -21,6 +21,6 @@ IsNowhere p higher refusal = ((0 < p.entries) ⊎ IsTrue higher) × (refusal ≡
 abbrev pub is_over : ℕ → Option ℕ → Bool → Bool
 is_over number ended higher = higher || (is_some ended && nat_lt number (2 ^ 64 - 1))
 
--- the position behind all entries of the log, or before the next log
+-- the position after all entries of the log, or before the next log
 abbrev pub next_position : Position → ℕ → Option ℕ → Bool → Position
 next_position p has ended higher = cond (is_over p.file ended higher) (record { file = p.file + 1; entries = 0 }) (record { file = p.file; entries = has })

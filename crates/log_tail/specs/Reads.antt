@@ -30,8 +30,8 @@ IsOver files number ended = HasHigher files number ⊎ ((number < 2 ^ 64 - 1) ×
 
 -- ---- what is read
 
--- What stands in the log behind the position was given. The reader stops before the next log where this one is over, and else
--- behind all its entries.
+-- What stands in the log after the position was given. The reader stops before the next log where this one is over, and else
+-- after all its entries.
 pub record ReadsLog (files : Files) (p : Position) (given : List Entry) (q : Position) : Type 0 where
   pub entries : List Entry
   pub ended : Option ℕ
@@ -84,12 +84,12 @@ IsOrEarlier result refusal = (result ≡ Err refusal) ⊎ ((result ≡ Err Memor
 
 -- ---- law
 
--- these entries with the places behind so many others of a log
+-- these entries with the places after so many others of a log
 abbrev pub placed_behind : ℕ → ℕ → List Entry → List Placed
 placed_behind file before [] = []
 placed_behind file before (e ∷ es) = record { file = file; place = before + 1; entry = e } ∷ placed_behind file (before + 1) es
 
--- What a reader is given begins what stands behind its position, and the rest stands behind the position where it stops.
+-- What a reader is given begins what stands after its position, and the rest stands after the position where it stops.
 abbrev pub ReadingGoesOn : Type 0
 ReadingGoesOn =
     (files : Files) (c : List Placed) (p q : Position) (given : List Entry) → IsRead files p given q → IsChronicle files c

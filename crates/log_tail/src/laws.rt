@@ -3,7 +3,7 @@
 ghost use Rattle.log_tail.specs.Reads.{ReadingGoesOn};
 ghost use Rattle.log_tail.specs.Texts.{TextsHaveAChronicle, FitFilesHaveAChronicle};
 
-/// What a reader is given, and what stands behind the position where it stops, is what stood behind its position.
+/// What a reader is given, and what stands after the position where it stops, is what stood after its position.
 pub fn reading_goes_on()
     ensures { ReadingGoesOn }
 {}

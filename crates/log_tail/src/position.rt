@@ -1,6 +1,6 @@
 //! Positions in the logs of a store.
 
-/// A place between two entries: behind all entries of the logs with lower numbers, and behind so many of its own log. The
+/// A place between two entries: after all entries of the logs with lower numbers, and after so many of its own log. The
 /// position (1, 0) is before all.
 #[derive(Clone, Copy, Debug, PartialEq, Eq)]
 pub struct Position {

@@ -46,7 +46,7 @@ impl Tail {
         self.position
     }
 
-    /// Reads the entries of the position's log that stand behind the position, and goes on behind them: to the next log where
+    /// Reads the entries of the position's log that stand after the position, and goes on after them: to the next log where
     /// this one has its end frame or a log with a greater number is there. A log that isn't there yet has no entries. Memory
     /// is taken for the names of all files and for the whole log.
     pub fn read<D: Disk>(&mut self, alloc: Global, disk: &mut D) -> Result<EntryList, TailRefusal>
@@ -77,7 +77,7 @@ impl Tail {
         }
     }
 
-    /// Gives the entries behind the position, of a log that was read, and goes on behind them.
+    /// Gives the entries after the position, of a log that was read, and goes on after them.
     fn give(&mut self, text: LogText, has_higher: bool) -> Result<EntryList, TailRefusal>
         requires { IsTrue has_higher → self.old.file < 2 ^ 64 - 1 }
         ensures given { IfOk result (λ given. IsGiven self.old text.entries given) }

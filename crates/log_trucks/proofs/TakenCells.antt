@@ -13,7 +13,7 @@ use Rattle.log_trucks.specs.Unflushed.{is_unflushed, unflushed_cells}
 abbrev pub numbered : Accounts → ℕ → List ℕ → List Entry → List NumberedCell
 numbered a r family es = flat_map (λ e. at_number e.number (unflushed_cells a r family e)) es
 
--- of what is held these cells are taken, and those of the entries that are left stand behind them
+-- of what is held these cells are taken, and those of the entries that are left stand after them
 abbrev pub AreTaken : Accounts → ℕ → List ℕ → List Held → List NumberedCell → List Held → Type 0
 AreTaken a r family held cells left = (es : List Entry) → AreHeld held es → (ds : List Entry) × AreHeld left ds × (cells ++ numbered a r family ds ≡ numbered a r family es)
 

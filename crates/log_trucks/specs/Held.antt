@@ -10,7 +10,7 @@ pub record Held : Type 0 where
   pub bytes : List ℕ
   pub families : List (List ℕ)
 
--- an entry on its way, and what stands behind it in its chain
+-- an entry on its way, and what stands after it in its chain
 pub record Haul : Type 0 where
   pub region : ℕ
   pub number : ℕ

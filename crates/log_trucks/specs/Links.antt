@@ -1,4 +1,4 @@
--- What stands behind a link of a chain.
+-- What stands after a link of a chain.
 use Rattle.std.specs.Prelude.{List, [], ◌∷◌, Option, Some, None}
 use Rattle.std.specs.Global.{Box}
 use Rattle.log_trucks.specs.Held.{Held, Haul, held_of}

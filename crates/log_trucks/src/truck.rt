@@ -8,9 +8,9 @@ use std::fmt;
 use std::marker::Model;
 
 /// An entry on its way: its region, its number there, its bytes, the memory for noting the families of its cells, and the
-/// next truck of a chain. Contracts see region, number, bytes and families, and the list of what stands behind it.
+/// next truck of a chain. Contracts see region, number, bytes and families, and the list of what stands after it.
 ///
-/// A truck is let go by a loop, which takes those behind it one after the other: it may stand before a million others.
+/// A truck is let go by a loop, which takes those after it one after the other: it may stand before a million others.
 pub struct Truck {
     /// 1 to 64.
     pub region: u32,
@@ -66,7 +66,7 @@ impl Drop for Truck {
     }
 }
 
-/// Region, number and length, and nothing of what stands behind it.
+/// Region, number and length, and nothing of what stands after it.
 impl fmt::Debug for Truck {
     fn fmt<W: fmt::Write>(&self, f: &mut fmt::Formatter<W>) -> fmt::Result {
         let region = self.region;

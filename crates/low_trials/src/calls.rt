@@ -188,7 +188,7 @@ fn remove_both(disk: &mut MemDisk) -> Result<(), Failed> {
     disk.settle()
 }
 
-/// What comes behind the first two files: the moments 9 to 20.
+/// What comes after the first two files: the moments 9 to 20.
 fn move_all(disk: &mut MemDisk, alloc: Global) -> Result<(), Failed>
     requires { (m : _) → ¬ (view_of disk.old).gone m }
 {

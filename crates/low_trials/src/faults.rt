@@ -239,7 +239,7 @@ fn leaves(
     }
 }
 
-/// Whether a crash behind the first write leaves a part of it by one of the other choices.
+/// Whether a crash after the first write leaves a part of it by one of the other choices.
 fn is_cut_short(disk: &MemDisk, alloc: Global) -> bool {
     let mut is_cut = false;
     for choice in 3..40 {

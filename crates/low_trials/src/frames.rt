@@ -8,7 +8,7 @@ use std::alloc::Global;
 use std::test::*;
 
 /// The first log with one put into region 1 with number 1 at time 1000: row `r`, column `f:q`, timestamp 1, value `v`; and an end
-/// frame behind it, from 70 on.
+/// frame after it, from 70 on.
 const ENDED: [u8; 85] = [
     b'H', b'W', b'L', b'1', 0, 0, 0, 2, 0, 0, 0, 0, 0, 0, 0, 1, 0xA5, 1, 0, 0, 0, 0x30, 0, 0, 0, 1,
     0, 0, 0, 0, 0, 0, 0, 1, 0, 0, 0, 0, 0, 0, 3, 0xE8, 0, 0, 0, 1, 0, 0, 0, 0x0F, 0, 0, 0, 1, 0, 1,

@@ -36,7 +36,7 @@ type Numbers = (u8, u64, u64, usize);
 /// A change of a file: a byte at a place.
 type Change = (u8, u8);
 
-/// A disk with so many bytes of a file, with zeros behind it, and with changes.
+/// A disk with so many bytes of a file, with zeros after it, and with changes.
 fn disk_of(file: &[u8], changes: &[Change], len: usize) -> OneFile {
     let mut bytes = [0; 107];
     let whole = file.len().min(107);
@@ -120,7 +120,7 @@ const FORMER_DAMAGED: &[(&[Change], u8, u64)] = &[
     (&[(95, 5), (32, 1)], 97, 65),
     // Where the last sequence id isn't whole the first can't be above it.
     (&[(9, 1)], 24, 17),
-    // A byte behind the last pair.
+    // A byte after the last pair.
     (&[], 98, 97),
 ];
 
@@ -135,7 +135,7 @@ const DAMAGED: &[(&[Change], u8, u64)] = &[
     (&[(21, 1)], 106, 20),
     // The other word over what it begins.
     (&[(4, b'1')], 106, 9),
-    // Another scope; scope 1 with a family; a family of 128 bytes; one that runs behind the file; one that the cells don't have.
+    // Another scope; scope 1 with a family; a family of 128 bytes; one that runs after the file; one that the cells don't have.
     (&[(9, 2)], 106, 9),
     (&[(9, 1)], 106, 10),
     (&[(9, 255)], 106, 9),
@@ -152,7 +152,7 @@ const DAMAGED: &[(&[Change], u8, u64)] = &[
     // A sequence id that isn't covered.
     (&[(43, 3)], 106, 36),
     (&[(79, 0)], 106, 72),
-    // Another length of a key, another type, tags of 4,097 bytes, tags that run behind the file.
+    // Another length of a key, another type, tags of 4,097 bytes, tags that run after the file.
     (&[(47, 0)], 106, 36),
     (&[(102, 5)], 106, 72),
     (&[(68, 0x10), (69, 1)], 106, 36),
@@ -167,7 +167,7 @@ const DAMAGED: &[(&[Change], u8, u64)] = &[
     (&[(13, 2), (21, 1)], 106, 12),
     // Where the last sequence id isn't whole the first can't be above it.
     (&[(12, 1)], 27, 20),
-    // A byte behind the last pair.
+    // A byte after the last pair.
     (&[], 107, 106),
 ];
 
@@ -187,7 +187,7 @@ const FORMER_FIELDS: &[u64] = &[1, 5, 9, 17, 25, 33, 65];
 
 const FIELDS: &[u64] = &[1, 5, 9, 10, 11, 12, 20, 28, 36, 72];
 
-/// The last of these places that isn't behind this one.
+/// The last of these places that isn't after this one.
 fn last_up_to(fields: &[u64], place: u64) -> u64 {
     let mut last = 0;
     for field in fields {

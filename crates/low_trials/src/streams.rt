@@ -40,7 +40,7 @@ impl Write for Interrupted {
     }
 }
 
-/// Whether two bytes are read, behind three signals.
+/// Whether two bytes are read, after three signals.
 fn reads_both() -> bool {
     let mut source = ReaderSource::new(Interrupted { times: 3 });
     let mut bytes = [0; 2];
@@ -48,7 +48,7 @@ fn reads_both() -> bool {
     is_read && bytes == [7, 7]
 }
 
-/// Whether three bytes are written, behind two signals.
+/// Whether three bytes are written, after two signals.
 fn writes_all() -> bool {
     let mut sink = WriterSink::new(Interrupted { times: 2 });
     matches!(sink.write(b"abc"), Ok(3))

@@ -1,4 +1,4 @@
-//! A sync is held back for as long as a word says, and goes on behind it.
+//! A sync is held back for as long as a word says, and goes on after it.
 
 use disk_fakes::{MemDisk, WatchDisk};
 use disk_images::{Name, NameKind, create_durably};

@@ -14,7 +14,7 @@ pub second : next_x 1442695040888963407 ≡ 1876011003808476466
 unfolding next_x
 second = refl
 
--- handler 2 starts one above handler 1, and behind the greatest number comes 0
+-- handler 2 starts one above handler 1, and after the greatest number comes 0
 second_handler : first_x 18446744073709551615 2 ≡ 0
 second_handler = refl
 

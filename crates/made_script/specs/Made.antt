@@ -45,7 +45,7 @@ made_call regions h i x =
     else (if (h == 1) && (i % 256 == 129) then Roll
     else Put (region_for regions x) true (batch_of (made_cell i x ∷ []))))
 
--- so many calls from number i on, behind the number x
+-- so many calls from number i on, after the number x
 abbrev pub made_calls : (regions h n i x : ℕ) → List Call
 made_calls regions h zero i x = []
 made_calls regions h (suc n) i x = made_call regions h i (next_x x) ∷ made_calls regions h n (i + 1) (next_x x)

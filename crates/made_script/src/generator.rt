@@ -3,7 +3,7 @@
 ghost use Rattle.std.specs.Prelude.{◌≡◌, ◌≤◌, ◌^◌, ◌<◌};
 ghost use Rattle.made_script.specs.Made.{next_x, first_x};
 
-/// The number behind `x`: each is made from the one before, in steps that go through all of 0 to 2^64-1.
+/// The number after `x`: each is made from the one before, in steps that go through all of 0 to 2^64-1.
 pub fn next_number(x: u64) -> u64
     ensures { result ≡ next_x x }
 {

@@ -87,7 +87,7 @@ family_between x y z xy yz xz =
     (λ g. not_greater (slice_cmp nat_cmp y.1.family z.1.family) _ fy (subst (λ r. slice_cmp nat_cmp y.1.family r ≡ Greater) xz.family g)) in
     record { row = rows; family = slice_cmp-IsAntisymmetric nat_cmp-IsAntisymmetric x.1.family y.1.family family }
 
--- behind the family
+-- after the family
 abbrev behind_family : NumberedCell → NumberedCell → Ordering
 behind_family x y = ordering_then (slice_cmp nat_cmp x.1.qualifier y.1.qualifier) (ordering_then (nat_cmp y.1.ts x.1.ts) (ordering_then (nat_cmp y.1.kind x.1.kind) (nat_cmp y.0 x.0)))
 
@@ -154,7 +154,7 @@ all_above x y [] b is = absurd (omega (arith, is.1))
 all_above x y (z ∷ zs) b (zero, lt, e) = subst (Less_than x) e (less_of _ (first_part _ _ b))
 all_above x y (z ∷ zs) b (suc k, lt, e) = all_above x y zs (second_part _ _ b) (k, omega (arith, lt), e)
 
--- of a list in order each cell before one is less, and each behind it is greater
+-- of a list in order each cell before one is less, and each after it is greater
 pub above : (before after : List NumberedCell) (p a : NumberedCell) → IsRising (before ++ p ∷ after) → Contains after a → Less_than p a
 above [] after p a r is = all_above p a after (first_part _ _ r) is
 above (b ∷ before) after p a r is = above before after p a (second_part _ _ r) is

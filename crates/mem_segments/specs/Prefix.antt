@@ -1,7 +1,7 @@
 -- The first bytes of a row as a number, by which most rows are told apart.
 use Rattle.std.specs.Prelude.{◌≡◌, ℕ, zero, suc, ◌+◌, ◌*◌, ◌<◌, List, get_or}
 
--- the first n bytes as a number, the first of them the highest, with zeros behind the last where there are fewer
+-- the first n bytes as a number, the first of them the highest, with zeros after the last where there are fewer
 abbrev pub word_of : ℕ → List ℕ → ℕ
 word_of zero row = 0
 word_of (suc n) row = word_of n row * 256 + get_or row n 0

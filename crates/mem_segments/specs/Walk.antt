@@ -41,7 +41,7 @@ abbrev pub is_given : Option NumberedCell → NumberedCell → Bool
 is_given None x = false
 is_given (Some last) x = is_le (numbered_cmp x last)
 
--- of these cells in order, those behind the last one that was given
+-- of these cells in order, those after the last one that was given
 abbrev pub to_come : Option NumberedCell → List NumberedCell → List NumberedCell
 to_come last xs = filter (λ x. not (is_given last x)) xs
 

@@ -5,7 +5,7 @@ ghost use Rattle.std.specs.Prelude.{◌≡◌, None, option_map};
 use crate::row::Row;
 use std::marker::Model;
 
-/// The place of a walk that was laid down: behind the cell that it gave last, which it shares, or in front of the first
+/// The place of a walk that was laid down: after the cell that it gave last, which it shares, or in front of the first
 /// one. It borrows nothing. Contracts see the cell that was given last.
 #[derive(Drop)]
 pub struct Cursor {
@@ -29,7 +29,7 @@ impl Cursor {
         Cursor { last: None }
     }
 
-    /// Behind this row, or where there is none in front of the first cell.
+    /// After this row, or where there is none in front of the first cell.
     pub(crate) fn past(last: Option<Row>) -> Cursor
         ensures { result ≡ last }
     {

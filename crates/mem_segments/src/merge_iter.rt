@@ -49,7 +49,7 @@ impl<'a> MergeIter<'a> {
         Ok(MergeIter { rests })
     }
 
-    /// The same walk taken up again, behind the cell that was given last.
+    /// The same walk taken up again, after the cell that was given last.
     pub fn resume(
         alloc: Global,
         parts: &'a [Arc<Segment, Global>],
@@ -104,7 +104,7 @@ pub(crate) struct Leader<'a> {
     is_alone: bool,
 }
 
-/// What each segment has within the range of rows, behind the row that was given last.
+/// What each segment has within the range of rows, after the row that was given last.
 fn rests_of<'a>(
     alloc: Global,
     parts: &'a [Arc<Segment, Global>],

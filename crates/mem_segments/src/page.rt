@@ -22,7 +22,7 @@ pub struct Page {
 
 impl SegmentList {
     /// The next `count` cells, or all that are left where there are fewer, of the walk over the rows at or above `from`
-    /// and, if `to` isn't empty, below `to`. The cursor moves behind them; out of memory it stays.
+    /// and, if `to` isn't empty, below `to`. The cursor moves after them; out of memory it stays.
     pub fn page(
         &self,
         alloc: Global,

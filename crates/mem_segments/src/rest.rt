@@ -44,7 +44,7 @@ impl<'a> Rest<'a> {
         }
     }
 
-    /// What lies behind the row that was given last.
+    /// What lies after the row that was given last.
     pub(crate) fn behind(self, last: Option<&Row>) -> Rest<'a>
         requires { IsRising self }
         ensures { result ≡ to_come (option_map (λ row. row.now) last.entry) self.entry }

@@ -143,7 +143,7 @@ impl Row {
     }
 }
 
-/// The first eight bytes as a number, with zeros behind the last where there are fewer.
+/// The first eight bytes as a number, with zeros after the last where there are fewer.
 fn prefix_of(row: &[u8]) -> u64
     ensures { IsPrefix result row.now }
 {

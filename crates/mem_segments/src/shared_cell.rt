@@ -14,7 +14,7 @@ use std::sync::Arc;
 pub(crate) enum Block {
     /// The cell.
     Own(Arc<Cell, Global>),
-    /// The cell's place in a batch, and the batch. A number that came behind would make the value a word longer.
+    /// The cell's place in a batch, and the batch. A number that came after would make the value a word longer.
     OfBatch(u16, Arc<Batch, Global>),
 }
 

@@ -7,7 +7,7 @@ ghost use Rattle.region_state.specs.States.{write_point};
 use region_lock::{LockNaming, Locked};
 use std::sync::{Mutex, MutexGuard, Wait};
 
-/// Takes the lock of this region, of which this point was seen. Where another region lies behind it, or one that hasn't come to the point,
+/// Takes the lock of this region, of which this point was seen. Where another region lies after it, or one that hasn't come to the point,
 /// which no run shows, it waits for ever.
 pub(crate) fn hold<
     'l,

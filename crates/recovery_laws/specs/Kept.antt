@@ -9,11 +9,11 @@ use Rattle.log_model.specs.StoreText.{Store, IsThere}
 use Rattle.log_model.specs.Recovered.{Puts, HasFamily, Holds, IsFor, IsRecovered, IsStored, FlushesTo, IsFlushed, IsLast}
 use Rattle.recovery_laws.specs.Change.{last_of}
 
--- the last sequence id of each region, behind one more entry
+-- the last sequence id of each region, after one more entry
 abbrev pub raised : (ℕ → ℕ) → Entry → ℕ → ℕ
 raised last e r = if e.region == r then e.number else last r
 
--- the last sequence id of each region, behind these entries
+-- the last sequence id of each region, after these entries
 abbrev pub lasts : (ℕ → ℕ) → List Entry → ℕ → ℕ
 lasts last es r = last_of r (last r) es
 

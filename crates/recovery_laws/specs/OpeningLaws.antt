@@ -18,7 +18,7 @@ AlikeInTurn = (old mid new : Files) → AllAlike old mid → AllAlike mid new �
 abbrev pub OldLogsAreNothing : Type 0
 OldLogsAreNothing = (old new : Files) → SameButOld old new → IsFit old → AllAlike old new
 
--- a store file behind a closed gate counts for nothing
+-- a store file after a closed gate counts for nothing
 abbrev pub HiddenStoreIsNothing : Type 0
 HiddenStoreIsNothing = (old new : Files) (name : Name) → Hides name old new → IsFit old → AllAlike old new
 

@@ -12,7 +12,7 @@ pub fn old_logs_are_nothing()
     ensures { OldLogsAreNothing }
 {}
 
-/// A store file behind a closed gate counts for nothing.
+/// A store file after a closed gate counts for nothing.
 pub fn hidden_store_is_nothing()
     ensures { HiddenStoreIsNothing }
 {}

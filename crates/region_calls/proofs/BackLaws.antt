@@ -101,7 +101,7 @@ module _ {N : Type 0} {g : Ghosts N} where
     closed = seen_closed n seat.device.knows (v j).region;
   }
 
-  -- what it knows of the region behind a place
+  -- what it knows of the region after a place
   pub known_here : (ps : List (RegionPass N g)) (seat : LogSeat) (k : ℕ) (p : RegionPass N g) → slice_get ps k ≡ Some p → known_in ps seat (k + 1) ≡ known_of (length ps) p seat
   known_here ps seat k p at =
       let one : k + 1 ≡ suc k = omega arith in

@@ -15,7 +15,7 @@ use Rattle.region_calls.specs.Named.{AreNamedSeeds}
 use Rattle.region_calls.specs.Names.{AreTablesOf}
 use Rattle.region_calls.specs.Store.{bases_of}
 
--- the names of the region that is k behind the first one
+-- the names of the region that is k after the first one
 record Names (desk spent : ℕ → TableId) (book : ℕ → Book) (base : ℕ → Base) (lasts : List ℕ) (r k : ℕ) (ss : List RegionSeeds) : Type 0 where
   desks : desk r ≡ get_or (map desk_of ss) k no_table
   spents : spent r ≡ get_or (map spent_of ss) k no_table

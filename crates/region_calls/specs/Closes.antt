@@ -24,7 +24,7 @@ pub record HasMet (bases : ℕ → Base) (handlers : ℕ) (passes : List Pass) (
   pub owners : AreOwned handlers xs
   pub each : (p : Pass) → Contains passes p → IsMet base (edits_in r xs) p.handler (p.known r)
 
--- the region behind this place was taken apart so: its key of the ring is back in its place, and the entries pushed under it are the journal's
+-- the region after this place was taken apart so: its key of the ring is back in its place, and the entries pushed under it are the journal's
 pub record IsTaken (bases : ℕ → Base) (handlers : ℕ) (ring : TableId) (passes : List Pass) (places : List (Option (RingKey Item))) (place : ℕ) (base : Base) (xs : List Line) : Type 0 where
   pub met : HasMet bases handlers passes (place + 1) base xs
   pub pass : RingKey Item

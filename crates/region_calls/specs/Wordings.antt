@@ -11,7 +11,7 @@ use Rattle.region_calls.specs.declared.closed.ClosedRegion.{ClosedRegion}
 abbrev pub region_of : ClosedRegion → Region
 region_of c = record { base = c.base; edits = edits_in c.region c.lines.items; synced = c.synced; stored = c.stored; closed = c.closed }
 
--- it is the region behind this place, with this base and journal, and with the words of a log of n regions
+-- it is the region after this place, with this base and journal, and with the words of a log of n regions
 pub record IsWorded (n : ℕ) (words : List ℕ) (place : ℕ) (base : Base) (xs : List Line) (c : ClosedRegion) : Type 0 where
   pub region : c.region ≡ place + 1
   pub base_is : c.base ≡ base

@@ -8,7 +8,7 @@ place_back h least = omega (arith, least)
 pub next_is_one : (w n : ℕ) → n ≡ w + 1 → 1 ≤ n
 next_is_one w n is = omega (arith, is)
 
--- the next number behind a write point
+-- the next number after a write point
 pub next_above : (seen w n : ℕ) → seen ≤ w → n ≡ w + 1 → seen < n
 next_above seen w n within is = omega (arith, within, is)
 

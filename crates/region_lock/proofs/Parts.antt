@@ -180,7 +180,7 @@ came_back r n j old new truck given same back is was now bytes least most =
       draft = is.draft;
     }
 
--- of the lines behind which one ended, that one alone has its number
+-- of the lines after which one ended, that one alone has its number
 only_one : (r last : ℕ) (pre post : List Line) (x x' y : Line) → x'.number ≡ x.number → Follows last (edits_in r (pre ++ x ∷ post)) → Contains (pre ++ x' ∷ post) y → y.number ≡ x.number → y ≡ x'
 only_one r last [] post x x' y same f (zero, lt, e) number = sym e
 only_one r last [] post x x' y same f (suc k, lt, e) number =

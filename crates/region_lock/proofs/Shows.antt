@@ -37,7 +37,7 @@ shown_ended r last n o xs history seen h f p =
     let behind = pending_behind r last n history.lines rest follows h.completed pending in
     record { region = h.region; of = h.of; front = (with_outcome n o rest, sym (front_stays r last n o history.lines rest follows behind) ∙ ap (with_outcome n o) whole); completed = h.completed; shown = h.shown }
 
--- lines are added behind
+-- lines are added after
 pub shown_begun : (r : ℕ) (xs ys : List Line) (history seen : Beginning) → HasShown r xs history seen → HasShown r (xs ++ ys) history seen
 shown_begun r xs ys history seen h = record { region = h.region; of = h.of; front = prefix_trans history.lines xs (xs ++ ys) h.front (ys, refl); completed = h.completed; shown = h.shown }
 

@@ -79,7 +79,7 @@ own_begun records xs k r x tied at mine j u e = ⊎_elim
     tied j u t.1 ∙ sym (handled-append (j + 1) xs (x ∷ []) ∙ ap (λ (l : List Line). handled_lines (j + 1) xs ++ l) (handled_else (j + 1) x [] other) ∙ append-nil (handled_lines (j + 1) xs)))
     (get_set records k j (with_value r x) u e)
 
--- where x is the last line of h, nothing behind it is h's
+-- where x is the last line of h, nothing after it is h's
 pub record Last (h : ℕ) (xs ys : List Line) (x : Line) : Type 0 where
   pub pre : List Line
   pub post : List Line

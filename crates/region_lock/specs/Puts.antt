@@ -70,7 +70,7 @@ IsAskedFor false r n old new broken = new ≡ old
 
 -- When a put of region r tells a fault, by what its seat knew of the log before, and knows now.
 pub record IsFaultExact (sync : Bool) (r : ℕ) (result : Result ℕ PutRefusal) (old new : Known) : Type 0 where
-  -- each answer but want of memory before a number was drawn comes after a load of the fault word in this call
+  -- each answer but out of memory before a number was drawn comes after a load of the fault word in this call
   pub looked : (result ≡ Err (put.Memory None) → ⊥) → old.tally.looks < new.tally.looks
   -- without a number: it was found set
   pub bare : result ≡ Err (put.WriteFault None) → new.broken ≡ true

@@ -72,7 +72,7 @@ impl<
         }
     }
 
-    /// Draws the next number for an edit, pushes its entry, and puts its pending line behind the journal and the handler's own list. Where
+    /// Draws the next number for an edit, pushes its entry, and puts its pending line after the journal and the handler's own list. Where
     /// the ring is full nothing changes, and the job comes back.
     fn begin<D: Disk, S: Wait>(
         &mut self,

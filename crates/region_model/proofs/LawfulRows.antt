@@ -39,7 +39,7 @@ told_both x y z d e r s in_r of_d in_s of_e f is =
     All-contains (λ f. (reply : Reply) × Contains (x ∷ y ∷ z ∷ []) reply × IsEditOf reply f) (d ∷ e ∷ []) f
     (All-from_recursion (λ f. (reply : Reply) × Contains (x ∷ y ∷ z ∷ []) reply × IsEditOf reply f) (d ∷ e ∷ []) ((r, in_r, of_d), ((s, in_s, of_e), tt))) is
 
--- ---- a put is done, the next one fails in the log, and behind it none draws a number
+-- ---- a put is done, the next one fails in the log, and after it none draws a number
 
 abbrev puts_first : Reply
 puts_first = record { handler = 1; number = 1; call = Put 1 true (batch_of (cell ∷ [])); answer = PutOk 1 }

@@ -52,7 +52,7 @@ length-with_outcome n o (x ∷ xs) = ap suc (length-with_outcome n o xs)
 
 -- ---- numbers that follow
 
--- lines behind n stay
+-- lines after n stay
 pub others_stay : (r last n : ℕ) (o : Outcome) (xs : List Line) → Follows last (edits_in r xs) → n ≤ last → with_outcome n o xs ≡ xs
 others_stay r last n o [] f le = refl
 others_stay r last n o (x ∷ xs) f le =

@@ -41,7 +41,7 @@ flushes_to call n = record { handler = 1; number = call; call = Flush 1 None; an
 pub flushed_too_little : IsLawful 1 base (edit 1 1 Done ∷ []) (puts_ok 1 1 ∷ flushes_to 2 0 ∷ []) → ⊥
 flushed_too_little law = let p : 1 ≤ 0 = (law.places 0 1 (puts_ok 1 1) (omega arith) (omega arith) refl refl refl 1 0 refl).2 refl in absurd (omega arith)
 
--- a put draws a number behind a fault of its handler
+-- a put draws a number after a fault of its handler
 abbrev faults : Reply
 faults = record { handler = 1; number = 1; call = Put 1 true (batch_of (cell ∷ [])); answer = PutFault (Some 1) }
 

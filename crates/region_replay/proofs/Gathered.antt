@@ -1,4 +1,4 @@
--- The cells of entries, one more behind those so far.
+-- The cells of entries, one more after those so far.
 use Rattle.std.proofs.Common.{◌≡◌, ℕ, List, [], ◌∷◌, ◌++◌, sym, ap, ◌∙◌}
 use Rattle.std.proofs.lemmas.List.{append_assoc, append-nil, map-append}
 use Rattle.std.proofs.lemmas.List.Elements.{filter-append}
@@ -11,7 +11,7 @@ use Rattle.found_files.specs.declared.found.FoundStore.{FoundStore}
 use Rattle.region_replay.specs.Bases.{cells_above, entries_cells}
 use Rattle.region_replay.specs.Dealt.{cells_of}
 
--- one more behind a list that grew from a first one
+-- one more after a list that grew from a first one
 pub pushed_more : {A : Type 0} (first before now done : List A) (x : A) → before ≡ first ++ done → now ≡ before ++ x ∷ [] → now ≡ first ++ (done ++ x ∷ [])
 pushed_more first before now done x was step = step ∙ ap (λ l. l ++ x ∷ []) was ∙ append_assoc first done (x ∷ [])
 

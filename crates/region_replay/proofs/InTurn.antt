@@ -64,7 +64,7 @@ all_stored_more old I J (z ∷ zs) [] y x same all one = absurd all
 all_stored_more old I J (z ∷ zs) (w ∷ ws) y x same all one =
     (stored_on old I J z.region w (λ m store region. same z (is_first z zs) m (inl store) region) all.0, all_stored_more old I J zs ws y x (λ u has. same u (is_later z zs u has)) all.1 one)
 
--- the region is none of those before it and behind it
+-- the region is none of those before it and after it
 pub apart_before : (ys : List RegionFiles) (x : RegionFiles) (rest : List RegionFiles) → AreApart (ys ++ x ∷ rest) → (z : RegionFiles) → Contains ys z → x.region ≢ z.region
 apart_before [] x rest apart z has = absurd (none_in z has)
 apart_before (y ∷ ys) x rest apart z has = elim (first_or_later y ys z has) as (λ _. x.region ≢ z.region) [

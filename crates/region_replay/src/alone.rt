@@ -139,7 +139,7 @@ fn add_own(own: &mut Vec<Entry>, region: u32, entry: Entry) -> Result<(), NoMemo
     Ok(())
 }
 
-/// The cells of these stores, one behind the other. No byte of a cell is copied.
+/// The cells of these stores, one after the other. No byte of a cell is copied.
 pub(crate) fn all_cells(alloc: Global, stores: Vec<FoundStore>) -> Result<NumberedCells, NoMemory>
     ensures { IfOk result (λ cells. cells ≡ cells_of stores.items) }
 {

@@ -57,7 +57,7 @@ fn add_edits(region: &mut RegionFiles, name: Name) -> Result<(), NoMemory>
     Ok(())
 }
 
-/// The cells of a store go behind those of its region. No byte is copied.
+/// The cells of a store go after those of its region. No byte is copied.
 pub(crate) fn deal_store(regions: &mut Vec<RegionFiles>, store: FoundStore) -> Result<(), NoMemory>
     requires regions { vec_len regions.old ≡ 64 }
     requires region { (1 ≤ store.name.region) × (store.name.region ≤ 64) }
@@ -73,7 +73,7 @@ fn add_stored(region: &mut RegionFiles, cells: NumberedCells) -> Result<(), NoMe
     append_cells(&mut region.stored, cells)
 }
 
-/// Puts these cells behind the others. No byte is copied.
+/// Puts these cells after the others. No byte is copied.
 pub(crate) fn append_cells(cells: &mut NumberedCells, more: NumberedCells) -> Result<(), NoMemory>
     ensures { OnOk result (cells.new ≡ cells.old ++ more) }
 {

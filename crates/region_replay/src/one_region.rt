@@ -32,7 +32,7 @@ use std::alloc::Global;
 
 /// Replays one region, 1 to 64, of a store that was split: reads and checks the region's store and edits files, each once,
 /// writes what is unflushed as its next store, removes its edits files, and makes durable that they are gone. No other file
-/// is read or changed. `IsSplit` is what `split` leaves with Ok, and each replay behind it; no name of a store is gone then.
+/// is read or changed. `IsSplit` is what `split` leaves with Ok, and each replay after it; no name of a store is gone then.
 /// `Memory` comes too where no number up to 2^63 is left for the region's next store.
 pub fn replay<D: Disk>(alloc: Global, disk: &mut D, region: u32) -> Result<Replayed, SplitRefusal>
     requires region { (1 ≤ region) × (region ≤ 64) }

@@ -21,7 +21,7 @@ use log_file::FileRefusal;
 use std::alloc::Global;
 
 /// Replays all regions of a store that was split, and makes durable that its edits files are gone: then a device may start.
-/// At each moment a crash leaves files that recover as before for every region. `Memory` may come behind some regions: what
+/// At each moment a crash leaves files that recover as before for every region. `Memory` may come after some regions: what
 /// was done for them stands, and the opening may be begun again.
 pub(crate) fn replay_all<D: Disk>(
     alloc: Global,

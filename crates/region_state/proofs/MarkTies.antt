@@ -94,7 +94,7 @@ front_le last p xs t point le all =
     let no : p - last < t → ⊥ = λ lt. point.greatest (mark_completed last (marks xs) (p - last) (p + 1) (front_mark xs t (p - last) lt le all) (omega arith)) in
     omega (arith, no)
 
--- a line that is pending is at its place, behind what is completed at the front
+-- a line that is pending is at its place, after what is completed at the front
 pub record IsAt (last : ℕ) (xs : List Line) (n : ℕ) : Type 0 where
   pub line : Line
   pub after : last < n
@@ -128,7 +128,7 @@ pending_at r last n xs f p =
 pub mark_out : (last n : ℕ) (xs : List Line) → IsAt last xs n → slice_get (marks xs) (n - last - 1) ≡ Some false
 mark_out last n xs a = mark_at xs (n - last - 1) a.line a.within ∙ ap (λ (x : Line). Some (is_completed_line x)) (a.there a.line) ∙ ap (λ (o : Outcome). Some (is_completed o)) a.outcome
 
--- it stands behind the front
+-- it stands after the front
 pub behind_front : (last n t : ℕ) (xs : List Line) → IsAt last xs n → AllPass is_completed_line (take t xs) → t ≤ length xs → t ≤ n - last - 1
 behind_front last n t xs a all le =
     let no : n - last - 1 < t → ⊥ = λ lt. absurd (cc (sym (mark_out last n xs a) ∙ front_mark xs t (n - last - 1) lt le all)) in

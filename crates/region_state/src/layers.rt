@@ -63,7 +63,7 @@ impl Layers {
         Ok(self.waiting.reserve(1)?)
     }
 
-    /// A segment that waits behind the others. It takes no memory.
+    /// A segment that waits after the others. It takes no memory.
     pub(crate) fn push(&mut self, segment: Segment)
         requires { 1 ≤ self.old.room }
         ensures { self.new ≡ record { merged = self.old.merged; waiting = self.old.waiting ++ segment ∷ []; room = self.old.room - 1 } }

@@ -66,7 +66,7 @@ impl Scanner {
     }
 
     /// The next `count` cells of the scan, or all that are left where there are fewer; `done` says that none is left
-    /// behind them. So the pages joined, up to one that is done, are the whole scan. Out of memory the scanner
+    /// after them. So the pages joined, up to one that is done, are the whole scan. Out of memory the scanner
     /// stays as it is. A page costs its cells, and a step down each of the version's segments.
     pub fn next(&mut self, alloc: Global, count: u32) -> Result<Page, NoMemory>
         requires { 1 ≤ count }

@@ -239,7 +239,7 @@ impl RegionState {
     }
 }
 
-/// The number behind which the journal begins.
+/// The number after which the journal begins.
 fn last_of(base: &Base) -> u64
     ensures { result ≡ base.now.last }
 {

@@ -96,7 +96,7 @@ impl Version {
     }
 
     /// The next `count` cells of that walk, or all that are left where there are fewer, from where the cursor stands. The
-    /// cursor moves behind them; out of memory it stays. So pages joined are what a reader sees at the point.
+    /// cursor moves after them; out of memory it stays. So pages joined are what a reader sees at the point.
     pub fn scan_page(
         &self,
         alloc: Global,

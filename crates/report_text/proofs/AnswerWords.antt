@@ -18,7 +18,7 @@ back n h = (decimal_is_IsNumeral n h).1
 abbrev is_read : List ℕ → Bool
 is_read call = is call (codes "scan") || is call (codes "get")
 
--- the answer of a call's name, an outcome and the numbers behind it
+-- the answer of a call's name, an outcome and the numbers after it
 abbrev named : List ℕ → List ℕ → List (List ℕ) → List NumberedCell → Answer
 named call outcome [] cells =
     if is call (codes "put") then (if is outcome (codes "memory") then PutMemory None else PutFault None)

@@ -92,7 +92,7 @@ any : (n : ℕ) → Any n
 unfolding Any
 any n = tt
 
--- behind a region with its edits, and behind a reply with its cells, no line of such a kind comes
+-- after a region with its edits, and after a reply with its cells, no line of such a kind comes
 NotFour : ℕ → Type 0
 NotFour n = n ≢ 4
 

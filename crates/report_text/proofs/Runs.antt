@@ -31,7 +31,7 @@ module _ {X : Type 0} {part : X → List Words} {P : X → Type 0} {k : ℕ} {Fo
   follows [] s h = h
   follows (x ∷ xs) s h = subst Follows (tag_of x xs s) parts.again
 
-  -- parts in a row with another line behind them are split in one way
+  -- parts in a row with another line after them are split in one way
   pub runs_apart : (xs ys : List X) (s t : List Words) → AllByRecursion P xs → AllByRecursion P ys → top s ≢ k → top t ≢ k → Follows (top s) → Follows (top t)
       → flat_map part xs ++ s ≡ flat_map part ys ++ t → (xs ≡ ys) × (s ≡ t)
   runs_apart [] [] s t hx hy hs ht is it e = (refl, e)

@@ -6,7 +6,7 @@ use Rattle.script_model.specs.Outputs.{refused, refused_memory, refused_usage, r
 use Rattle.report_text.specs.declared.refusal.Refusal.{Refusal}
 use Rattle.report_text.specs.declared.refusal.Refusal.TheVariants.{Memory, Usage, Script, Source, Disk, Damaged, Disagree, Store, Position}
 
--- a log and how many entries it has, where a position stands behind more of them
+-- a log and how many entries it has, where a position stands after more of them
 unfoldable pub refused_position : ℕ → ℕ → List ℕ
 refused_position file has = refused (codes "position" ∷ decimal file ∷ decimal has ∷ [])
 

@@ -66,7 +66,7 @@ fn append_stamp(out: &mut Vec<u8>, ts: u64, kind: Kind, value: &[u8]) -> Result<
     append_word(out, value)
 }
 
-/// Appends the tags behind a space, nothing where there are none.
+/// Appends the tags after a space, nothing where there are none.
 fn append_tags(out: &mut Vec<u8>, tags: &[u8]) -> Result<(), NoMemory>
     ensures ok { OnOk result (out.new.items ≡ out.old.items ++ tags_text tags.now) }
     ensures reads { OnOk result (AreBytes tags.now) }

@@ -31,7 +31,7 @@ pub enum Refusal {
     Store {
         name: Name,
     },
-    /// A log that has so many entries, where a position stands behind more of them.
+    /// A log that has so many entries, where a position stands after more of them.
     Position {
         file: u64,
         has: u64,

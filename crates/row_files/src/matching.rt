@@ -3,7 +3,7 @@
 use crate::piece::Piece;
 use std::alloc::{AllocError, Global};
 
-/// Whether the pieces, one of the texts of each, stand one behind the other in the text and fill it.
+/// Whether the pieces, one of the texts of each, stand one after the other in the text and fill it.
 pub fn fits(alloc: Global, pieces: &[Piece], text: &[u8]) -> Result<bool, AllocError> {
     let mut places = Vec::new(alloc);
     places.push(0)?;

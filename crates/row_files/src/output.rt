@@ -78,7 +78,7 @@ pub struct Difference {
     pub what: String,
 }
 
-/// Tells the first line of the output that isn't the expected one. What comes behind the last expected line is told at the
+/// Tells the first line of the output that isn't the expected one. What comes after the last expected line is told at the
 /// line of the status.
 pub fn add_output(
     alloc: Global,

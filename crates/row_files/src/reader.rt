@@ -13,7 +13,7 @@ enum Place {
     Head,
     /// In a step, before its status.
     Inside,
-    /// Behind a step's status.
+    /// After a step's status.
     Behind,
 }
 
@@ -44,7 +44,7 @@ struct RowReader {
     alloc: Global,
     row: Row,
     place: Place,
-    // the lines behind a `repeat` that isn't done
+    // the lines after a `repeat` that isn't done
     block: Option<Block>,
     // whether the line before holds hexadecimal
     extends: bool,

@@ -54,7 +54,7 @@ pub struct ExpectedNames {
     pub names: Vec<Name>,
 }
 
-/// What one file holds behind a step.
+/// What one file holds after a step.
 #[derive(Drop)]
 pub struct ExpectedFile {
     pub line: u64,

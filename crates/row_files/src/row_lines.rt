@@ -79,7 +79,7 @@ impl Step {
     }
 }
 
-/// Refuses a line behind the last one, which is the first without its line feed.
+/// Refuses a line after the last one, which is the first without its line feed.
 fn see_open(is_over: &mut bool, is_ended: bool) -> Result<(), LineFault> {
     if *is_over {
         return Err(LineFault::BehindLast);
@@ -131,7 +131,7 @@ fn add_fail(fails: &mut Vec<PlannedFail>, line: u64, text: &str) -> Result<(), L
     Ok(())
 }
 
-/// What a file holds behind the step.
+/// What a file holds after the step.
 fn expect_file(
     alloc: Global,
     files: &mut Vec<ExpectedFile>,

@@ -1,4 +1,4 @@
-//! Bytes and names as they are told to a reader, behind a text that is told before.
+//! Bytes and names as they are told to a reader, after a text that is told before.
 
 use crate::piece::Piece;
 use disk_folder::Spelled;
@@ -9,7 +9,7 @@ use std::fmt;
 /// Of a line no more bytes are shown.
 const MOST_BYTES: usize = 160;
 
-/// A byte in hexadecimal, or `--` behind the last one.
+/// A byte in hexadecimal, or `--` after the last one.
 #[derive(Clone, Copy)]
 pub struct ShownByte(pub Option<u8>);
 

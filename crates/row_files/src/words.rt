@@ -1,4 +1,4 @@
-//! The words that a row's lines begin with, and the fields behind them.
+//! The words that a row's lines begin with, and the fields after them.
 
 use crate::fault::LineFault;
 use crate::row::{FallibleCall, PlannedFail};

@@ -175,7 +175,7 @@ module _ (v : ℕ) (before after : List NumberedCell) (x : NumberedCell) (m : Me
         ap (λ b. if b then m.left - 1 else m.left) not_shown ∙ omega (arith, met.left, counted))
   ]
 
-  -- where a put or delete before it has the timestamp of one behind it, it has that timestamp itself
+  -- where a put or delete before it has the timestamp of one after it, it has that timestamp itself
   same_ts : (p : NumberedCell) → in_column x.1 p.1 ≡ true → numbered_cmp x p ≡ Less → held_in before p ≡ true → x.1.ts == p.1.ts ≡ true
   same_ts p same less e =
       let d = some_there (λ d. (d.1.kind == 8 || d.1.kind == 4) && (in_column d.1 p.1 && d.1.ts == p.1.ts)) before e in

@@ -1,4 +1,4 @@
--- One step of the pass: what is kept behind the cell at a place, and what a reader is given of it.
+-- One step of the pass: what is kept after the cell at a place, and what a reader is given of it.
 use Rattle.std.proofs.Common.{◌≡◌, ℕ, suc, ◌+◌, ◌<◌, ◌⊎◌, Bool, cond, List, [], ◌∷◌, ◌++◌, length, filter, get_or, take, drop, refl, sym, ap, ◌∙◌, subst, arith}
 use Rattle.std.specs.declared.cmp.Ordering.TheVariants.{Less}
 use Rattle.std.proofs.lemmas.List.{length-take-le}

@@ -27,7 +27,7 @@ shows m covered c = c.kind == 4 && not (covered || (m.deleted || holds m.held c.
 abbrev pub gives : Met → Bool → Cell → Bool
 gives m covered c = shows m covered c && nat_lt 0 m.left
 
--- behind it
+-- after it
 abbrev pub passed : Met → Bool → Cell → Met
 passed m covered c = record {
   deleted = m.deleted || c.kind == 12;
@@ -35,7 +35,7 @@ passed m covered c = record {
   left = if shows m covered c then m.left - 1 else m.left;
 }
 
--- What these cells hold of the column of x, for it and for what stands behind it: `behind` says where.
+-- What these cells hold of the column of x, for it and for what stands after it: `behind` says where.
 pub record IsMet (versions : ℕ) (cells before : List NumberedCell) (x : NumberedCell) (behind : NumberedCell → Type 0) (m : Met) : Type 0 where
   pub deleted : deleted_in before x ≡ m.deleted
   pub held : (p : NumberedCell) → in_column x.1 p.1 ≡ true → behind p → held_in before p ≡ holds m.held p.1.ts

@@ -5,7 +5,7 @@ use std::fs::{self, DirEntry};
 use std::io;
 use std::rt::Files;
 
-/// A row's name, which is its file's without `.row`. Rows that must not hold come behind the others.
+/// A row's name, which is its file's without `.row`. Rows that must not hold come after the others.
 #[derive(PartialEq, Eq, PartialOrd, Ord, Drop)]
 pub struct Title {
     pub is_bad: bool,

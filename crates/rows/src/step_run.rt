@@ -25,7 +25,7 @@ pub fn run_step<R: Threads + Wait + Sync + AllocGlobal>(
     Ok(left)
 }
 
-/// The calls of the disk that are to fail, behind those that place these files.
+/// The calls of the disk that are to fail, after those that place these files.
 fn fails_behind(alloc: Global, step: &Step, files: &[StoredFile]) -> Result<Vec<Fail>, RowsError> {
     let plain = disk_with(alloc, files, &[])?;
     Ok(disk_fails(alloc, &step.fails, &plain)?)
@@ -75,7 +75,7 @@ fn judged(
     Ok(files)
 }
 
-/// The calls of the disk that are to fail, numbered behind those that placed the files.
+/// The calls of the disk that are to fail, numbered after those that placed the files.
 fn disk_fails(
     alloc: Global,
     planned: &[PlannedFail],

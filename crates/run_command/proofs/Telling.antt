@@ -156,7 +156,7 @@ input_ends text had has disk rose sank (ends.NoPosition number entries) may prin
 some_none : {A : Type 0} (a : A) → Some a ≡ None → ⊥
 some_none a e = absurd cc
 
--- with a right script its reading was refused for want of memory, or for a fault
+-- with a right script its reading was refused for out of memory, or for a fault
 pub input_first : (fault : Option (ℕ × Why)) (it : Status) (earlier : List Status) → fault ≡ None → (status : Status) → IsInputRefusal status → IsScriptFault status (λ line why. fault ≡ Some (line, why))
     → IsOrEarlier status it (ends.SourceFault ∷ earlier)
 input_first fault it earlier right ends.Memory may told = inr (0, omega arith, refl)

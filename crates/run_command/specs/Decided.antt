@@ -21,6 +21,6 @@ abbrev pub spent_or : Option Spent → Status → Status
 spent_or None other = other
 spent_or (Some spent) other = ends.NumbersSpent spent.region spent.last
 
--- a broken log, then numbers that are spent, then want of memory
+-- a broken log, then numbers that are spent, then out of memory
 abbrev pub decided : Bool → Option Spent → List ReplyLine → Status
 decided broken spent lines = if broken then ends.DiskFault else spent_or spent (if wants_memory lines then ends.Memory else ends.Done)

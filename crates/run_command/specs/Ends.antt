@@ -92,7 +92,7 @@ IsRunEnd (ends.Script line why) = Unit {0}
 IsRunEnd ends.SourceFault = Unit {0}
 IsRunEnd status = IsParsedEnd status
 
--- with which one line alone comes: want of memory and a fault of the disk may come with a report
+-- with which one line alone comes: out of memory and a fault of the disk may come with a report
 abbrev pub IsRunRefusal : Status → Type 0
 IsRunRefusal (ends.Script line why) = Unit {0}
 IsRunRefusal ends.SourceFault = Unit {0}

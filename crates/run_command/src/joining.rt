@@ -6,7 +6,7 @@ use kv_cell::NoMemory;
 use script_calls::{ReplyLine, ReplyLines};
 use std::alloc::Global;
 
-/// The replies of the handlers, one handler's behind the other's.
+/// The replies of the handlers, one handler's after the other's.
 pub fn join_replies(alloc: Global, parts: Vec<ReplyLines>) -> Result<Vec<ReplyLine>, NoMemory>
     ensures { IfOk result (λ all. all.items ≡ flat_map (λ part. part) parts.items) }
 {

@@ -97,7 +97,7 @@ IsClean (RollOk f n) = Unit {0}
 IsClean (RollNothing f) = Unit {0}
 IsClean _ = ⊥
 
--- want of memory
+-- out of memory
 abbrev pub IsWant : Answer → Type 0
 IsWant (PutMemory n) = Unit {0}
 IsWant ScanMemory = Unit {0}

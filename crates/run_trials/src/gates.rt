@@ -72,7 +72,7 @@ impl HoldGate {
         }
     }
 
-    /// The first handler holds the disk at this call; another one comes behind so many syncs, and lets it go at its next call.
+    /// The first handler holds the disk at this call; another one comes after so many syncs, and lets it go at its next call.
     fn hold_disk(&self, handler: u32, call: u32, at: u32, syncs: u64) {
         if handler == 1 {
             if call == at {

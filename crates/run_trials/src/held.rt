@@ -60,11 +60,11 @@ flush 2 1
 /// A script, how its handlers are held, and lines of the report, or others in their place.
 type Row = (&'static str, Hold, &'static str, &'static str);
 
-/// 1. The put's handler is held behind its edit, so another thread writes the batch: a sync of the new log, two of the batch.
-/// 2. Each put is held behind its edit until the other's edit is logged too. They come in one order or the other.
+/// 1. The put's handler is held after its edit, so another thread writes the batch: a sync of the new log, two of the batch.
+/// 2. Each put is held after its edit until the other's edit is logged too. They come in one order or the other.
 /// 3. So it is with puts into two regions.
 /// 4. The first flush is held in the fourth sync, that of its store's bytes: a sync of the new log and two of the put's batch are
-///    behind it. Meanwhile the second one comes, of another family, and is back before the first may go on.
+///    after it. Meanwhile the second one comes, of another family, and is back before the first may go on.
 /// 5. The second handler is held until both flushes of the first one are behind it.
 const ROWS: [Row; 5] = [
     (ONE_PUT, Hold::UntilSyncs(3), ANSWERED, ANSWERED),

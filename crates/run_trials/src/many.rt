@@ -37,7 +37,7 @@ fn run_once<R: Threads + Wait + Sync + AllocGlobal + Abort>(
     Ok(())
 }
 
-/// A script is made from its starting number, handlers, regions and calls of each handler. How often it is run stands behind them.
+/// A script is made from its starting number, handlers, regions and calls of each handler. How often it is run stands after them.
 type Row = (u64, u64, u64, u64, u64);
 
 const FEW_HANDLERS: [Row; 10] = [

@@ -1,4 +1,4 @@
-//! What lies on two disks behind a run, and runs on disks on which something else was found.
+//! What lies on two disks after a run, and runs on disks on which something else was found.
 
 use crate::bench::{add_file, copy_of, empty_disk, expect};
 use crate::pair_worked::{FOUND, NO_CALLS, SCRIPT};

@@ -74,7 +74,7 @@ end 5
 /// A script without calls: a run of it prints what was found.
 pub(crate) const NO_CALLS: &str = "time 1\nregions 2\nhandlers 1\n";
 
-/// What it prints behind the first script.
+/// What it prints after the first script.
 pub(crate) const FOUND: &str = "hwal 1\nregion 1 base 1 2\nregion 2 base 1 1\nend 0\n";
 
 const BOTH: &str = "hwal 1\nregion 1 base 1 1\nregion 2 base 1 1\nend 0\n";
@@ -95,7 +95,7 @@ type Row = (
     &'static str,
 );
 
-// In the second row each put is held behind its edit until the other's edit, in the other log, is logged too. In the third the first sync of the first
+// In the second row each put is held after its edit until the other's edit, in the other log, is logged too. In the third the first sync of the first
 // put's commit fails.
 const ROWS: [Row; 4] = [
     (

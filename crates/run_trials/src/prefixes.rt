@@ -87,7 +87,7 @@ cell 2 c f q 1000 put w cd
     ),
 ];
 
-/// Whether a text is these parts, one behind the other.
+/// Whether a text is these parts, one after the other.
 fn is_made_of(text: &str, parts: &[&str]) -> bool {
     let mut rest = text;
     for part in parts {

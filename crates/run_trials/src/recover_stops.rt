@@ -1,4 +1,4 @@
-//! A second opening, behind one that was stopped, is stopped at each moment.
+//! A second opening, after one that was stopped, is stopped at each moment.
 
 use crate::bench::{add_file, crash_at, empty_disk, expect, recover};
 use disk_fakes::MemDisk;

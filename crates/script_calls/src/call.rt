@@ -90,7 +90,7 @@ impl CallList {
         self.calls.as_slice()
     }
 
-    /// Adds a call behind the others. Where memory runs out the list stays as it was.
+    /// Adds a call after the others. Where memory runs out the list stays as it was.
     pub fn push(&mut self, call: Call) -> Result<(), NoMemory>
         ensures ok { OnOk result (self.new ≡ self.old ++ call_of call ∷ []) }
         ensures err { OnErr result (self.new ≡ self.old) }

@@ -15,7 +15,7 @@ use script_calls::Answer;
 use std::alloc::Global;
 use std::sync::Wait;
 
-/// The row behind which the rows above this one begin: the row with a byte 0 behind it.
+/// The row after which the rows above this one begin: the row with a byte 0 after it.
 pub fn row_behind(alloc: Global, row: &[u8]) -> Result<Vec<u8>, NoMemory>
     ensures { IfOk result (λ behind. behind.items ≡ row.now ++ 0 ∷ []) }
 {

@@ -84,7 +84,7 @@ pub(crate) fn region_of(word: &[u8], regions: u32) -> Result<u32, LineError>
     Ok(n as u32)
 }
 
-/// What a line of calls says, behind head lines that gave so many handlers and regions.
+/// What a line of calls says, after head lines that gave so many handlers and regions.
 pub fn call_line(
     alloc: Global,
     command: Command,

@@ -54,7 +54,7 @@ flush_where_a_cell_is_due : script_fault Run (codes "time 5\nregions 1\nhandlers
 unfolding script_fault number_fault token_fault sized_fault ts_fault kind_fault room_fault mode_fault here_fault one_here_fault mode_here_fault kind_here_fault
 flush_where_a_cell_is_due = refl
 
--- `log` takes no flush: it is told behind what is wrong with its line
+-- `log` takes no flush: it is told after what is wrong with its line
 flush_in_log : script_fault Log (codes "time 5\nregions 1\nhandlers 1\nflush 1 1 f\n") ≡ at_line 4 9 0
 unfolding script_fault number_fault token_fault sized_fault ts_fault kind_fault room_fault mode_fault here_fault one_here_fault mode_here_fault kind_here_fault
 flush_in_log = refl

@@ -73,7 +73,7 @@ get_where_a_cell_is_due : script_fault Run (codes "time 5\nregions 1\nhandlers 1
 unfolding script_fault number_fault token_fault sized_fault ts_fault kind_fault room_fault mode_fault here_fault get_here_fault one_here_fault mode_here_fault kind_here_fault
 get_where_a_cell_is_due = refl
 
--- `log` takes no get: it is told behind what is wrong with its line
+-- `log` takes no get: it is told after what is wrong with its line
 get_in_log : script_fault Log (codes "time 5\nregions 1\nhandlers 1\nget 1 1 r 1\n") ≡ at_line 4 9 0
 unfolding script_fault number_fault token_fault sized_fault ts_fault kind_fault room_fault mode_fault here_fault get_here_fault one_here_fault mode_here_fault kind_here_fault
 get_in_log = refl

@@ -8,7 +8,7 @@ use Rattle.script_model.specs.Fields.{Why, why, cell_why, first_why, first_of, i
 use Rattle.script_model.specs.declared.command.Command.{Command}
 use Rattle.script_model.specs.Tables.{put_fault, table_fault, cell_fault, tagged_fault}
 
--- two tables, one behind the other
+-- two tables, one after the other
 pub joined : (xs ys : List (Bool × Why)) → first_of (first_why xs) (first_why ys) ≡ first_why (xs ++ ys)
 joined [] ys = refl
 joined (x ∷ xs) ys = by x.0 refl (joined xs ys)

@@ -64,7 +64,7 @@ table_of_two_words : script_fault Run (codes "time 1000\nregions 1\nhandlers 1\n
 unfolding script_fault number_fault token_fault sized_fault ts_fault kind_fault room_fault table_name_fault mode_fault here_fault one_here_fault mode_here_fault kind_here_fault
 table_of_two_words = refl
 
--- it stands behind the head lines alone, and once
+-- it stands after the head lines alone, and once
 table_in_head : script_fault Run (codes "time 1000\nregions 1\ntable t\n") ≡ at_line 3 1 0
 unfolding script_fault number_fault token_fault sized_fault ts_fault kind_fault room_fault table_name_fault mode_fault here_fault one_here_fault mode_here_fault kind_here_fault
 table_in_head = refl
@@ -91,7 +91,7 @@ call_behind_a_table : script_fault Run (codes "time 1000\nregions 1\nhandlers 1\
 unfolding script_fault number_fault token_fault sized_fault ts_fault kind_fault room_fault table_name_fault mode_fault here_fault one_here_fault mode_here_fault kind_here_fault
 call_behind_a_table = refl
 
--- `log` takes no line of a table: it is told behind what is wrong with it
+-- `log` takes no line of a table: it is told after what is wrong with it
 table_in_log : script_fault Log (codes "time 1000\nregions 1\nhandlers 1\ntable t\n") ≡ at_line 4 9 0
 unfolding script_fault number_fault token_fault sized_fault ts_fault kind_fault room_fault table_name_fault mode_fault here_fault one_here_fault mode_here_fault kind_here_fault
 table_in_log = refl
@@ -106,7 +106,7 @@ table_in_log_misplaced = refl
 
 -- ---- what is wrong with the tags of a cell
 
--- their token comes behind the value's length
+-- their token comes after the value's length
 tags_of_no_token : script_fault Run (codes "time 1000\nregions 1\nhandlers 1\nput 1 1 sync 1\ncell r f q 1 put v %4\n") ≡ at_line 5 3 0
 unfolding script_fault number_fault token_fault sized_fault ts_fault kind_fault room_fault table_name_fault mode_fault here_fault one_here_fault mode_here_fault kind_here_fault
 tags_of_no_token = refl
@@ -186,7 +186,7 @@ line_without_tags : cell_line (7, tagged []) ≡ codes "cell 7 r f q 1 put v\n"
 unfolding cell_line digits
 line_without_tags = refl
 
--- the name of a table stands behind the line of its entry
+-- the name of a table stands after the line of its entry
 entry_of_a_table : entry_text (record { region = 1; number = 1; time = 1000; batch = record { table = codes "t"; cells = tagged (codes "ab") ∷ [] } })
     ≡ codes "entry 1 1 1000 1\ntable t\ncell 1 r f q 1 put v ab\n"
 unfolding entry_text cell_line digits

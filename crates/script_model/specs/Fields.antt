@@ -90,7 +90,7 @@ kind_fault word = first_why ((not (is_kind (code_of word)), cell_why 6) ∷ [])
 abbrev pub one_more : Batch → Cell → Batch
 one_more batch cell = record batch { cells = batch.cells ++ cell ∷ [] }
 
--- with this cell behind those so far the entry's body is too long
+-- with this cell after those so far the entry's body is too long
 unfoldable pub room_fault : Batch → Cell → Option Why
 room_fault batch cell = first_why ((nat_lt 1048576 (body_length (one_more batch cell)), why 10) ∷ [])
 

@@ -15,7 +15,7 @@ misplaced = Some (why 1)
 abbrev pub undue : Option Why
 undue = Some (why 6)
 
--- the number behind the first word
+-- the number after the first word
 abbrev pub second_number : List (List ℕ) → ℕ
 second_number (a ∷ n ∷ words) = number_of n
 second_number _ = 0
@@ -79,7 +79,7 @@ six_fields_fault time row family qualifier ts kind value =
     first_of (sized_fault 1 1 32767 row) (first_of (sized_fault 2 1 127 family) (first_of (sized_fault 3 0 32767 qualifier)
     (first_of (ts_fault time ts) (first_of (kind_fault kind) (sized_fault 4 0 65536 value)))))
 
--- a cell, behind those that its put has so far
+-- a cell, after those that its put has so far
 abbrev pub cell_fault : Command → ℕ → Batch → (row family qualifier ts kind value : List ℕ) → Option Why
 cell_fault command time batch row family qualifier ts kind value =
     first_of (six_fields_fault time row family qualifier ts kind value)

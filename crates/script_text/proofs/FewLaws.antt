@@ -23,7 +23,7 @@ call_says said None = omega arith
 call_says said (Some (Calls h call)) = one_more said (h, call)
 call_says said (Some (Opens h r sync count)) = omega arith
 
--- a line behind the head lines
+-- a line after the head lines
 unnamed : (said : Said) (words : List (List ℕ)) → Said
 unnamed said words = if begins_with (codes "table") words then record said { table = table_in words } else after_spoken said (spoken_of words)
 

@@ -17,7 +17,7 @@ both_true false b e = absurd cc
 is_zero : (x : List ℕ) → (length x == 0) ≡ true → x ≡ []
 is_zero x e = nil_from_length x (eqb-true (length x) 0 e)
 
--- a cell with tags behind others
+-- a cell with tags after others
 pub tagged_behind : (cs : List Cell) (c : Cell) → (c.tags ≡ [] → ⊥) → are_untagged (cs ++ c ∷ []) ≡ false
 tagged_behind [] c some = by (length c.tags == 0) refl
   where

@@ -10,11 +10,11 @@ use Rattle.script_text.specs.Grouping.{IsOfHandler}
 use Rattle.script_text.specs.State.{handler_call}
 use Rattle.script_text.specs.declared.state.HandlerCall.{HandlerCall}
 
--- the lists with this call behind those of its handler
+-- the lists with this call after those of its handler
 abbrev pub added : List (List Call) → ℕ × Call → List (List Call)
 added lists c = set lists (c.0 - 1) (get_or lists (c.0 - 1) [] ++ c.1 ∷ [])
 
--- the lists with these calls behind those of their handlers
+-- the lists with these calls after those of their handlers
 abbrev pub added_all : List (List Call) → List (ℕ × Call) → List (List Call)
 added_all lists [] = lists
 added_all lists (c ∷ cs) = added_all (added lists c) cs

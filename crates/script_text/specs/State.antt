@@ -14,7 +14,7 @@ handler_call x = (x.handler, call_of x.call)
 abbrev pub InScript : (handlers regions : Option ℕ) → ℕ × Call → Type 0
 InScript handlers regions c = IsCallOf (unwrap_or handlers 0) (unwrap_or regions 0) c.0 c.1
 
--- the limits of the head lines and of what stands behind them
+-- the limits of the head lines and of what stands after them
 pub record IsHead (time regions handlers : Option ℕ) : Type 0 where
   pub time_below : IfSome time (λ t. t < 2 ^ 63 - 1)
   pub regions_within : IfSome regions (λ n. (1 ≤ n) × (n ≤ 64))

@@ -65,7 +65,7 @@ fn six_fields(
     })
 }
 
-/// Whether a cell without tags has room behind those so far, and is one that the command takes.
+/// Whether a cell without tags has room after those so far, and is one that the command takes.
 fn is_taken(command: Command, filling: &Filling, cell: &Cell, name: &[u8]) -> Result<(), LineError>
     requires { cell.now.kind ≡ code_of name.now }
     ensures room { OnOk result (body_length (one_more filling.now cell.now) ≤ 1048576) }
@@ -75,7 +75,7 @@ fn is_taken(command: Command, filling: &Filling, cell: &Cell, name: &[u8]) -> Re
     kind_here(command, cell.kind, name)
 }
 
-/// The cell, where it has room behind those so far and is one that the command takes.
+/// The cell, where it has room after those so far and is one that the command takes.
 fn taken(command: Command, filling: &Filling, cell: Cell, name: &[u8]) -> Result<Cell, LineError>
     requires { cell.kind ≡ code_of name.now }
     ensures same { IfOk result (λ taken. taken ≡ cell) }
@@ -86,7 +86,7 @@ fn taken(command: Command, filling: &Filling, cell: Cell, name: &[u8]) -> Result
     Ok(cell)
 }
 
-/// A cell without tags that has room behind those so far.
+/// A cell without tags that has room after those so far.
 fn plain_line(
     alloc: Global,
     command: Command,
@@ -127,7 +127,7 @@ fn tagged(alloc: Global, plain: Cell, word: &[u8]) -> Result<Cell, LineError>
     Ok(plain.with_owned_tags(tags))
 }
 
-/// Whether a cell with tags has room behind those so far, where the command takes tags.
+/// Whether a cell with tags has room after those so far, where the command takes tags.
 fn is_tagged_taken(command: Command, filling: &Filling, cell: &Cell) -> Result<(), LineError>
     ensures room { OnOk result (body_length (one_more filling.now cell.now) ≤ 1048576) }
     ensures exact { Tells result (first_of (room_fault filling.now cell.now) (here_fault command)) }
@@ -136,7 +136,7 @@ fn is_tagged_taken(command: Command, filling: &Filling, cell: &Cell) -> Result<(
     here(command)
 }
 
-/// The cell with tags, where it has room behind those so far and the command takes tags.
+/// The cell with tags, where it has room after those so far and the command takes tags.
 fn tagged_taken(command: Command, filling: &Filling, cell: Cell) -> Result<Cell, LineError>
     ensures same { IfOk result (λ taken. taken ≡ cell) }
     ensures room { IfOk result (λ taken. body_length (one_more filling.now taken) ≤ 1048576) }
@@ -146,7 +146,7 @@ fn tagged_taken(command: Command, filling: &Filling, cell: Cell) -> Result<Cell,
     Ok(cell)
 }
 
-/// A cell with a seventh field, its tags, that has room behind those so far.
+/// A cell with a seventh field, its tags, that has room after those so far.
 fn tagged_line(
     alloc: Global,
     command: Command,
@@ -172,7 +172,7 @@ fn tagged_line(
     Ok(tagged_taken(command, filling, cell)?)
 }
 
-/// The cell of its fields, six or seven, with room behind those so far.
+/// The cell of its fields, six or seven, with room after those so far.
 fn cell_line(
     alloc: Global,
     command: Command,
@@ -196,7 +196,7 @@ fn cell_line(
     }
 }
 
-/// The cell of a line where one is due, with room behind those so far.
+/// The cell of a line where one is due, with room after those so far.
 pub fn due_line(
     alloc: Global,
     command: Command,

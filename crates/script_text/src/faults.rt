@@ -12,7 +12,7 @@ use std::fmt;
 pub enum ParseRefusal {
     /// Memory ran out.
     Memory,
-    /// The first wrong line, counted from 1, with its cause. The end of the script counts as the line behind the
+    /// The first wrong line, counted from 1, with its cause. The end of the script counts as the line after the
     /// last one, and a script that is too long has line 0.
     Fault { line: u64, why: ScriptWhy },
 }

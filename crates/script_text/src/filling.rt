@@ -13,7 +13,7 @@ use std::marker::Model;
 /// The name of the script's table, and the cells of the open put so far. Contracts see the batch of both.
 ///
 /// How long the body of the put's log entry is follows from two things that each cell adds to, so that no cell is
-/// looked at again for the cells behind it: while there is neither a name nor tags it is 24 bytes and the plain
+/// looked at again for the cells after it: while there is neither a name nor tags it is 24 bytes and the plain
 /// spellings, each two bytes shorter than the tagged one, else 25 bytes, the name, and the tagged spellings of all cells.
 #[derive(Drop)]
 pub struct Filling {
@@ -82,7 +82,7 @@ impl Filling {
         !self.is_named() && self.untagged && cell.tags.is_empty()
     }
 
-    /// The length in bytes of the body of the put's log entry with this cell behind those so far.
+    /// The length in bytes of the body of the put's log entry with this cell after those so far.
     fn body_with(&self, cell: &Cell) -> usize
         ensures { result ≡ body_length (one_more self.now cell.now) }
     {
@@ -106,7 +106,7 @@ impl Filling {
         Ok(())
     }
 
-    /// Adds a cell that has room behind those so far.
+    /// Adds a cell that has room after those so far.
     pub fn push(&mut self, cell: Cell) -> Result<(), NoMemory>
         requires count { length self.old.cells < 1024 }
         requires room { body_length (one_more self.old cell) ≤ 1048576 }

@@ -33,7 +33,7 @@ fn empty_lists(
     Ok(lists)
 }
 
-/// Adds a call behind those of its handler.
+/// Adds a call after those of its handler.
 fn add_to(lists: &mut Vec<CallList>, handler: usize, call: Call) -> Result<(), NoMemory>
     requires given { 1 ≤ handler }
     requires within { handler ≤ length lists.old.items }

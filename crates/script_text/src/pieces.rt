@@ -19,7 +19,7 @@ fn find(bytes: &[u8], byte: u8) -> usize
     bytes.len()
 }
 
-/// The bytes in front of the first such byte, and those behind it.
+/// The bytes in front of the first such byte, and those after it.
 fn cut(bytes: &[u8], byte: u8) -> (&[u8], &[u8])
     ensures at { (length result.0.now ≤ length bytes.now)
         × ((result.0.now ≡ take (length result.0.now) bytes.now) × (result.1.now ≡ drop (length result.0.now + 1) bytes.now)) }
@@ -34,7 +34,7 @@ fn cut(bytes: &[u8], byte: u8) -> (&[u8], &[u8])
     }
 }
 
-/// The first line of a text that has one, and the text behind it.
+/// The first line of a text that has one, and the text after it.
 pub fn next_line(text: &[u8]) -> (&[u8], &[u8])
     requires { 0 < length text.now }
     ensures lines { lines_of text.now ≡ result.0.now ∷ lines_of result.1.now }

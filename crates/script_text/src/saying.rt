@@ -1,4 +1,4 @@
-//! What a line says, behind those so far.
+//! What a line says, after those so far.
 
 ghost use Rattle.std.specs.Prelude.{◌≡◌, ◌<◌, OnOk, Some, map};
 ghost use Rattle.script_model.specs.Script.{after_cell, after_spoken, batch_so_far, end_fault, named_fault, say, words_fault};

@@ -35,7 +35,7 @@ pub live_more : (flushed : List ℕ → ℕ) (xs : List Note) (x : Note) → liv
 live_more flushed [] x = omega (arith, live_of_most flushed x.number x.families)
 live_more flushed (y ∷ xs) x = omega (arith, live_more flushed xs x)
 
--- ---- what is in a list is first or behind
+-- ---- what is in a list is first or after
 
 pub first_or_behind : {X : Type 0} (x y : X) (xs : List X) → Contains (x ∷ xs) y → (x ≡ y) ⊎ Contains xs y
 first_or_behind {X} x y xs h = elim (Contains-append_cases (x ∷ []) xs y h) as (λ _. (x ≡ y) ⊎ Contains xs y) [

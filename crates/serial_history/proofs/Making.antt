@@ -1,4 +1,4 @@
--- The history: behind the base, and behind each put, the scans that read there.
+-- The history: after the base, and after each put, the scans that read there.
 use Rattle.std.proofs.Common.{◌≡◌, ℕ, suc, ◌+◌, ◌<◌, ◌≤◌, ◌&&◌, ◌⊎◌, List, [], ◌∷◌, ◌++◌, length, Contains, Some, refl, sym, ap, ◌∙◌, subst, arith, inl, inr}
 use Rattle.std.proofs.lemmas.Bool.{cases_eq}
 use Rattle.std.proofs.lemmas.List.Elements.{Contains-append_left, Contains-append_right, Contains-append_cases}
@@ -31,7 +31,7 @@ history_from r replies last (p ∷ ps) = scans_at r last replies ++ p ∷ histor
 
 -- ---- who is in it
 
--- a reply behind a sequence id, or a scan at it
+-- a reply after a sequence id, or a scan at it
 abbrev pub IsBehind : ℕ → List Reply → ℕ → Reply → Type 0
 IsBehind r replies last x = ((n : ℕ) × (last < n) × IsAt r replies n x × (number_of x.answer ≡ Some n)) ⊎ ((n : ℕ) × (last ≤ n) × Contains replies x × IsScanAt r n x)
 
@@ -105,7 +105,7 @@ module _ (r : ℕ) (base : Base) (edits : List Edit) (replies : List Reply) (jou
       pairs_filtered AreHandled (λ (x : Reply). is_scan_on r x.call && is_at n x.answer) replies
       (pairs_weaker InOrder AreHandled replies (λ a b order same. in_turn a b (turn_of a b order same)) (pairs_from InOrder replies law.order))
 
-  -- a reply before a sequence id, or the put that drew it, and a reply behind it
+  -- a reply before a sequence id, or the put that drew it, and a reply after it
   before : (a b : Reply) (m last : ℕ) → IsAt r replies m a → m < last → IsBehind r replies last b → AreHandled a b
   before a b m last at_a lt (inl put) same = ahead r base edits replies journal law a b m put.0 at_a put.2 (omega (arith, lt, put.1)) same
   before a b m last at_a lt (inr scan) same = ahead r base edits replies journal law a b m scan.0 at_a (scan_at r replies scan.0 b scan.2 scan.3) (omega (arith, lt, scan.1)) same

@@ -46,7 +46,7 @@ never_below r base old new (y ∷ ys) run x p cells is said =
       | inr later ↦ omega (arith, here.grown, never_below r base run.0 new ys run.2 x p cells later said)
     ]
 
--- of an earlier and a later reply: a scan behind a put reads at its sequence id or above
+-- of an earlier and a later reply: a scan after a put reads at its sequence id or above
 abbrev SeesPut : Reply → Reply → Type 0
 SeesPut a b = (n p : ℕ) (cells : List NumberedCell) → number_of a.answer ≡ Some n → b.answer ≡ Scanned p cells → n ≤ p
 

@@ -19,7 +19,7 @@ same_view base old rest from to f =
     cut_by_count base.last (length old) (last_of base.last old) old (front_follows base.last old rest f) refl ∙ take_all (length old) old (omega arith) in
     ap (λ (es : List Edit). filter (is_in_range from to) (cells_of (put_edits base.content (filter (λ e. is_done e.outcome) es)))) (long ∙ sym short)
 
--- the number of the edit behind the first ones
+-- the number of the edit after the first ones
 pub next_number : (last : ℕ) (old : List Edit) (e : Edit) (rest : List Edit) → Follows last (old ++ e ∷ rest) → e.entry.number ≡ last_of last old + 1
 next_number last [] e rest f = omega (arith, f.0)
 next_number last (d ∷ old) e rest f = omega (arith, next_number (last + 1) old e rest f.1)

@@ -13,7 +13,7 @@ pub scans_nothing : (name : Naming) (view : View) (r : ℕ) (from to : List ℕ)
 scans_nothing name view r from to p = record { answered = refl; later = later_here p; own = λ s. record { own = refl; spent = refl }; cells = λ q cells is. absurd cc; used = refl }
 
 module _ (name : Naming) (r : ℕ) (from to : List ℕ) (old new : Pass) where
-  -- out of memory behind a scan
+  -- out of memory after a scan
   pub got_nothing : (view : View) (answer : Answer) → Scans name Raw r from to answer old new → Scans name view r from to ScanMemory old new
   got_nothing view answer s = record { answered = refl; later = s.later; own = s.own; cells = λ q cells is. absurd cc; used = s.used }
 

@@ -158,7 +158,7 @@ flush_was_done name time r hs x disk broken a closed s reply n is call number J 
     let o = kept_of name time hs a reply is in
     s.stored J v p image recovered (omega (arith, low, o.2.stored r n call number, closed.stored_seen o.0.pass (has_pass hs o.0 o.1)))
 
--- Behind a roll the log file of the greatest number has none of the entries that were durable before.
+-- After a roll the log file of the greatest number has none of the entries that were durable before.
 pub roll_was_done : (name : Naming) (time r : ℕ) (hs : List Handled) (x : Region) (disk : DiskView) (broken : Bool) → AllRun name time hs → IsClosedRegion name r (passes_of hs) x → Survives disk broken r x
     → (h : Handled) → Contains hs h → (front mid back : List Reply) (put roll : Reply) → h.replies ≡ front ++ put ∷ (mid ++ roll ∷ back)
     → (n : ℕ) (batch : Batch) → put.call ≡ Put r true batch → put.answer ≡ PutOk n → roll.call ≡ Roll → IsRolled roll.answer

@@ -73,7 +73,7 @@ zeros zero i = refl
 zeros (suc n) zero = refl
 zeros (suc n) (suc i) = zeros n i
 
--- n regions behind k, of which nothing is stored
+-- n regions after k, of which nothing is stored
 abbrev pub regions_from : ℕ → ℕ → List RegionBase
 regions_from k zero = []
 regions_from k (suc n) = record { region = k + 1; flushed = 0; next_store = 1 } ∷ regions_from (k + 1) n

@@ -1,4 +1,4 @@
-//! One handler puts three cells in two edits, and another one reads the region before, between and behind them. What they are answered
+//! One handler puts three cells in two edits, and another one reads the region before, between and after them. What they are answered
 //! is told at once, so that a call that ends early has little to drop.
 
 ghost use Rattle.std.specs.Prelude.{◌≡◌, ◌≤◌, ◌<◌};
@@ -13,7 +13,7 @@ use region_calls::{FreeGate, Pass, ScanReply, Scanner, Server};
 use std::alloc::Global;
 use std::sync::Wait;
 
-/// What a reader asks for: the region's point, all its cells, or these in pages of two, up to one behind the last.
+/// What a reader asks for: the region's point, all its cells, or these in pages of two, up to one after the last.
 #[derive(Clone, Copy)]
 enum Look {
     Point,
@@ -110,7 +110,7 @@ fn scan_beside<N: ServerName, R: Wait, D: Disk>(
 }
 
 /// One handler puts the rows `a` and `c`, and then `b`, which lies between them. Its reader has viewed nothing when it first asks for the
-/// point. A scan is begun between the puts, and all of it but its first cell is read behind the second.
+/// point. A scan is begun between the puts, and all of it but its first cell is read after the second.
 pub(crate) fn ask<N: ServerName, R: Wait, D: Disk>(
     rt: &R,
     alloc: Global,

@@ -80,7 +80,7 @@ impl Told {
     }
 }
 
-/// Takes back what a member has, which is of the region behind this one. What it told.
+/// Takes back what a member has, which is of the region after this one. What it told.
 fn one_back<N: ServiceNaming, R: Wait>(
     rt: &R,
     service: &LogService<HeldDisk, N>,

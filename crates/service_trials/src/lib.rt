@@ -1,5 +1,5 @@
 //! Trials of the log service and of a running server over a disk in memory. Of the service: moves beside another thread's commit, a roll
-//! behind chains and behind a full ring, a thread that waits for the log, sixteen threads that put, and a fault of each disk call with what a
+//! after chains and after a full ring, a thread that waits for the log, sixteen threads that put, and a fault of each disk call with what a
 //! crash leaves then. Of a server: scans that are read a page at a time beside later puts, and the point that a reader is shown. Of a region's
 //! versions: what is told, and what is found while others are shown. A library of tests alone, at the top, so that no crate waits for it.
 #![tactic(auto)]

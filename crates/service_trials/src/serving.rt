@@ -86,7 +86,7 @@ fn open_and_serve<R: Wait, D: Disk + Drop>(
 }
 
 /// The points are 0, 1 and 2, and the puts get the sequence ids 1 and 2. The scan that was begun between them never shows `b`; the one
-/// begun behind both does, in pages and at once; a page behind its last has no cell. Both edits are left, durable, in a log that is whole.
+/// begun after both does, in pages and at once; a page after its last has no cell. Both edits are left, durable, in a log that is whole.
 #[test]
 fn a_scan_in_pages_keeps_its_point(rt: HostRuntime) -> Result<(), Fail> {
     let alloc = rt.alloc();

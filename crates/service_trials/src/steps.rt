@@ -78,7 +78,7 @@ const CROWD: &[Row] = &[
     (Step::PutAnd(HELPING, Turn::Wait), 1, 1),
 ];
 
-/// Three puts of which two are waited for, with a roll and a flush behind them.
+/// Three puts of which two are waited for, with a roll and a flush after them.
 const SCRIPT: &[Row] = &[
     (Step::PutAnd(ONCE, Turn::Wait), 1, 1),
     (Step::Take(Turn::Roll), 1, 1),
@@ -107,7 +107,7 @@ const MOVE: &[Row] = &[
     (Step::Give(Sign::Release), 1, 1),
 ];
 
-/// Behind the held sync are two edits that are moved with their wish, each before a sync turn that finds the device busy, one that is moved
+/// After the held sync are two edits that are moved with their wish, each before a sync turn that finds the device busy, one that is moved
 /// only, and one that is not moved. The roll moves it too.
 const ROLL: &[Row] = &[
     (Step::PutAnd(ONCE, Turn::Move), 1, 2),
@@ -150,7 +150,7 @@ const WAKE: &[Row] = &[
     (Step::Give(Sign::Came(4, PATIENCE)), 1, 4),
 ];
 
-/// The edit that fills the ring of 1,024 items behind the first edit, and the last one that is pushed.
+/// The edit that fills the ring of 1,024 items after the first edit, and the last one that is pushed.
 const FULL: u64 = 1_025;
 
 const LAST: u64 = 1_031;
@@ -208,7 +208,7 @@ pub(crate) enum Trial {
     Two,
 }
 
-/// A log, and of the edits of the last region the first one in it and the one behind the last.
+/// A log, and of the edits of the last region the first one in it and the one after the last.
 pub(crate) type LogRow = (u64, u64, u64);
 
 impl Trial {

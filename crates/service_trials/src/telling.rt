@@ -1,4 +1,4 @@
-//! What was answered, as text: each answer with a space behind it. None is out of memory.
+//! What was answered, as text: each answer with a space after it. None is out of memory.
 
 ghost use Rattle.std.specs.Prelude.{◌≤◌};
 
@@ -37,7 +37,7 @@ fn tell_cells(told: &mut Vec<u8>, cells: &[(u64, Cell)]) -> Option<()> {
     Some(())
 }
 
-/// Tells the next `count` cells of a scan, and a dot behind them where none is left, else a bar.
+/// Tells the next `count` cells of a scan, and a dot after them where none is left, else a bar.
 pub(crate) fn tell_page(
     alloc: Global,
     told: &mut Vec<u8>,
@@ -52,7 +52,7 @@ pub(crate) fn tell_page(
         .ok()
 }
 
-/// Tells a scan in pages of two cells, up to one behind the last of three.
+/// Tells a scan in pages of two cells, up to one after the last of three.
 pub(crate) fn tell_pages(
     alloc: Global,
     told: &mut Vec<u8>,

@@ -105,7 +105,7 @@ torn files p told had before now same s = record {
 
 -- ---- what was printed
 
--- behind what was shipped stands what was printed then
+-- after what was shipped stands what was printed then
 behind_it : (had mid has shipped front : List ℕ) → mid ≡ had ++ shipped → has ≡ mid ++ front → taken_of had has ≡ shipped ++ front
 behind_it had mid has shipped front first then = taken_front had has (shipped ++ front) (then ∙ ap (λ (l : List ℕ). l ++ front) first ∙ append_assoc had shipped front)
 

@@ -20,7 +20,7 @@ refused_as (ships.Damaged name at) = ends.Damaged (damages.Bytes name at)
 refused_as (ships.NoPosition file has) = ends.NoPosition file has
 refused_as ships.PeerFault = ends.SinkFault
 
--- Behind what it had, the sink took what stands between the position and one to which readings lead: all of it with Ok. Else
+-- After what it had, the sink took what stands between the position and one to which readings lead: all of it with Ok. Else
 -- nothing is read there, where the refusal tells why.
 pub record HasPrinted {T : Type 0} (files : Files) (p : Position) (before now : List ℕ) (result : Result T ShipRefusal) : Type 0 where
   pub messages : List Message
@@ -32,7 +32,7 @@ pub record HasPrinted {T : Type 0} (files : Files) (p : Position) (before now : 
   pub all : OnOk result (ShipsAll files p messages stop × AreTexts files p.file)
   pub why : (refusal : ShipRefusal) → result ≡ Err refusal → IsStopOf (refused_as refusal) files stop
 
--- The sink failed: behind what it had, it has a beginning of entries and records.
+-- The sink failed: after what it had, it has a beginning of entries and records.
 pub record HasCut (files : Files) (p : Position) (before now : List ℕ) : Type 0 where
   pub messages : List Message
   pub records : ShipsBeginning files p messages

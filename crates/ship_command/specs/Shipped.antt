@@ -1,4 +1,4 @@
--- The command that ships what stands behind a position in a store's logs.
+-- The command that ships what stands after a position in a store's logs.
 use Rattle.std.specs.Prelude.{◌≡◌, ◌⊎◌, ℕ, List, ◌++◌, Some}
 use Rattle.std.specs.List.{flat_map}
 use Rattle.cell_model.specs.Lists.{IsPrefix}
@@ -40,8 +40,8 @@ IsStopOf _ files stop = Unit {0}
 
 -- ---- what is printed
 
--- All entries behind the position, in order, with a record after each 64 of them and one behind them all. Behind the position of
--- each record stands what is left. Readings lead to the last one, behind which nothing stands, and the logs from the first
+-- All entries after the position, in order, with a record after each 64 of them and one after them all. After the position of
+-- each record stands what is left. Readings lead to the last one, after which nothing stands, and the logs from the first
 -- position's on are texts.
 pub record PrintsAll (files : Files) (p : Position) (text : List ℕ) : Type 0 where
   pub messages : List Message
@@ -52,7 +52,7 @@ pub record PrintsAll (files : Files) (p : Position) (text : List ℕ) : Type 0 w
   pub leads : LeadsTo files p last
   pub texts : AreTexts files p.file
 
--- The entries that stand between the position and one to which readings lead, with such records, and behind them the line that
+-- The entries that stand between the position and one to which readings lead, with such records, and after them the line that
 -- refuses, or a beginning of that where the sink failed. Nothing is read at that position, where the status tells why.
 pub record PrintsUpTo (files : Files) (p : Position) (status : Status) (line : List ℕ) (sank : Type 0) (text : List ℕ) : Type 0 where
   pub messages : List Message
@@ -65,7 +65,7 @@ pub record PrintsUpTo (files : Files) (p : Position) (status : Status) (line : L
   pub shipped : ShipsUpTo files p messages stop
   pub refused : IsRefused line sank rest
 
--- Entries behind the position, in order, with such records: all of them, or a beginning.
+-- Entries after the position, in order, with such records: all of them, or a beginning.
 pub record PrintsBeginning (files : Files) (p : Position) (text : List ℕ) : Type 0 where
   pub messages : List Message
   pub is : text ≡ messages_text messages

@@ -25,18 +25,18 @@ abbrev pub message_text : Message → List ℕ
 message_text (Entry_of x) = ship_line x ++ (table_line x.entry.batch.table ++ cells_text x.entry)
 message_text (Record_of q) = position_line q
 
--- The sink tells what it took, no call has failed, and behind what the sink had it took these messages.
+-- The sink tells what it took, no call has failed, and after what the sink had it took these messages.
 pub record HasWritten (told failed : Bool) (before now : List ℕ) (ms : List Message) : Type 0 where
   pub tells : IsTrue told
   pub whole : failed ≡ false
   pub is : now ≡ before ++ flat_map message_text ms
 
--- Of the bytes that it had, and of a text behind them, a sink has a beginning.
+-- Of the bytes that it had, and of a text after them, a sink has a beginning.
 pub record IsCutIn (now before text : List ℕ) : Type 0 where
   pub rest : List ℕ
   pub is : before ++ text ≡ now ++ rest
 
--- The sink tells what it took. Behind what it had it took these messages and this one, or a beginning of them.
+-- The sink tells what it took. After what it had it took these messages and this one, or a beginning of them.
 pub record IsTorn (told : Bool) (before now : List ℕ) (ms : List Message) (m : Message) : Type 0 where
   pub tells : IsTrue told
   pub cut : IsCutIn now before (flat_map message_text ms ++ message_text m)

@@ -65,7 +65,7 @@ fn put_stamp<K: Sink>(
     put_word(out, held, value)
 }
 
-/// Holds the tags behind a space, nothing where there are none.
+/// Holds the tags after a space, nothing where there are none.
 fn put_tags<K: Sink>(out: &mut K, held: &mut Held, tags: &[u8]) -> Result<(), Failed>
     ensures ok { IsTrue K.told → OnOk result (K.taken out.new ++ held.new.items ≡ (K.taken out.old ++ held.old.items) ++ tags_text tags.now) }
     ensures cut { IsTrue K.told → IsErr result → IsCutIn (K.taken out.new) (K.taken out.old ++ held.old.items) (tags_text tags.now) }

@@ -1,4 +1,4 @@
-//! The command `ship`: prints what stands behind a position in a store's logs.
+//! The command `ship`: prints what stands after a position in a store's logs.
 
 ghost use Rattle.std.specs.Prelude.{◌≡◌, ◌≢◌, ◌≤◌, [], ◌∷◌, ℕ, List, false, IsTrue, IsErrOf, Err, Some};
 ghost use Rattle.log_model.specs.declared.name.Name.{Name as TheName};
@@ -23,8 +23,8 @@ use std::alloc::Global;
 use std::sync::Wait;
 use std::thread::Threads;
 
-/// Carries out `ship` from a position on: prints the entries that stand behind it in the disk's logs, a record after each 64 and
-/// at the end, and the last line. It writes nothing to the disk. A line that refuses stands behind what was printed before.
+/// Carries out `ship` from a position on: prints the entries that stand after it in the disk's logs, a record after each 64 and
+/// at the end, and the last line. It writes nothing to the disk. A line that refuses stands after what was printed before.
 pub fn ship<R: Threads + Wait + Sync, D: Disk + Send, K: Sink>(
     rt: &R,
     alloc: Global,
@@ -72,7 +72,7 @@ fn end_refused<K: Sink>(out: &mut K, refusal: ShipRefusal) -> Status
     }
 }
 
-/// Prints the entries behind a position, and the records.
+/// Prints the entries after a position, and the records.
 fn ship_lines<R: Threads + Wait + Sync, D: Disk + Send, K: Sink>(
     rt: &R,
     alloc: Global,

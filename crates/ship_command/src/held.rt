@@ -25,7 +25,7 @@ pub(crate) fn send<K: Sink>(out: &mut K, held: &mut Held) -> Result<(), Failed>
     Ok(())
 }
 
-/// Holds the bytes, behind what is held. Where they don't fit, what is held is written to the sink, and they behind it.
+/// Holds the bytes, after what is held. Where they don't fit, what is held is written to the sink, and they after it.
 pub(crate) fn put<K: Sink>(out: &mut K, held: &mut Held, bytes: &[u8]) -> Result<(), Failed>
     ensures ok { IsTrue K.told → OnOk result (K.taken out.new ++ held.new.items ≡ (K.taken out.old ++ held.old.items) ++ bytes.now) }
     ensures cut { IsTrue K.told → IsErr result → IsCutIn (K.taken out.new) (K.taken out.old ++ held.old.items) bytes.now }

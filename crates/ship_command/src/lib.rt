@@ -1,4 +1,4 @@
-//! The command `ship`: prints the entries that stand behind a position in a store's logs, for a program that follows the store,
+//! The command `ship`: prints the entries that stand after a position in a store's logs, for a program that follows the store,
 //! and between them the positions that this program records. `SinkPeer` is the peer of `ship_queue` that prints what it is shipped.
 #![tactic(auto)]
 

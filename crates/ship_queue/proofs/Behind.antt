@@ -1,4 +1,4 @@
--- What stands behind an entry of a chronicle.
+-- What stands after an entry of a chronicle.
 use Rattle.std.proofs.Common.{◌≡◌, ◌<◌, ◌⊎◌, Bool, true, false, List, [], ◌∷◌, ◌++◌, filter, Contains, cond, refl, sym, ap, ◌∙◌, subst, arith, inl, inr, append_assoc}
 use Rattle.std.proofs.lemmas.Bool.{cases_Bool, cases_lt, cases_order}
 use Rattle.std.proofs.lemmas.Bool.Decides.{nat_tests}
@@ -25,7 +25,7 @@ passes p (x ∷ xs) y is = elim (cases_Bool (p x)) as (λ _. p y ≡ true) [
   | inr no' ↦ passes p xs y (subst (λ b. Contains (cond b (x ∷ filter p xs) (filter p xs)) y) no' is)
 ]
 
--- a filter behind one that lets through all that it does
+-- a filter after one that lets through all that it does
 filter_twice : (p q : Placed → Bool) (xs : List Placed) → ((x : Placed) → q x ≡ true → p x ≡ true) → filter q (filter p xs) ≡ filter q xs
 filter_twice p q [] over = refl
 filter_twice p q (x ∷ xs) over =
@@ -81,7 +81,7 @@ later : (x z : Placed) → ComesBefore x z → StandsBehind (position_behind x) 
 later x z (inl a) = inl a
 later x z (inr a) = inr (a.0, a.1)
 
--- ---- behind an entry
+-- ---- after an entry
 
 module _ (c : List Placed) (p : Position) (front : List Placed) (x : Placed) (rest : List Placed) (o : IsOrdered c) (is : behind c p ≡ (front ++ x ∷ []) ++ rest) where
   ordered : IsOrdered ((front ++ x ∷ []) ++ rest)

@@ -35,6 +35,6 @@ placed_next f n xs j place x p is at =
     ap (λ (k : ℕ). placed_behind f n (take k xs)) more ∙ ap (placed_behind f n) (take_next xs j x p is) ∙ placed_append f n (take j xs) (x ∷ [])
     ∙ ap (λ (m : ℕ). placed_behind f n (take j xs) ++ record { file = f; place = m; entry = x } ∷ []) len
 
--- and those behind it
+-- and those after it
 pub placed_split : (f n : ℕ) (xs : List Entry) (j : ℕ) → placed_behind f n xs ≡ placed_behind f n (take j xs) ++ placed_behind f (n + length (take j xs)) (drop j xs)
 placed_split f n xs j = ap (placed_behind f n) (sym (take-append-drop j xs)) ∙ placed_append f n (take j xs) (drop j xs)

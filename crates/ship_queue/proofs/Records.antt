@@ -14,7 +14,7 @@ pub some_is : (p q : Position) → Some p ≡ Some q → p ≡ q
 some_is p q is = cc
 
 module _ (c : List Placed) (p : Position) (o : IsOrdered c) where
-  -- behind the last one of what was shipped stands the rest
+  -- after the last one of what was shipped stands the rest
   at_last : (done rest : List Placed) (l : Option Position) (q : Position) → behind c p ≡ done ++ rest → IsLastOf done l → l ≡ Some q → behind c p ≡ done ++ behind c q
   at_last done rest l q is (inl none) some = absurd (cc (none, some))
   at_last done rest l q is (inr (front, x, ends, last)) some =

@@ -24,7 +24,7 @@ marks_append l (Record_of q ∷ ms) ns m n = (m.0, marks_append l ms ns m.1 n)
 abbrev pub IsLastOf : List Placed → Option Position → Type 0
 IsLastOf done l = (l ≡ None) ⊎ ((front : List Placed) × (x : Placed) × (done ≡ front ++ x ∷ []) × (l ≡ Some (position_behind x)))
 
--- a position behind one of these
+-- a position after one of these
 abbrev pub IsMark : List Placed → Option Position → Type 0
 IsMark xs r = (done : List Placed) × (x : Placed) × IsPrefix (done ++ x ∷ []) xs × (r ≡ Some (position_behind x))
 

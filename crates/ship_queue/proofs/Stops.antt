@@ -36,7 +36,7 @@ onward_of : (p : Position) (x : Placed) → StandsBehind p x → IsOnward p (pos
 onward_of p x (inl lt) = inl lt
 onward_of p x (inr both) = inr (both.0, omega (arith, both.1))
 
--- ---- behind an entry
+-- ---- after an entry
 
 module _ (files : Files) (c : List Placed) (p : Position) (is : IsChronicle files c) where
   stop_behind : (x : Placed) → is_behind p x ≡ true → StandsIn files x → IsStop files p (position_behind x)

@@ -23,7 +23,7 @@ pub record HasReadOn (files : Files) (p q : Position) (xs : List Placed) : Type 
   pub texts : (number : ℕ) → p.file ≤ number → number < q.file → IsText files number
   pub forward : p.file ≤ q.file
 
--- Behind q there is nothing.
+-- After q there is nothing.
 pub record IsAtEnd (files : Files) (q : Position) : Type 0 where
   pub none : (c : List Placed) → IsChronicle files c → behind c q ≡ []
   pub texts : (number : ℕ) → q.file ≤ number → IsText files number

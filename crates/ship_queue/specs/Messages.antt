@@ -8,7 +8,7 @@ use Rattle.log_tail.specs.declared.position.Position.{Position}
 abbrev pub placed : Position → Entry → Placed
 placed at entry = record { file = at.file; place = at.entries; entry = entry }
 
--- the position behind an entry
+-- the position after an entry
 abbrev pub position_behind : Placed → ThePosition
 position_behind x = record { file = x.file; entries = x.place }
 

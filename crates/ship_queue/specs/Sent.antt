@@ -10,19 +10,19 @@ AreMarks last [] = Unit {0}
 AreMarks last (Entry_of x ∷ ms) = AreMarks (Some (position_behind x)) ms
 AreMarks last (Record_of q ∷ ms) = (last ≡ Some q) × AreMarks last ms
 
--- A position is recorded after each 64 entries: so many were shipped since the last record, before these messages and behind
+-- A position is recorded after each 64 entries: so many were shipped since the last record, before these messages and after
 -- them.
 abbrev pub RecordsEach : ℕ → List Message → ℕ → Type 0
 RecordsEach n [] m = n ≡ m
 RecordsEach n (Entry_of x ∷ ms) m = RecordsEach (n + 1) ms m
 RecordsEach n (Record_of q ∷ ms) m = (n ≡ 64) × RecordsEach 0 ms m
 
--- these entries were shipped, and positions behind some of them were recorded
+-- these entries were shipped, and positions after some of them were recorded
 pub record AreSent (ms : List Message) (xs : List Placed) : Type 0 where
   pub shipped : shipped_in ms ≡ xs
   pub marks : AreMarks None ms
 
--- a beginning of these entries was shipped, and nothing was recorded but positions behind some of them
+-- a beginning of these entries was shipped, and nothing was recorded but positions after some of them
 pub record IsCut (before after : List Message) (xs : List Placed) : Type 0 where
   pub more : List Placed
   pub shipped : shipped_in after ≡ shipped_in before ++ more
@@ -30,7 +30,7 @@ pub record IsCut (before after : List Message) (xs : List Placed) : Type 0 where
   pub recorded : (recorded_in after ≡ recorded_in before)
       ⊎ ((done : List Placed) × (x : Placed) × IsPrefix (done ++ x ∷ []) more × (recorded_in after ≡ Some (position_behind x)))
 
--- With this message behind the first ones, and maybe some behind it, a beginning of these entries is sent.
+-- With this message after the first ones, and maybe some after it, a beginning of these entries is sent.
 pub record IsNext (n : ℕ) (xs : List Placed) (ms : List Message) (m : Message) : Type 0 where
   pub rest : List Message
   pub sent : List Placed
@@ -41,7 +41,7 @@ pub record IsNext (n : ℕ) (xs : List Placed) (ms : List Message) (m : Message)
   pub within : since < 64
 
 module _ {P : Type 0} (has : P → List Message → Type 0) where
-  -- the peer was shipped these, behind so many since the last record, and so many are behind the last one now
+  -- the peer was shipped these, after so many since the last record, and so many are behind the last one now
   abbrev pub HasSent : P → P → ℕ → ℕ → List Placed → Type 0
   HasSent old new n m xs = (ms : List Message) → has old ms → (more : List Message) × has new (ms ++ more) × AreSent more xs × RecordsEach n more m
 

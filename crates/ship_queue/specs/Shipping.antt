@@ -8,7 +8,7 @@ use Rattle.chronicle_model.specs.Shipping.{Step}
 use Rattle.ship_queue.specs.Course.{IsText}
 use Rattle.ship_queue.specs.Messages.{Message, Entry_of, Record_of, shipped_in, recorded_in}
 
--- Each record among the messages has a position behind which the chronicle goes on just behind what was shipped before it.
+-- Each record among the messages has a position after which the chronicle goes on just after what was shipped before it.
 abbrev pub AreRecords : List Placed → Position → List Placed → List Message → Type 0
 AreRecords c p done [] = Unit {0}
 AreRecords c p done (Entry_of x ∷ ms) = AreRecords c p (done ++ x ∷ []) ms
@@ -21,13 +21,13 @@ AreRecordedEach n [] = n < 64
 AreRecordedEach n (Entry_of x ∷ ms) = AreRecordedEach (n + 1) ms
 AreRecordedEach n (Record_of q ∷ ms) = ((n ≡ 64) × AreRecordedEach 0 ms) ⊎ ((n < 64) × (ms ≡ []))
 
--- They ship a beginning of what stands behind a position, and record nothing that they don't ship, after each 64 entries.
+-- They ship a beginning of what stands after a position, and record nothing that they don't ship, after each 64 entries.
 pub record IsShip (c : List Placed) (p : Position) (ms : List Message) : Type 0 where
   pub begins : IsPrefix (shipped_in ms) (behind c p)
   pub records : AreRecords c p [] ms
   pub each : AreRecordedEach 0 ms
 
--- They ship all of it, and record a last position at the end, behind which there is nothing.
+-- They ship all of it, and record a last position at the end, after which there is nothing.
 pub record IsWholeShip (c : List Placed) (p : Position) (ms : List Message) (q : Position) : Type 0 where
   pub shipped : shipped_in ms ≡ behind c p
   pub front : List Message
@@ -45,7 +45,7 @@ ShipsUpTo files p ms q = (c : List Placed) → IsChronicle files c → behind c 
 abbrev pub ShipsAll : Files → Position → List Message → Position → Type 0
 ShipsAll files p ms q = (c : List Placed) → IsChronicle files c → IsWholeShip c p ms q
 
--- A call that its peer failed shipped a beginning of what stands behind the position. It recorded nothing, or a position up to
+-- A call that its peer failed shipped a beginning of what stands after the position. It recorded nothing, or a position up to
 -- which it shipped all.
 pub record IsPartShip (c : List Placed) (p : Position) (before after : List Message) : Type 0 where
   pub more : List Placed
@@ -63,7 +63,7 @@ pub record IsStop (files : Files) (p q : Position) : Type 0 where
   pub onward : IsOnward p q
   pub reached : (q ≡ p) ⊎ IsReached files q
 
--- Since it was told the first messages a peer was shipped a beginning of what stands behind the position, and has recorded
+-- Since it was told the first messages a peer was shipped a beginning of what stands after the position, and has recorded
 -- nothing, or a position where a reader stops.
 pub record IsShipStep (files : Files) (c : List Placed) (p : Position) (before after : List Message) : Type 0 where
   pub part : IsPartShip c p before after
@@ -88,7 +88,7 @@ recorded_or first ms = position_or first (recorded_in ms)
 -- ---- law
 
 -- What a call that begins at the recorded position ships is a step of those after which, with repeats taken out, what was
--- shipped begins the chronicle behind the first position.
+-- shipped begins the chronicle after the first position.
 abbrev pub PartShipIsAStep : Type 0
 PartShipIsAStep =
     (first : Position) (c : List Placed) (before after : List Message) → IsPartShip c (recorded_or first before) before after

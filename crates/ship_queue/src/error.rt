@@ -13,7 +13,7 @@ use thiserror::Error;
 pub struct Shipped {
     /// How many entries, or 2^64 - 1 where there were more.
     pub entries: u64,
-    /// The recorded position, behind which there is nothing.
+    /// The recorded position, after which there is nothing.
     pub position: Position,
 }
 

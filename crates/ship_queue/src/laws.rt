@@ -3,7 +3,7 @@
 ghost use Rattle.ship_queue.specs.Shipping.{PartShipIsAStep, ShipIsAPartShip};
 
 /// Where a call begins at the recorded position, what it ships is a step of those after which, with repeats taken out, what was
-/// shipped begins the chronicle behind the first position.
+/// shipped begins the chronicle after the first position.
 pub fn part_ship_is_a_step()
     ensures { PartShipIsAStep }
 {}

@@ -1,4 +1,4 @@
-//! Ships a log's entries to a peer, as HBase replicates its logs: `ship_all` reads what stands behind a position and ships it in
+//! Ships a log's entries to a peer, as HBase replicates its logs: `ship_all` reads what stands after a position and ships it in
 //! order, and the peer records how far it has come. A call that begins at the recorded position ships no entry twice that
 //! stands before it, and leaves none out. Begin at `shipping`. A peer is whatever meets `Peer`: `MemPeer` keeps what it is
 //! shipped in memory, and `SinkPeer` of ship_command prints it.

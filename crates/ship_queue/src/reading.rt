@@ -11,7 +11,7 @@ use log_file::EntryList;
 use log_tail::{Position, Tail, TailRefusal, reading_goes_on};
 use std::alloc::Global;
 
-/// What stood behind a position in its log.
+/// What stood after a position in its log.
 #[derive(Drop)]
 pub(crate) struct Reading {
     pub(crate) at: Position,
@@ -20,7 +20,7 @@ pub(crate) struct Reading {
     pub(crate) is_last: bool,
 }
 
-/// Reads what stands behind the tail's position in its log.
+/// Reads what stands after the tail's position in its log.
 pub(crate) fn read_next<D: Disk>(
     alloc: Global,
     tail: &mut Tail,

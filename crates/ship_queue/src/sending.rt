@@ -20,13 +20,13 @@ const RECORDED_EACH: u64 = 64;
 pub(crate) struct Count {
     /// All of them, or 2^64 - 1 where there were more.
     pub(crate) entries: u64,
-    /// Those behind the last record, or all where there is none yet.
+    /// Those after the last record, or all where there is none yet.
     pub(crate) unrecorded: u64,
     ghost within: { unrecorded < 64 },
 }
 
 impl Count {
-    /// Counts one entry more, and tells whether a position is to be recorded behind it.
+    /// Counts one entry more, and tells whether a position is to be recorded after it.
     fn add(&mut self) -> bool
         ensures entries { self.new.entries ≡ min (self.old.entries + 1) (2 ^ 64 - 1) }
         ensures more { result ≡ false → self.new.unrecorded ≡ self.old.unrecorded + 1 }
@@ -42,7 +42,7 @@ impl Count {
     }
 }
 
-/// Ships an entry, counts it, and records the position behind it where it is the 64th since the last record.
+/// Ships an entry, counts it, and records the position after it where it is the 64th since the last record.
 pub(crate) fn ship_next<P: Peer>(
     peer: &mut P,
     count: &mut Count,
@@ -64,7 +64,7 @@ pub(crate) fn ship_next<P: Peer>(
     peer.confirm(at)
 }
 
-/// Ships the entries that stand behind a position of a log.
+/// Ships the entries that stand after a position of a log.
 pub(crate) fn ship_list<P: Peer>(
     peer: &mut P,
     count: &mut Count,

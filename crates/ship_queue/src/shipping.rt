@@ -1,4 +1,4 @@
-//! Shipping what stands behind a position.
+//! Shipping what stands after a position.
 
 ghost use Rattle.std.specs.Prelude.{◌≡◌, ◌≢◌, ℕ, List, ◌++◌, ◌∷◌, length, IsTrue, IsErrOf, IfOk, OnOk};
 ghost use Rattle.log_model.specs.declared.name.Name.{Name as TheName};
@@ -22,7 +22,7 @@ use std::alloc::Global;
 use std::sync::Wait;
 use std::thread::Threads;
 
-/// Ships all that stands behind the tail's position in the disk's logs, in order, until a reading of the tail gives nothing
+/// Ships all that stands after the tail's position in the disk's logs, in order, until a reading of the tail gives nothing
 /// and doesn't move it. It records a position after each 64 entries, and the tail's at the end. Where it is refused it has
 /// shipped what it had read, unless the peer failed; begin then with a new tail at the position that the peer has recorded.
 pub fn ship_all<R: Threads + Wait + Sync, D: Disk + Send, P: Peer>(
@@ -38,12 +38,12 @@ pub fn ship_all<R: Threads + Wait + Sync, D: Disk + Send, P: Peer>(
         → (more : List Message) × P.has peer.new (ms ++ more) × ShipsBeginning (D.view disk.old).files tail.old more
         × ShipsUpTo (D.view disk.old).files tail.old more tail.new
         × IfOk result (λ x. ShipsAll (D.view disk.old).files tail.old more (position_of x.position)) }
-    // The logs from the position's on are texts, and what they have behind it was counted.
+    // The logs from the position's on are texts, and what they have after it was counted.
     ensures all { IsTrue D.told → OnOk result (AreTexts (D.view disk.old).files tail.old.file) }
     ensures count { IsTrue D.told → (c : List Placed) → IsChronicle (D.view disk.old).files c
         → IfOk result (λ x. x.entries ≡ counted (length (behind c tail.old))) }
     ensures position { IfOk result (λ x. position_of x.position ≡ tail.new) }
-    // The tail stands behind what was read, where readings lead it.
+    // The tail stands after what was read, where readings lead it.
     ensures leads { IsTrue D.told → LeadsTo (D.view disk.old).files tail.old tail.new }
     ensures tail { IsTrue D.told → (c : List Placed) → IsChronicle (D.view disk.old).files c → HasReadUpTo c tail.old tail.new }
 

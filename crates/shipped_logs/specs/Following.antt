@@ -50,7 +50,7 @@ pub record IsAt {P : Type 0} (has : P → List Message → Type 0) (first : Posi
   pub recorded : recorded_or first (last_of start later).messages ≡ at
 
 -- After more calls the files are these and the peer was told these messages: what it was shipped, with repeats taken out,
--- begins what stands behind the first position.
+-- begins what stands after the first position.
 pub record HasFollowed (first : Position) (start : Moment) (later : List Moment) (files : Files) (messages : List Message) : Type 0 where
   pub more : List Moment
   pub now : Moment
@@ -62,7 +62,7 @@ pub record HasFollowed (first : Position) (start : Moment) (later : List Moment)
 -- ---- law
 
 -- Over any list of a device's calls and calls that ship, each from the recorded position on, what was shipped, with repeats
--- taken out, begins what stands behind the first position, and reaches the recorded one.
+-- taken out, begins what stands after the first position, and reaches the recorded one.
 abbrev pub ShippedBeginsTheChronicle : Type 0
 ShippedBeginsTheChronicle =
     (first : Position) (start : Moment) (later : List Moment) → HaveBeenMade first start later → HasShipped first (shipping_at first (last_of start later))

@@ -16,8 +16,8 @@ use std::alloc::Global;
 use std::sync::Wait;
 use std::thread::Threads;
 
-/// Ships all that stands behind the position that the peer has recorded, after any calls of the store's device and calls that
-/// ship. What the peer was shipped by all these calls, with repeats taken out, begins the chronicle behind the first position.
+/// Ships all that stands after the position that the peer has recorded, after any calls of the store's device and calls that
+/// ship. What the peer was shipped by all these calls, with repeats taken out, begins the chronicle after the first position.
 pub fn ship_on<R: Threads + Wait + Sync, D: Disk + Send, P: Peer>(
     rt: &R,
     alloc: Global,

@@ -31,7 +31,7 @@ fn empty_lists(alloc: Global) -> Result<Vec<NumberedCells>, NoMemory>
     Ok(lists)
 }
 
-/// Adds the cells of an entry behind those of its region.
+/// Adds the cells of an entry after those of its region.
 fn add_entry(lists: &mut Vec<NumberedCells>, entry: Entry) -> Result<(), NoMemory>
     requires { vec_len lists.old ≡ 64 }
     ensures in_range { (1 ≤ entry.region) × (entry.region ≤ 64) }

@@ -1,4 +1,4 @@
--- The segments of stores, one behind the other and by halves.
+-- The segments of stores, one after the other and by halves.
 use Rattle.std.proofs.Common.{◌≡◌, ℕ, ◌≤◌, List, [], ◌∷◌, ◌++◌, map, length, take, drop, get_or, sym, ap, ◌∙◌, subst, arith}
 use Rattle.std.specs.Prelude.{slice_range}
 use Rattle.std.specs.FinMap.{empty}

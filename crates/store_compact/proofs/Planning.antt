@@ -1,4 +1,4 @@
--- The cells of a region's stores, one behind the other, put in order are what is stored of it.
+-- The cells of a region's stores, one after the other, put in order are what is stored of it.
 use Rattle.std.proofs.Common.{◌≡◌, ◌↔◌, ℕ, ◌<◌, ◌≤◌, ◌^◌, List, [], ◌∷◌, map, Contains, Some, refl, sym, ap, ◌∙◌, subst, arith}
 use Rattle.std.specs.FinMap.{get, empty}
 use Rattle.std.specs.List.{AllByRecursion}

@@ -80,7 +80,7 @@ two_pairs form bytes xs ys a b (Same s) sx sy nx ny = s
 two_pairs form bytes xs ys a b (Left z zs is) sx sy nx ny = absurd (next_there form bytes xs ys z zs b is sy nx)
 two_pairs form bytes xs ys a b (Right z zs is) sx sy nx ny = absurd (next_there form bytes ys xs z zs a is sx ny)
 
--- no further pair stands behind fewer than are counted, and as many stand elsewhere
+-- no further pair stands after fewer than are counted, and as many stand elsewhere
 not_both : (form : Form) (bytes : List ℕ) (n : ℕ) (xs ys : List NumberedCell) (b : List ℕ) → Sides xs ys → StandsAs form bytes ys b → NoneIsNext form bytes xs → length xs < n → length ys ≡ n → ⊥
 not_both form bytes n xs ys b (Same s) sy nx lt all = omega (arith, lt, all, ap length s)
 not_both form bytes n xs ys b (Left z zs is) sy nx lt all = next_there form bytes xs ys z zs b is sy nx

@@ -1,4 +1,4 @@
--- Pairs that stand behind the fields, one after the other.
+-- Pairs that stand after the fields, one after the other.
 use Rattle.std.specs.Prelude.{◌≡◌, ℕ, ◌+◌, ◌≤◌, List, [], ◌∷◌, ◌++◌, length, drop}
 use Rattle.std.proofs.Common.{refl, sym, ap, ◌∙◌, subst, arith, append_assoc, length-append}
 use Rattle.std.proofs.lemmas.List.{append-nil, drop_at, drop-drop, length-drop}
@@ -65,7 +65,7 @@ pub none_there : (form : Form) (family bytes : List ℕ) (cells : List NumberedC
     → ((x : NumberedCell) (rest : List ℕ) → FrontsPair form family from to (drop at bytes) x rest → ⊥) → NoneIsNext form bytes cells
 none_there form family bytes cells at from to count fields of s none next more stands = none next more (next_fronts form family bytes cells at from to count next more fields of s stands)
 
--- the pair that is there isn't behind them, so none is next
+-- the pair that is there isn't after them, so none is next
 pub none_behind : (form : Form) (family bytes : List ℕ) (cells : List NumberedCell) (at from to count : ℕ) (x : NumberedCell) (rest : List ℕ) → AreFields form bytes from to count → family ≡ family_in form bytes → StandsUpTo form bytes cells at
     → FrontsPair form family from to (drop at bytes) x rest → (IsRising (cells ++ x ∷ []) → ⊥) → NoneIsNext form bytes cells
 none_behind form family bytes cells at from to count x rest fields of s pair apart next more stands =

@@ -12,7 +12,7 @@ use Rattle.store_file.specs.Whole.{IsWholeOrNot}
 
 -- a file of this name is begun
 pub record Begins {E : Type 0} (name : Name) (result : Result OpenStore E) (old new : DiskView) : Type 0 where
-  -- after Ok it stands behind a durable closed gate, and has no cell
+  -- after Ok it stands after a durable closed gate, and has no cell
   pub filling : IfOk result (λ store. IsFilling store new [])
   -- a crash during its three disk calls leaves it not there
   pub never_there : Throughout (OnlyAt name IsNotThere old) 3 old new
@@ -21,7 +21,7 @@ pub record Begins {E : Type 0} (name : Name) (result : Result OpenStore E) (old 
 -- a cell is put into a file with these
 pub record PutsIn {T E : Type 0} (cells : List NumberedCell) (cell : NumberedCell) (result : Result T E) (store now : OpenStore) (old new : DiskView)
     : Type 0 where
-  -- after Ok it stands behind the others, or waits to be written there
+  -- after Ok it stands after the others, or waits to be written there
   pub filling : OnOk result (IsFilling now new (cells ++ cell ∷ []))
   -- a crash during its disk call leaves the file not there
   pub never_there : Throughout (OnlyAt store.name IsNotThere old) 1 old new

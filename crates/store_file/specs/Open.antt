@@ -46,7 +46,7 @@ pub record IsAlike (o now : OpenStore) : Type 0 where
   pub to : now.to ≡ o.to
   pub count : now.count ≡ o.count
 
--- what stands behind the gate in front of the cells: `HWS2`, the region, the scope, the family behind its length, the two
+-- what stands after the gate in front of the cells: `HWS2`, the region, the scope, the family after its length, the two
 -- sequence ids, and the count
 unfoldable pub fields_text : ℕ → ℕ → List ℕ → ℕ → ℕ → ℕ → List ℕ
 fields_text region scope family from to count =
@@ -56,7 +56,7 @@ fields_text region scope family from to count =
 abbrev pub store_of : OpenStore → List NumberedCell → Store
 store_of o cells = record { region = o.name.region; scope = o.scope; family = o.family; from = o.from; to = o.to; cells = cells }
 
--- The file stands behind a closed gate. What is written behind the gate and what waits are the fields and these cells.
+-- The file stands after a closed gate. What is written after the gate and what waits are the fields and these cells.
 pub record IsFilling (o : OpenStore) (disk : DiskView) (cells : List NumberedCell) : Type 0 where
   pub written : List ℕ
   pub file : IsFilled disk o.name (0 ∷ []) (0 ∷ written)

@@ -12,7 +12,7 @@ abbrev pub TellsScope : Form → List ℕ → ℕ → List ℕ → Type 0
 TellsScope Plain bytes scope family = (scope ≡ 0) × (family ≡ [])
 TellsScope Tagged bytes scope family = (scope ≡ slice_index bytes 9) × (length family ≡ slice_index bytes 10) × (family ≡ family_in Tagged bytes)
 
--- the word behind the gate is that of this form, the region is this one, and scope and family are right
+-- the word after the gate is that of this form, the region is this one, and scope and family are right
 pub record IsHead (form : Form) (region : ℕ) (bytes : List ℕ) (scope : ℕ) (family : List ℕ) : Type 0 where
   pub form_is : form_at bytes ≡ form
   pub word : number_at 1 4 bytes ≡ word_of form
@@ -67,7 +67,7 @@ pub record StandsUpTo (form : Form) (bytes : List ℕ) (cells : List NumberedCel
   pub within : at ≤ length bytes
   pub stands : StandsAs form bytes cells (drop at bytes)
 
--- no further cell stands behind these
+-- no further cell stands after these
 abbrev pub NoneIsNext : Form → List ℕ → List NumberedCell → Type 0
 NoneIsNext form bytes cells = (next : NumberedCell) (more : List ℕ) → StandsAs form bytes (cells ++ next ∷ []) more → ⊥
 

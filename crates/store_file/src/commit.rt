@@ -21,8 +21,8 @@ pub(crate) fn commit_filled<D: Disk>(disk: &mut D, name: Name) -> Result<(), Fai
     ensures touches { IsTrue D.told → Touches name (D.view disk.old) (D.view disk.new) }
     ensures cause { HasCause (D.faults disk.old) (D.faults disk.new) (IsErr result) }
 {
-    // Without this sync a crash could leave the gate open, and not the whole store behind it.
+    // Without this sync a crash could leave the gate open, and not the whole store after it.
     sync_filled(disk, name)?;
-    // Until its sync a crash leaves the gate closed, or open with the whole store behind it.
+    // Until its sync a crash leaves the gate closed, or open with the whole store after it.
     open_gate(disk, name, 0)
 }

@@ -21,7 +21,7 @@ use log_model::CLOSED_GATE;
 use std::alloc::Global;
 use std::marker::Model;
 
-/// A store file that is written: its gate stands closed, and cells go behind it.
+/// A store file that is written: its gate stands closed, and cells go after it.
 #[derive(Debug, Drop)]
 pub struct StoreFile {
     name: Name,
@@ -121,7 +121,7 @@ impl StoreFile {
         })
     }
 
-    /// Puts a cell in, behind those before. It takes no memory. It makes one disk call where the cell doesn't fit the
+    /// Puts a cell in, after those before. It takes no memory. It makes one disk call where the cell doesn't fit the
     /// buffer any more, else none. After a fault the file isn't to be used again.
     pub fn fill<D: Disk>(&mut self, disk: &mut D, number: u64, cell: &Cell) -> Result<(), DiskFault>
         requires { IsTrue D.told → ∥ ((cells : List NumberedCell) × IsFilling self.old (D.view disk.old) cells) ∥₁ }

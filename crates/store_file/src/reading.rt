@@ -27,7 +27,7 @@ const PLAIN_WORD: u32 = 0x4857_5331;
 /// `HWS2`.
 const TAGGED_WORD: u32 = 0x4857_5332;
 
-/// The fields behind the gate.
+/// The fields after the gate.
 #[derive(Clone, Copy)]
 struct Fields<'a> {
     form: Form,
@@ -99,7 +99,7 @@ fn read_fields(region: u32, bytes: &[u8]) -> Result<Fields<'_>, u64>
     Err(1)
 }
 
-/// The fields behind `HWS1`.
+/// The fields after `HWS1`.
 #[tactic(auto, using(std::proofs::lemmas::Bool::Decides::nat_tests, crate::proofs::FieldLaws::plain_fault))]
 fn read_plain(region: u32, bytes: &[u8]) -> Result<Fields<'_>, u64>
     requires word { number_at 1 4 bytes.now ≡ PLAIN_WORD }
@@ -123,7 +123,7 @@ fn read_plain(region: u32, bytes: &[u8]) -> Result<Fields<'_>, u64>
     })
 }
 
-/// The fields behind `HWS2`.
+/// The fields after `HWS2`.
 #[tactic(auto, using(std::proofs::lemmas::Bool::Decides::nat_tests, crate::proofs::FieldLaws::tagged_fault))]
 fn read_tagged(region: u32, bytes: &[u8]) -> Result<Fields<'_>, u64>
     requires word { number_at 1 4 bytes.now ≡ TAGGED_WORD }
@@ -214,8 +214,8 @@ fn read_cells(
     Ok((NumberedCells::of(cells), at))
 }
 
-/// Adds the numbered cell at a place to those that stand before it, and gives the place behind it. None where no whole
-/// one in range stands there, or it isn't behind them in order.
+/// Adds the numbered cell at a place to those that stand before it, and gives the place after it. None where no whole
+/// one in range stands there, or it isn't after them in order.
 fn take_pair(
     alloc: Global,
     bytes: &[u8],

@@ -46,7 +46,7 @@ touches_on name u v w first second = record {
   formerly = λ n m h. first.formerly n m (second.formerly n m h);
 }
 
--- one more is staged behind a commit
+-- one more is staged after a commit
 pub behind_in : (log now : OpenLog) (v w : DiskView) (entries : List Entry) (e : Entry) (in_it : AreIn log v entries) (between : OpenLog) → IsOpen between w (in_it.done ++ in_it.batch) → IsSameFile between now → IsStaged now (e ∷ []) → AreIn now w (entries ++ e ∷ [])
 behind_in log now v w entries e in_it between open_log same staged = record {
   done = in_it.done ++ in_it.batch;

@@ -23,7 +23,7 @@ pub record AreJobsOf (entries : List Entry) (number : ℕ) (jobs : List EditsJob
   pub are : (k : ℕ) (d : EditsJob) → k < 64 → (slice_index_or jobs k d).entries.items ≡ entries_of (k + 1) entries
   pub all : (e : Entry) → Contains entries e → (k : ℕ) × (k < 64) × ((d : EditsJob) → Contains (slice_index_or jobs k d).entries.items e)
 
--- an entry goes behind the others of its region
+-- an entry goes after the others of its region
 abbrev pub AddsTo : Entry → List EditsJob → List EditsJob → Type 0
 AddsTo entry old new =
     (job : EditsJob) × (new ≡ slice_set old (entry.region - 1) job)

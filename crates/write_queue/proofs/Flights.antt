@@ -13,7 +13,7 @@ out_end : (q : Numbers) (x : ℕ) (ns : List ℕ) → AreOut q ns → IsOut q x 
 out_end q x [] all here d = (here, tt, tt)
 out_end q x (n ∷ ns) all here d = (all.0, differ_end n x ns all.1 (λ e. d.0 (sym e)), out_end q x ns all.2 here d.1)
 
--- the first ones go behind the others
+-- the first ones go after the others
 pub out_turned : (q : Numbers) (xs ys : List ℕ) → AreOut q (xs ++ ys) → AreOut q (ys ++ xs)
 out_turned q [] ys all = subst (AreOut q) (sym (append-nil ys)) all
 out_turned q (x ∷ xs) ys all =

@@ -57,7 +57,7 @@ settled_point last read ms le blocked = record {
       blocked (sym (behind_front (read - last) ms r.0 0 (omega arith)) ∙ r.2);
 }
 
--- what is out stands behind the completed front
+-- what is out stands after the completed front
 pub out_behind : (k : ℕ) (ms : List Bool) (i : ℕ) → slice_get (replicate k true ++ ms) i ≡ Some false → (k ≤ i) × (i - k < length ms)
 out_behind zero ms i e = let lt = slice_get_within ms i false e in (omega arith, omega arith)
 out_behind (suc k) ms zero e = absurd (cc e)

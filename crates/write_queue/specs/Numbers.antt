@@ -12,7 +12,7 @@ pub record Queue : Type 0 where
   pub numbers : Numbers
   pub room : ℕ
 
--- the completed ones of the numbers behind last
+-- the completed ones of the numbers after last
 abbrev pub completed_behind : ℕ → List Bool → List ℕ
 completed_behind last [] = []
 completed_behind last (true ∷ done) = (last + 1) ∷ completed_behind (last + 1) done
@@ -41,7 +41,7 @@ begun q = record { last = q.last; done = q.done ++ false ∷ [] }
 abbrev pub with_completed : Numbers → ℕ → Numbers
 with_completed q n = record { last = q.last; done = slice_set q.done (n - q.last - 1) true }
 
--- ---- what the queue keeps of them: the read point and the marks behind it
+-- ---- what the queue keeps of them: the read point and the marks after it
 
 abbrev pub numbers_of : ℕ → ℕ → List Bool → Numbers
 numbers_of last read marks = record { last = last; done = replicate (read - last) true ++ marks }

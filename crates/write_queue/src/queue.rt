@@ -14,7 +14,7 @@ use std::marker::Model;
 // how many entries may be out before the queue grows for the first time
 const FIRST_ROOM: usize = 64;
 
-/// The numbers behind the read point, in order, each with a mark whether it is completed.
+/// The numbers after the read point, in order, each with a mark whether it is completed.
 #[derive(Drop)]
 pub struct WriteQueue {
     last: u64,
@@ -35,7 +35,7 @@ impl Model for WriteQueue {
 }
 
 impl WriteQueue {
-    /// A queue that goes on behind `last`, which is at most 2^48-1.
+    /// A queue that goes on after `last`, which is at most 2^48-1.
     pub fn new(alloc: Global, last: u64) -> Result<WriteQueue, NoMemory>
         requires { last < 2 ^ 48 }
         ensures { IfOk result (λ q. q.numbers ≡ record { last = last; done = [] }) }
@@ -97,7 +97,7 @@ impl WriteQueue {
         self.read + self.marks.len() as u64
     }
 
-    /// Goes on behind `number`, as if it were the last one completed. It takes no memory.
+    /// Goes on after `number`, as if it were the last one completed. It takes no memory.
     pub fn advance_to(&mut self, number: u64)
         requires idle { IsIdle self.old.numbers }
         requires later { last_begun self.old.numbers ≤ number }

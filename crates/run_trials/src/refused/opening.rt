@@ -49,7 +49,7 @@ fn add<R: Abort>(rt: &R, disk: &mut SafeDisk, name: Name, bytes: &[u8]) -> Resul
     Ok(())
 }
 
-/// A disk whose first opening was stopped behind the edits of region 1, and before those of region 2 were there. It takes
+/// A disk whose first opening was stopped after the edits of region 1, and before those of region 2 were there. It takes
 /// no memory.
 fn stop_first<R: Abort>(rt: &R, disk: &mut SafeDisk) -> Result<(), TestFail> {
     add(rt, disk, LOG_1, LOG)?;

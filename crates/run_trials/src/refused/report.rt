@@ -36,10 +36,10 @@ const SECOND_SEEN: u32 = 8;
 
 const REFUSED: u32 = 16;
 
-/// A place of the report, what is known there and what is not, what is known behind it, and a text that may stand there then.
+/// A place of the report, what is known there and what is not, what is known after it, and a text that may stand there then.
 type Line = (u32, u32, u32, u32, &'static str);
 
-/// The places of a report in their order, and what may stand there. A put was seen exactly where it was answered ok. Behind a put
+/// The places of a report in their order, and what may stand there. A put was seen exactly where it was answered ok. After a put
 /// that was refused memory with a number, its edit may be seen or not, but once it was seen it stays. The edit of handler 1 may not
 /// be in the log yet where handler 2 rolls.
 const LINES: [Line; 31] = [
@@ -94,7 +94,7 @@ struct Reading<'a> {
 }
 
 impl<'a> Reading<'a> {
-    /// The same, or behind this line where it may stand here and does.
+    /// The same, or after this line where it may stand here and does.
     fn past(self, line: &Line) -> Reading<'a> {
         let (place, has, lacks, told, text) = *line;
         if place != self.place || self.known & has != has || self.known & lacks != 0 {

@@ -8,7 +8,7 @@ use Rattle.log_ledger.proofs.Committed.{counted_closed}
 use Rattle.log_ledger.proofs.Orders.{order_closed}
 use Rattle.log_ledger.proofs.ledger.Ledger.close.Goals as goal
 
--- the ledger's numbers behind the call
+-- the ledger's numbers after the call
 abbrev after : goal.After-close_file → Numbers
 after c = record {
   drawn = c.self.inside.drawn;

@@ -13,7 +13,7 @@ use Rattle.log_ledger.proofs.Flushed.{counted_flushed}
 use Rattle.log_ledger.proofs.Orders.{order_flushed}
 use Rattle.log_ledger.proofs.ledger.Ledger.flush.Goals as goal
 
--- the ledger's numbers behind the call
+-- the ledger's numbers after the call
 abbrev after : goal.After-keep_unflushed → Numbers
 after c = record {
   drawn = c.self.inside.drawn;

@@ -10,7 +10,7 @@ use Rattle.log_ledger.proofs.Flushed.{counted_forgotten}
 use Rattle.log_ledger.proofs.Orders.{order_forgotten}
 use Rattle.log_ledger.proofs.ledger.Ledger.forget_flushed.Goals as goal
 
--- the ledger's numbers behind the call
+-- the ledger's numbers after the call
 abbrev after : goal.After-forget_lower → Numbers
 after c = record {
   drawn = c.self.inside.drawn;

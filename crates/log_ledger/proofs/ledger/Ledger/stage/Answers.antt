@@ -17,7 +17,7 @@ use Rattle.log_ledger.proofs.Staged.{counted_staged}
 use Rattle.log_ledger.proofs.Orders.{order_staged}
 use Rattle.log_ledger.proofs.ledger.Ledger.stage.Goals as goal
 
--- the ledger's numbers behind the call
+-- the ledger's numbers after the call
 abbrev after : goal.After-push → Numbers
 after c = record {
   drawn = set c.self.inside.drawn c.behind-truck.inside.region c.behind-truck-2.inside.number;
