@@ -1,7 +1,7 @@
 //! Calls of the program on disks in memory, whose source and sink are in memory too. What a call takes and leaves is never dropped, so
 //! that no exit of a trial writes out how: no trial shows that.
 
-use crate::gates::{Hold, HoldGate};
+use crate::gates::{Hold, HoldGate, Passed};
 use disk_fakes::{Fail, MemDisk, MemSink, MemSource, WatchDisk};
 use disk_images::{Disk, Name, NameKind};
 use load_run::{Outcome, Status, run};
@@ -16,12 +16,13 @@ use std::thread::Threads;
 /// The disk of each call, so that a call is built once.
 pub(crate) type HeldDisk = WatchDisk<MemDisk>;
 
-/// What is left of a call: its status, the disk, and what it printed.
+/// What is left of a call: its status, the disk, what it printed, and how often its handlers passed the gate.
 #[derive(Clone, Copy)]
 pub(crate) struct Ended {
     pub(crate) status: Status,
     pub(crate) disk: &'static MemDisk,
     pub(crate) text: &'static str,
+    pub(crate) passed: Passed,
 }
 
 /// What a call takes beside its disk: the words that a disk tells and obeys, the gate that looks at them, source and sink.
@@ -80,17 +81,18 @@ fn end(
     alloc: Global,
     outcome: Outcome<HeldDisk>,
     out: &'static MemSink,
-    vain: u64,
+    gate: &HoldGate,
 ) -> Result<Ended, TestFail> {
     let Outcome { status, disk } = outcome;
     let disk: &'static HeldDisk = Box::leak(Box::new(alloc, disk)?);
-    if vain != 0 {
+    if gate.vain() != 0 {
         return Err(TestFail::new("a wait was in vain"));
     }
     Ok(Ended {
         status,
         disk: disk.disk(),
         text: str::from_utf8(out.as_slice())?,
+        passed: gate.passed(),
     })
 }
 
@@ -112,7 +114,7 @@ pub(crate) fn call<R: Threads + Wait + Sync + AllocGlobal>(
     } = give(alloc, script, hold)?;
     let disk = watched(disk, seen, held)?;
     let outcome = run(rt, alloc, &[word], source, disk, out, gate);
-    end(alloc, outcome, out, gate.vain())
+    end(alloc, outcome, out, gate)
 }
 
 /// A run of a script whose handlers nobody holds.
@@ -137,14 +139,17 @@ pub(crate) fn empty_disk(alloc: Global, fails: &[Fail]) -> Result<MemDisk, TestF
     Ok(MemDisk::new(alloc, fails)?)
 }
 
-/// Adds a file that no crash loses.
+/// Adds a file that no crash loses; an empty one may be lost.
 pub(crate) fn add_file(disk: &mut MemDisk, name: Name, bytes: &[u8]) -> Result<(), TestFail> {
     disk.settle()?;
     let is_of_region = matches!(name.kind, NameKind::Store | NameKind::Edits);
-    if bytes.is_empty() || (name.region != 0 && !is_of_region) || disk.bytes(name).is_some() {
+    if (name.region != 0 && !is_of_region) || disk.bytes(name).is_some() {
         return Err(TestFail::new("no such file can be made"));
     }
     disk.create(name)?;
+    if bytes.is_empty() {
+        return Ok(());
+    }
     disk.write_at(name, 0, bytes)?;
     disk.sync(name)?;
     Ok(())

@@ -1,4 +1,4 @@
-//! A gate that holds handlers, for a bounded time.
+//! A gate that holds handlers, for a bounded time, and counts how often they come.
 
 use load_run::Gate;
 use std::sync::Wait;
@@ -34,6 +34,20 @@ pub(crate) enum Hold {
     Disk(u32, u64),
 }
 
+/// How often a gate was passed: before calls, and by puts that were logged.
+#[derive(Clone, Copy)]
+pub(crate) struct Passed {
+    pub(crate) begun: u64,
+    pub(crate) logged: u64,
+}
+
+impl Passed {
+    /// Whether it was passed so often.
+    pub(crate) fn has(self, begun: u64, logged: u64) -> bool {
+        self.begun == begun && self.logged == logged
+    }
+}
+
 /// All runs pass such a gate, so that a run is built once.
 #[derive(Drop)]
 pub(crate) struct HoldGate {
@@ -41,8 +55,10 @@ pub(crate) struct HoldGate {
     /// How many syncs the disk has begun, and whether it is held in one.
     seen: &'static AtomicU64,
     held: &'static AtomicU64,
-    /// How many puts are logged, and whether the first handler has come to its call.
+    /// How many calls were begun, and how many puts are logged.
+    begun: AtomicU64,
     logged: AtomicU64,
+    /// Whether the first handler has come to its call.
     came: AtomicU64,
     /// How many waits were in vain.
     vain: AtomicU64,
@@ -54,6 +70,7 @@ impl HoldGate {
             hold,
             seen,
             held,
+            begun: AtomicU64::new(0),
             logged: AtomicU64::new(0),
             came: AtomicU64::new(0),
             vain: AtomicU64::new(0),
@@ -63,6 +80,14 @@ impl HoldGate {
     /// How many waits were in vain.
     pub(crate) fn vain(&self) -> u64 {
         self.vain.load(Ordering::SeqCst)
+    }
+
+    /// How often it was passed.
+    pub(crate) fn passed(&self) -> Passed {
+        Passed {
+            begun: self.begun.load(Ordering::SeqCst),
+            logged: self.logged.load(Ordering::SeqCst),
+        }
     }
 
     /// Waits for the word, and counts a wait that was in vain.
@@ -88,6 +113,7 @@ impl HoldGate {
 
 impl Gate for HoldGate {
     fn before<R: Wait>(&self, _rt: &R, handler: u32, call: u32) {
+        self.begun.fetch_add(1, Ordering::SeqCst);
         match self.hold {
             Hold::UntilCall(at) => {
                 if handler != 1 {
@@ -102,12 +128,10 @@ impl Gate for HoldGate {
     }
 
     fn logged<R: Wait>(&self, _rt: &R, _handler: u32, _call: u32) {
+        self.logged.fetch_add(1, Ordering::SeqCst);
         match self.hold {
             Hold::UntilSyncs(syncs) => self.wait(self.seen, syncs),
-            Hold::UntilLogged(puts) => {
-                self.logged.fetch_add(1, Ordering::SeqCst);
-                self.wait(&self.logged, puts);
-            }
+            Hold::UntilLogged(puts) => self.wait(&self.logged, puts),
             Hold::Nobody | Hold::UntilCall(_) | Hold::Disk(_, _) => {}
         }
     }

@@ -57,26 +57,66 @@ roll 1
 flush 2 1
 ";
 
-/// A script, how its handlers are held, and lines of the report, or others in their place.
-type Row = (&'static str, Hold, &'static str, &'static str);
+/// A script, how its handlers are held, how many calls and logged puts pass the gate, and lines of the report, or others in their place.
+#[derive(Clone, Copy)]
+struct Row {
+    script: &'static str,
+    hold: Hold,
+    begun: u64,
+    logged: u64,
+    lines: &'static str,
+    others: &'static str,
+}
 
-/// 1. The put's handler is held after its edit, so another thread writes the batch: a sync of the new log, two of the batch.
-/// 2. Each put is held after its edit until the other's edit is logged too. They come in one order or the other.
-/// 3. So it is with puts into two regions.
-/// 4. The first flush is held in the fourth sync, that of its store's bytes: a sync of the new log and two of the put's batch are
-///    after it. Meanwhile the second one comes, of another family, and is back before the first may go on.
-/// 5. The second handler is held until both flushes of the first one are behind it.
-const ROWS: [Row; 5] = [
-    (ONE_PUT, Hold::UntilSyncs(3), ANSWERED, ANSWERED),
-    (
-        PUTS_OF_ONE_REGION,
-        Hold::UntilLogged(2),
-        IN_ORDER,
-        EXCHANGED,
-    ),
-    (PUTS_OF_TWO_REGIONS, Hold::UntilLogged(2), BESIDE, BESIDE),
-    (TWO_FLUSHES, Hold::Disk(2, 4), BUSY, BUSY),
-    (FLUSHED_TWICE, Hold::UntilCall(5), NOTHING, NOTHING),
+/// The put's handler is held after its edit, so another thread writes the batch: a sync of the new log, two of the batch.
+const HELPED: Row = Row {
+    script: ONE_PUT,
+    hold: Hold::UntilSyncs(3),
+    begun: 1,
+    logged: 1,
+    lines: ANSWERED,
+    others: ANSWERED,
+};
+
+/// Each put is held after its edit until the other's edit is logged too. They come in one order or the other.
+const TOGETHER: Row = Row {
+    script: PUTS_OF_ONE_REGION,
+    hold: Hold::UntilLogged(2),
+    begun: 2,
+    logged: 2,
+    lines: IN_ORDER,
+    others: EXCHANGED,
+};
+
+/// 1. So it is with puts into two regions.
+/// 2. The first flush is held in the fourth sync, that of its store's bytes: a sync of the new log and two of the put's batch came
+///    before it. Meanwhile the second one comes, of another family, and is back before the first may go on.
+/// 3. The second handler is held until both flushes of the first one are done.
+const ROWS: [Row; 3] = [
+    Row {
+        script: PUTS_OF_TWO_REGIONS,
+        hold: Hold::UntilLogged(2),
+        begun: 2,
+        logged: 2,
+        lines: BESIDE,
+        others: BESIDE,
+    },
+    Row {
+        script: TWO_FLUSHES,
+        hold: Hold::Disk(2, 4),
+        begun: 4,
+        logged: 1,
+        lines: BUSY,
+        others: BUSY,
+    },
+    Row {
+        script: FLUSHED_TWICE,
+        hold: Hold::UntilCall(5),
+        begun: 6,
+        logged: 2,
+        lines: NOTHING,
+        others: NOTHING,
+    },
 ];
 
 const ANSWERED: &str = "reply 1 1 put ok 1";
@@ -104,11 +144,31 @@ fn assert_row<R: Threads + Wait + Sync + AllocGlobal + Abort>(
     rt: &R,
     row: &Row,
 ) -> Result<(), TestFail> {
-    let (script, hold, one, other) = row;
-    let ran = call(rt, "run", script, empty_disk(rt.alloc(), &[])?, *hold)?;
-    let holds = has_all(ran.text, one) || has_all(ran.text, other);
-    expect(rt, ran.status == Status::Done && holds, ran.text);
+    let ran = call(
+        rt,
+        "run",
+        row.script,
+        empty_disk(rt.alloc(), &[])?,
+        row.hold,
+    )?;
+    let is_told = has_all(ran.text, row.lines) || has_all(ran.text, row.others);
+    let is_passed = ran.passed.has(row.begun, row.logged);
+    expect(
+        rt,
+        ran.status == Status::Done && is_told && is_passed,
+        ran.text,
+    );
     Ok(())
+}
+
+#[test]
+fn extra_threads_commit(rt: HostRuntime) -> Result<(), TestFail> {
+    assert_row(&rt, &HELPED)
+}
+
+#[test]
+fn second_put_passes_first(rt: HostRuntime) -> Result<(), TestFail> {
+    assert_row(&rt, &TOGETHER)
 }
 
 #[test]

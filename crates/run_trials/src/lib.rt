@@ -6,9 +6,13 @@
 #[cfg(test)]
 mod bench;
 #[cfg(test)]
+mod cuts;
+#[cfg(test)]
 mod gates;
 #[cfg(test)]
 mod held;
+#[cfg(test)]
+mod images;
 #[cfg(test)]
 mod log_stops;
 #[cfg(test)]
@@ -31,5 +35,7 @@ mod recover_stops;
 mod refused;
 #[cfg(test)]
 mod report;
+#[cfg(test)]
+mod scripts;
 #[cfg(test)]
 mod sweeps;

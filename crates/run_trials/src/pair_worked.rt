@@ -5,6 +5,7 @@ use crate::gates::Hold;
 use crate::pairs::{PairEnded, run_pair, run_pair_free};
 use disk_fakes::{CallKind, Fail};
 use groups_command::GroupsStatus;
+use script_text::ScriptWhy;
 use std::process::Abort;
 use std::sync::Wait;
 use std::test::Fail as TestFail;
@@ -83,57 +84,108 @@ const SECOND: &str = "hwal 1\nregion 1 base 0 0\nregion 2 base 1 1\nend 0\n";
 
 const NONE: &str = "hwal 1\nregion 1 base 0 0\nregion 2 base 0 0\nend 0\n";
 
-/// A run on empty disks: its word and script, how its handlers are held, and which sync of the first disk fails, counted from 1, or 0 for
-/// none; its status and what it prints; and what is found of whatever a crash may leave then.
-type Row = (
-    &'static str,
-    &'static str,
-    Hold,
-    u64,
-    GroupsStatus,
-    &'static str,
-    &'static str,
-);
+/// A script with a get, which is for one disk alone.
+const GET: &str = "time 1000
+regions 2
+handlers 1
+put 1 2 sync 1
+cell r f q 1 put w
+get 1 2 r 1
+";
 
+<<<<<<< HEAD
+=======
+/// A run on empty disks: its word and script, how its handlers are held, and which sync of the first disk fails, counted from 1, or 0 for
+/// none; its status and what it prints; how many calls and logged puts pass the gate; and what is found of whatever a crash may leave then.
+#[derive(Clone, Copy)]
+struct Row {
+    word: &'static str,
+    script: &'static str,
+    hold: Hold,
+    nth: u64,
+    status: GroupsStatus,
+    text: &'static str,
+    begun: u64,
+    logged: u64,
+    found: &'static str,
+}
+
+/// Each put is held after its edit until six syncs were begun: one of each new log, and two of each put's batch. So threads beside the handlers
+/// write the batch of each group.
+const HELPED: Row = Row {
+    word: "2",
+    script: TWO_PUTS,
+    hold: Hold::UntilSyncs(6),
+    nth: 0,
+    status: GroupsStatus::Done,
+    text: PUTS_REPORT,
+    begun: 2,
+    logged: 2,
+    found: BOTH,
+};
+
+>>>>>>> 97e436b0 (run_trials: the gate counts calls, threads beside the handlers of each log, cut logs, images of failed commits, bad scripts (compiled and run, not proved yet))
 // In the second row each put is held after its edit until the other's edit, in the other log, is logged too. In the third the first sync of the first
 // put's commit fails.
-const ROWS: [Row; 4] = [
-    (
-        "2",
-        SCRIPT,
-        Hold::Nobody,
-        0,
-        GroupsStatus::Done,
-        REPORT,
-        FOUND,
-    ),
-    (
-        "2",
-        TWO_PUTS,
-        Hold::UntilLogged(2),
-        0,
-        GroupsStatus::Done,
-        PUTS_REPORT,
-        BOTH,
-    ),
-    (
-        "2",
-        TWO_PUTS,
-        Hold::Nobody,
-        2,
-        GroupsStatus::DiskFault,
-        FAULT_REPORT,
-        SECOND,
-    ),
-    (
-        "3",
-        TWO_PUTS,
-        Hold::Nobody,
-        0,
-        GroupsStatus::Usage,
-        "refused usage\n",
-        NONE,
-    ),
+const ROWS: [Row; 5] = [
+    Row {
+        word: "2",
+        script: SCRIPT,
+        hold: Hold::Nobody,
+        nth: 0,
+        status: GroupsStatus::Done,
+        text: REPORT,
+        begun: 6,
+        logged: 2,
+        found: FOUND,
+    },
+    Row {
+        word: "2",
+        script: TWO_PUTS,
+        hold: Hold::UntilLogged(2),
+        nth: 0,
+        status: GroupsStatus::Done,
+        text: PUTS_REPORT,
+        begun: 2,
+        logged: 2,
+        found: BOTH,
+    },
+    Row {
+        word: "2",
+        script: TWO_PUTS,
+        hold: Hold::Nobody,
+        nth: 2,
+        status: GroupsStatus::DiskFault,
+        text: FAULT_REPORT,
+        begun: 2,
+        logged: 2,
+        found: SECOND,
+    },
+    Row {
+        word: "3",
+        script: TWO_PUTS,
+        hold: Hold::Nobody,
+        nth: 0,
+        status: GroupsStatus::Usage,
+        text: "refused usage\n",
+        begun: 0,
+        logged: 0,
+        found: NONE,
+    },
+    Row {
+        word: "2",
+        script: GET,
+        hold: Hold::Nobody,
+        nth: 0,
+        status: GroupsStatus::Script {
+            line: 6,
+            why: ScriptWhy::NotHere,
+        },
+        text: "refused script 6 not-here\n",
+        begun: 0,
+        logged: 0,
+        found: NONE,
+    },
 ];
 
 /// Asserts what is found of what a crash at the last moment may leave.
@@ -156,19 +208,28 @@ fn assert_row<R: Threads + Wait + Sync + AllocGlobal + Abort>(
     rt: &R,
     row: &Row,
 ) -> Result<(), TestFail> {
-    let (word, script, hold, nth, status, text, found) = row;
     let fail = Fail {
         call: CallKind::Sync,
-        nth: *nth,
+        nth: row.nth,
     };
     let first = empty_disk(rt.alloc(), &[fail])?;
     let second = empty_disk(rt.alloc(), &[])?;
-    let ran = run_pair(rt, word, script, first, second, *hold)?;
-    expect(rt, ran.status == *status && ran.text == *text, ran.text);
+    let ran = run_pair(rt, row.word, row.script, first, second, row.hold)?;
+    let is_told = ran.status == row.status && ran.text == row.text;
+    expect(
+        rt,
+        is_told && ran.passed.has(row.begun, row.logged),
+        ran.text,
+    );
     for choice in 0..4 {
-        assert_found(rt, ran, choice, found)?;
+        assert_found(rt, ran, choice, row.found)?;
     }
     Ok(())
+}
+
+#[test]
+fn extra_threads_commit_each_log(rt: HostRuntime) -> Result<(), TestFail> {
+    assert_row(&rt, &HELPED)
 }
 
 #[test]

@@ -1,7 +1,7 @@
 //! Runs on two disks in memory, each with a log for a group of the regions. What a run leaves is never dropped, as in bench.rt.
 
 use crate::bench::{Given, HeldDisk, give, watched};
-use crate::gates::Hold;
+use crate::gates::{Hold, HoldGate, Passed};
 use disk_fakes::{MemDisk, MemSink};
 use groups_command::group_servers::GroupList;
 use groups_command::{GroupsOutcome, GroupsStatus, run_groups};
@@ -11,13 +11,14 @@ use std::sync::Wait;
 use std::test::Fail as TestFail;
 use std::thread::Threads;
 
-/// What is left of a run: its status, the disks, and what it printed.
+/// What is left of a run: its status, the disks, what it printed, and how often its handlers passed the gate.
 #[derive(Clone, Copy)]
 pub(crate) struct PairEnded {
     pub(crate) status: GroupsStatus,
     pub(crate) first: &'static MemDisk,
     pub(crate) second: &'static MemDisk,
     pub(crate) text: &'static str,
+    pub(crate) passed: Passed,
 }
 
 /// What is left, where no wait was in vain.
@@ -25,14 +26,14 @@ fn end_pair(
     alloc: Global,
     outcome: GroupsOutcome<HeldDisk>,
     out: &'static MemSink,
-    vain: u64,
+    gate: &HoldGate,
 ) -> Result<PairEnded, TestFail> {
     let GroupsOutcome { status, disks } = outcome;
     let disks: &'static GroupList<HeldDisk> = Box::leak(Box::new(alloc, disks)?);
     let Some(second) = &disks.second else {
         return Err(TestFail::new("a disk was left out"));
     };
-    if vain != 0 {
+    if gate.vain() != 0 {
         return Err(TestFail::new("a wait was in vain"));
     }
     Ok(PairEnded {
@@ -40,6 +41,7 @@ fn end_pair(
         first: disks.first.disk(),
         second: second.disk(),
         text: str::from_utf8(out.as_slice())?,
+        passed: gate.passed(),
     })
 }
 
@@ -64,7 +66,7 @@ pub(crate) fn run_pair<R: Threads + Wait + Sync + AllocGlobal>(
     let second = watched(second, seen, held)?;
     let disks = GroupList::of(first, Some(second), None, None);
     let outcome = run_groups(rt, alloc, &[word], source, disks, out, gate);
-    end_pair(alloc, outcome, out, gate.vain())
+    end_pair(alloc, outcome, out, gate)
 }
 
 /// A run on two disks whose handlers nobody holds.
