@@ -93,8 +93,6 @@ cell r f q 1 put w
 get 1 2 r 1
 ";
 
-<<<<<<< HEAD
-=======
 /// A run on empty disks: its word and script, how its handlers are held, and which sync of the first disk fails, counted from 1, or 0 for
 /// none; its status and what it prints; how many calls and logged puts pass the gate; and what is found of whatever a crash may leave then.
 #[derive(Clone, Copy)]
@@ -124,7 +122,6 @@ const HELPED: Row = Row {
     found: BOTH,
 };
 
->>>>>>> 97e436b0 (run_trials: the gate counts calls, threads beside the handlers of each log, cut logs, images of failed commits, bad scripts (compiled and run, not proved yet))
 // In the second row each put is held after its edit until the other's edit, in the other log, is logged too. In the third the first sync of the first
 // put's commit fails.
 const ROWS: [Row; 5] = [
