@@ -12,7 +12,7 @@ pub struct Reader {
 }
 
 /// The cells of a scan. They are shared with the region, so what is kept of them is copied.
-fn lines_of(alloc: Global, reply: &ScanReply) -> Result<Vec<String>> {
+pub(crate) fn lines_of(alloc: Global, reply: &ScanReply) -> Result<Vec<String>> {
     let mut lines = Vec::new(alloc);
     for row in reply.cells.as_slice() {
         let cell = row.cell();
