@@ -1,5 +1,6 @@
 -- An opening, and then a compaction.
-use Rattle.std.proofs.Common.{◌≡◌, ℕ, ◌+◌, inl, inr, Result, Ok, Err}
+use Rattle.std.proofs.Common.{◌≡◌, ℕ, ◌+◌, ◌<◌, ◌≤◌, List, [], ◌∷◌, length, inl, inr, Result, Ok, Err, subst, arith}
+use Rattle.std.proofs.Math.Nat.{eq-or-lt_of_le}
 use Rattle.std.specs.Prelude.{IfOk, IfErr}
 use Rattle.log_model.specs.Files.{Files, IsSound}
 use Rattle.log_model.specs.declared.damage.Damage.{Damage}
@@ -11,6 +12,9 @@ use Rattle.disk_images.proofs.Moments.{joined, weaker, at_end}
 use Rattle.disk_images.proofs.Watching.{was_image}
 use Rattle.found_files.specs.Watching.{OnlyWatches}
 use Rattle.wal_split.specs.Moments.{During, WasOrAlike}
+use Rattle.region_replay.specs.Opened.{AreStoresReplayed}
+use Rattle.region_replay.specs.Ready.{Found}
+use Rattle.region_replay.specs.Stored.{StoresReplayed}
 use Rattle.store_compact.specs.declared.kind.CompactKind.{CompactKind}
 use Rattle.store_compact.specs.Compacting.{WasOrCompacted}
 use Rattle.command_base.specs.Status.{IfDamaged, IsDamageOf}
@@ -43,9 +47,17 @@ still_opened u v w over watches J now = at_end (WasOrAlike u) over.0 u v over.1 
 -- ---- what was done
 
 pub has_compacted : (r : ℕ) (kind : CompactKind) (u v w : DiskView) (result : Result Compaction Status) → IsSound u.files → AllAlike u.files v.files → HasNoLogs v.files
-    → IfOk result (IsCompaction v.files r kind w) → IfOk result (HasCompacted r kind u w)
-has_compacted r kind u v w (Ok compaction) sound alike no_logs done = record { sound = sound; opened = v.files; alike = alike; no_logs = no_logs; done = done }
-has_compacted r kind u v w (Err status) sound alike no_logs done = tt
+    → (x : Found) × StoresReplayed u.files v.files r x → IfOk result (IsCompaction v.files r kind w) → IfOk result (HasCompacted r kind u w)
+has_compacted r kind u v w (Ok compaction) sound alike no_logs stores done = record { sound = sound; opened = v.files; alike = alike; no_logs = no_logs; stores = stores; done = done }
+has_compacted r kind u v w (Err status) sound alike no_logs stores done = tt
+
+-- what an opening stored of one of the regions
+pub stored_at : (old new : Files) (first r : ℕ) (xs : List Found) → AreStoresReplayed old new first xs → first ≤ r → r < first + length xs → (x : Found) × StoresReplayed old new r x
+stored_at old new first r [] all low high = absurd (omega (arith, low, high))
+stored_at old new first r (x ∷ xs) all low high = elim (eq-or-lt_of_le low) as (λ _. (y : Found) × StoresReplayed old new r y) [
+  | inl is ↦ (x, subst (λ (q : ℕ). StoresReplayed old new q x) is all.0)
+  | inr above ↦ stored_at old new (first + 1) r xs all.1 (omega (arith, above)) (omega (arith, high))
+]
 
 -- ---- no damage after an opening
 

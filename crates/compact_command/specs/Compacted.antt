@@ -5,6 +5,8 @@ use Rattle.disk_images.specs.Crash.{DiskView, IsImageNow}
 use Rattle.recovery_laws.specs.Alike.{AllAlike}
 use Rattle.recovery_laws.specs.Kept.{HasNoLogs}
 use Rattle.wal_split.specs.Moments.{WasOrAlike}
+use Rattle.region_replay.specs.Ready.{Found}
+use Rattle.region_replay.specs.Stored.{StoresReplayed}
 use Rattle.store_compact.specs.declared.kind.CompactKind.{CompactKind}
 use Rattle.store_compact.specs.declared.kind.Compacted.{Compacted}
 use Rattle.store_compact.specs.Compacting.{IsCompacted, HasOneStore, AreCounts, HasCounting, least_files}
@@ -53,12 +55,14 @@ abbrev pub IsCompaction : Files → ℕ → CompactKind → DiskView → Compact
 IsCompaction opened r kind left (compactions.Made counts) = IsMade opened r kind left counts
 IsCompaction opened r kind left (compactions.Nothing files) = IsNothing opened r kind left files
 
--- The files as found were sound. These recover to the same, without a log, and of them the region was compacted.
+-- The files as found were sound. These recover to the same, without a log; the region's stores in them are those that were found, and the
+-- one that the opening wrote where it wrote one. Of these the region was compacted.
 pub record HasCompacted (r : ℕ) (kind : CompactKind) (before after : DiskView) (compaction : Compaction) : Type 0 where
   pub sound : IsSound before.files
   pub opened : Files
   pub alike : AllAlike before.files opened
   pub no_logs : HasNoLogs opened
+  pub stores : (x : Found) × StoresReplayed before.files opened r x
   pub done : IsCompaction opened r kind after compaction
 
 -- and this was printed

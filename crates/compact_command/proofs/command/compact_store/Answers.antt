@@ -1,4 +1,4 @@
-use Rattle.std.proofs.Common.{Ok, Err, ◌≡◌, ◌∙◌, [], ◌∷◌, sym, ap, subst}
+use Rattle.std.proofs.Common.{Ok, Err, ◌≡◌, ◌∙◌, ◌+◌, ◌<◌, [], ◌∷◌, sym, ap, subst, arith}
 use Rattle.std.specs.Prelude.{IfErr}
 use Rattle.log_model.specs.Files.{IsSound}
 use Rattle.command_base.specs.Status.{IfDamaged, IsDamageOf, IsOrEarlier}
@@ -8,14 +8,18 @@ use Rattle.recover_command.specs.Recovered.{IsStoreDamage}
 use Rattle.recover_command.proofs.Leaving.{opens_again}
 use Rattle.recover_command.proofs.Telling.{fault_refused, leaves_refused, damage_refused, damaged_refused}
 use Rattle.compact_command.specs.Refusals.{IsOpeningRefusal}
-use Rattle.compact_command.proofs.Opening.{opening_leaves, both_leave, still_opened, has_compacted, no_damage_told, no_damage_left, error_is, if_ok}
+use Rattle.compact_command.proofs.Opening.{opening_leaves, both_leave, still_opened, has_compacted, stored_at, no_damage_told, no_damage_left, error_is, if_ok}
 use Rattle.compact_command.proofs.Telling.{opening_refused}
 use Rattle.compact_command.proofs.command.compact_store.Goals as goal
 
 pub returns-in-Ok-clause-done : goal.returns-in-Ok-clause-done
 returns-in-Ok-clause-done g c told =
     has_compacted c.args.region c.args.kind (g.D.Disk.view c.args.disk.now) (g.D.Disk.view c.recover_all.new.disk) (g.D.Disk.view c.compact_opened.new.disk) c.compact_opened.result
-    (c.in-Ok.ensures.sound told) (c.in-Ok.ensures.alike told) (c.in-Ok.ensures.ready told).no_logs (c.compact_opened.ensures.done told)
+    (c.in-Ok.ensures.sound told) (c.in-Ok.ensures.alike told) (c.in-Ok.ensures.ready told).no_logs
+    (let all = c.in-Ok.ensures.regions in
+    let within = c.requires in
+    stored_at (g.D.Disk.view c.args.disk.now).files (g.D.Disk.view c.recover_all.new.disk).files 1 c.args.region _ (c.in-Ok.ensures.stored told) within.0 (omega (arith, within, all)))
+    (c.compact_opened.ensures.done told)
 
 pub returns-in-Ok-clause-any_moment : goal.returns-in-Ok-clause-any_moment
 returns-in-Ok-clause-any_moment g c told =
