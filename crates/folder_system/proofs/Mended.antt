@@ -1,0 +1,266 @@
+-- How an opening makes sure of the files.
+use Rattle.std.proofs.Common.{◌≡◌, ◌≢◌, ◌⊎◌, inl, inr, ℕ, ◌+◌, ◌-◌, ◌<◌, ◌≤◌, List, [], ◌++◌, length, take, drop, min, get_or, Contains, Some, true, is_some, refl, sym, ap, subst, ◌∙◌, arith, length-append, length-drop, take-append-drop}
+use Rattle.std.specs.FinMap.{get, keys, insert}
+use Rattle.std.proofs.lemmas.List.{take_more, take_all, take_at, take-take, drop-take, length-take}
+use Rattle.std.proofs.lemmas.List.Elements.{Contains-push_cases, Contains-get_or}
+use Rattle.log_model.specs.declared.name.Name.{Name}
+use Rattle.log_model.specs.Files.{Files, Reads}
+use Rattle.disk_images.specs.Crash.{overwritten}
+use Rattle.disk_images.proofs.Settled.{among_names, read_of}
+use Rattle.disk_images.proofs.Pieces.{overwritten_end}
+use Rattle.folder_system.specs.System.{Folder, Bytes, SystemView, IsImage, IsTrueSystem}
+use Rattle.folder_system.specs.Calls as sys
+use Rattle.folder_system.specs.View.{files_of, MayLead, IsSure, IsPlain, IsGood, AreNamesPinned, Opens}
+use Rattle.folder_system.specs.Mending.{KeepsBytes, Renews, Mends, Beside, Copies, Grows}
+use Rattle.folder_system.specs.Laws.{file_in, keys_of, read_in, absent_in}
+use Rattle.folder_system.proofs.Folders.{name_cases, insert_here, insert_other, one_inode}
+
+-- one inode's bytes change
+beside_then : (i : ℕ) (u v w : SystemView) → Beside i u v → Beside i v w → Beside i u w
+beside_then i u v w a b = record {
+  folder = b.folder ∙ a.folder;
+  parts = b.parts ∙ a.parts;
+  others = λ j other certain. b.others j other (λ doubt. certain (a.sure j doubt)) ∙ a.others j other certain;
+  sure = λ j doubt. a.sure j (b.sure j doubt);
+}
+
+beside_look : (i : ℕ) (u v : SystemView) → sys.Looks u v → Beside i u v
+beside_look i u v look = record { folder = look.observes.folder; parts = look.parts; others = λ j other certain. look.observes.bytes j certain; sure = look.sure }
+
+-- a piece is copied
+take_joined : (at n : ℕ) (b : List ℕ) → take (at + n) b ≡ take at b ++ take n (drop at b)
+take_joined at n b = sym (take-append-drop at (take (at + n) b)) ∙ (λ i. take-take at (at + n) b (omega arith) i ++ drop-take at n b i)
+
+pub grows_none : (k i at room : ℕ) (u v : SystemView) → 0 < room → ¬ u.doubtful i → length (u.bytes i) ≡ at → sys.Looks u v
+    → (¬ u.doubtful k → 0 ≡ min room (length (u.bytes k) - at)) → Grows k i at 0 u v
+grows_none k i at room u v some certain ends look count =
+    let same : v.bytes i ≡ u.bytes i = look.observes.bytes i certain in
+    let none : at + 0 ≡ at = omega arith in
+    record {
+      beside = beside_look i u v look;
+      ends = ap (λ (l : List ℕ). length l) same ∙ ends ∙ sym none;
+      more = λ sure so_far. same ∙ so_far ∙ ap (λ (n : ℕ). take n (u.bytes k)) (sym none);
+      last = λ zero sure. omega (arith, count sure, some);
+    }
+
+pub piece_text : (b old new bs : List ℕ) (at n : ℕ) → n ≡ min (length old) (length b - at) → new ≡ take n (drop at b) ++ drop n old → bs ≡ take n new → bs ≡ take n (drop at b)
+piece_text b old new bs at n count read part =
+    part ∙ ap (λ (l : List ℕ). take n l) read ∙ take_at (take n (drop at b)) (drop n old) n (omega (arith, length-take n (drop at b), length-drop at b, count))
+
+pub grows_more : (k i at n : ℕ) (bs : List ℕ) (u v w : SystemView) → 0 < n → ¬ u.doubtful i → length (u.bytes i) ≡ at → sys.Looks u v
+    → w.folder ≡ v.folder → w.parts ≡ v.parts → ((j : ℕ) → j ≢ i → ¬ v.doubtful j → w.bytes j ≡ v.bytes j) → sys.NoneNewlyDoubtful v w
+    → w.bytes i ≡ overwritten (v.bytes i) at bs → length bs ≡ n → (¬ u.doubtful k → bs ≡ take n (drop at (u.bytes k))) → Grows k i at n u w
+grows_more k i at n bs u v w some certain ends look folder parts others sure written long text =
+    let same : v.bytes i ≡ u.bytes i = look.observes.bytes i certain in
+    let ended : length (v.bytes i) ≡ at = ap (λ (l : List ℕ). length l) same ∙ ends in
+    let joined : w.bytes i ≡ v.bytes i ++ bs = written ∙ overwritten_end (v.bytes i) bs at (sym ended) in
+    record {
+      beside = beside_then i u v w (beside_look i u v look) (record { folder = folder; parts = parts; others = others; sure = sure });
+      ends = ap (λ (l : List ℕ). length l) joined ∙ length-append (v.bytes i) bs ∙ (λ j. ended j + long j);
+      more = λ certain_k so_far. joined ∙ (λ j. (same ∙ so_far) j ++ text certain_k j) ∙ sym (take_joined at n (u.bytes k));
+      last = λ zero. absurd (omega (arith, zero, some));
+    }
+
+-- how far a file is copied
+pub record Copying (k i at : ℕ) (first now : SystemView) : Type 0 where
+  pub beside : Beside i first now
+  pub ends : length (now.bytes i) ≡ at
+  pub so_far : ¬ first.doubtful k → now.bytes i ≡ take at (first.bytes k)
+
+pub record Underway (told : Type 0) (k i at : ℕ) (first now : SystemView) : Type 0 where
+  pub copying : told → Copying k i at first now
+
+pub none_copied : (told : Type 0) (k i : ℕ) (v : SystemView) → (told → v.bytes i ≡ []) → Underway told k i 0 v v
+none_copied told k i v empty = record {
+  copying = λ is_told. record {
+    beside = record { folder = refl; parts = refl; others = λ j other certain. refl; sure = λ j doubt. doubt };
+    ends = ap (λ (l : List ℕ). length l) (empty is_told);
+    so_far = λ certain. empty is_told;
+  };
+}
+
+module _ (k i at n : ℕ) (first u v : SystemView) (apart : k ≢ i) (c : Copying k i at first u) (g : Grows k i at n u v) where
+  still_sure : ¬ first.doubtful k → ¬ u.doubtful k
+  still_sure certain doubt = certain (c.beside.sure k doubt)
+
+  same_there : ¬ first.doubtful k → u.bytes k ≡ first.bytes k
+  same_there certain = c.beside.others k apart certain
+
+  grown : Copying k i (at + n) first v
+  grown = record {
+    beside = beside_then i first u v c.beside g.beside;
+    ends = g.ends;
+    so_far = λ certain. g.more (still_sure certain) (c.so_far certain ∙ ap (λ (l : List ℕ). take at l) (sym (same_there certain))) ∙ ap (λ (l : List ℕ). take (at + n) l) (same_there certain);
+  }
+
+  pub copied_all : n ≡ 0 → Copies k i first v
+  copied_all zero = record {
+    beside = grown.beside;
+    copied = λ certain. grown.so_far certain ∙ take_all (at + n) (first.bytes k)
+        (omega (arith, ap (λ (l : List ℕ). length l) (same_there certain), g.last zero (still_sure certain)));
+  }
+
+pub more_copied : (told : Type 0) (k i at n : ℕ) (first u v : SystemView) → (told → k ≢ i) → Underway told k i at first u → (told → Grows k i at n u v) → Underway told k i (at + n) first v
+more_copied told k i at n first u v apart so_far g = record { copying = λ is_told. grown k i at n first u v (apart is_told) (so_far.copying is_told) (g is_told) }
+
+-- a copy gets its place
+pub renewing : (name : Name) (k i : ℕ) (v0 v1 v2 v3 v4 v5 v6 : SystemView) → IsTrueSystem v1 → get v0.folder name ≡ Some k → sys.Looks v0 v1 → sys.PartMade name i v1 v2
+    → Copies k i v2 v3 → sys.Looks v3 v4 → sys.Observes v4 v5 → v5.parts ≡ v4.parts → sys.NoneNewlyDoubtful v4 v5 → (j : ℕ) × sys.Placed name j v5 v6 → Renews name v0 v6
+renewing name k i v0 v1 v2 v3 v4 v5 v6 fair is opened made copy looked synced parts certain placed =
+    let p = placed.1 in
+    let one : placed.0 ≡ i = one_inode (get v5.parts name) placed.0 i p.was
+    (ap (λ (D : Folder). get D name) (parts ∙ looked.parts ∙ copy.beside.parts ∙ made.parts) ∙ insert_here v1.parts name i) in
+    let before : v5.folder ≡ v0.folder = synced.folder ∙ looked.observes.folder ∙ copy.beside.folder ∙ made.folder ∙ opened.observes.folder in
+    let after : v6.folder ≡ insert v5.folder name i = p.folder ∙ ap (λ (n : ℕ). insert v5.folder name n) one in
+    let here : get v6.folder name ≡ Some i = ap (λ (D : Folder). get D name) after ∙ insert_here v5.folder name i in
+    let elsewhere : (m : Name) → m ≢ name → get v6.folder m ≡ get v0.folder m = λ m other.
+    ap (λ (D : Folder). get D m) after ∙ insert_other v5.folder name m i other ∙ ap (λ (D : Folder). get D m) before in
+    let sure3 : ¬ v3.doubtful i = λ doubt. made.certain (copy.beside.sure i doubt) in
+    let sure4 : ¬ v4.doubtful i = λ doubt. sure3 (looked.sure i doubt) in
+    let sure5 : ¬ v5.doubtful i = λ doubt. sure4 (certain i doubt) in
+    let sure6 : ¬ v6.doubtful i = λ doubt. sure5 (p.sure i doubt) in
+    let text : v6.bytes i ≡ v3.bytes i = p.bytes i sure5 ∙ synced.bytes i sure4 ∙ looked.observes.bytes i sure3 in
+    let fresh : (m : Name) (j : ℕ) → get v0.folder m ≡ Some j → j ≢ i = λ m j to same.
+    made.fresh v1.folder v1.bytes m (fair.within v1.folder v1.bytes fair.reads) (ap (λ (D : Folder). get D m) opened.observes.folder ∙ to ∙ ap (λ (n : ℕ). Some n) same) in
+    let doubt1 : (j : ℕ) → ¬ v0.doubtful j → ¬ v1.doubtful j = λ j sure doubt. sure (opened.sure j doubt) in
+    let doubt2 : (j : ℕ) → j ≢ i → ¬ v0.doubtful j → ¬ v2.doubtful j = λ j apart sure doubt. doubt1 j sure (made.sure j apart doubt) in
+    let doubt3 : (j : ℕ) → j ≢ i → ¬ v0.doubtful j → ¬ v3.doubtful j = λ j apart sure doubt. doubt2 j apart sure (copy.beside.sure j doubt) in
+    let doubt4 : (j : ℕ) → j ≢ i → ¬ v0.doubtful j → ¬ v4.doubtful j = λ j apart sure doubt. doubt3 j apart sure (looked.sure j doubt) in
+    let doubt5 : (j : ℕ) → j ≢ i → ¬ v0.doubtful j → ¬ v5.doubtful j = λ j apart sure doubt. doubt4 j apart sure (certain j doubt) in
+    let doubt6 : (j : ℕ) → j ≢ i → ¬ v0.doubtful j → ¬ v6.doubtful j = λ j apart sure doubt. doubt5 j apart sure (p.sure j doubt) in
+    let bytes2 : (j : ℕ) → j ≢ i → ¬ v0.doubtful j → v2.bytes j ≡ v0.bytes j = λ j apart sure. made.bytes j apart (doubt1 j sure) ∙ opened.observes.bytes j sure in
+    let bytes6 : (j : ℕ) → j ≢ i → ¬ v0.doubtful j → v6.bytes j ≡ v0.bytes j = λ j apart sure.
+    p.bytes j (doubt5 j apart sure) ∙ synced.bytes j (doubt4 j apart sure) ∙ looked.observes.bytes j (doubt3 j apart sure) ∙ copy.beside.others j apart (doubt2 j apart sure) ∙ bytes2 j apart sure in
+    record {
+      elsewhere = elsewhere;
+      there = ap is_some here ∙ sym (ap is_some is);
+      certain = λ j to. subst (λ (n : ℕ). ¬ v6.doubtful n) (one_inode (get v6.folder name) i j here to) sure6;
+      bytes = λ m j to sure. elim (name_cases m name) as (λ _. (n : ℕ) × (get v6.folder m ≡ Some n) × (¬ v6.doubtful n) × (v6.bytes n ≡ v0.bytes j)) [
+        | inl same ↦
+            let k_is : k ≡ j = one_inode (get v0.folder name) k j is (ap (λ (n : Name). get v0.folder n) (sym same) ∙ to) in
+            let sure_k : ¬ v0.doubtful k = subst (λ (n : ℕ). ¬ v0.doubtful n) (sym k_is) sure in
+            let apart : k ≢ i = fresh name k is in
+            (i, ap (λ (n : Name). get v6.folder n) same ∙ here, sure6, text ∙ copy.copied (doubt2 k apart sure_k) ∙ bytes2 k apart sure_k ∙ ap v0.bytes k_is)
+        | inr other ↦
+            let apart : j ≢ i = fresh m j to in
+            (j, elsewhere m other ∙ to, doubt6 j apart sure, bytes6 j apart sure)
+      ];
+    }
+
+-- a file that is sealed stays
+pub renews_sealed : (name : Name) (u v : SystemView) → sys.Looks u v → ((i : ℕ) → get u.folder name ≡ Some i → ¬ u.doubtful i) → Renews name u v
+renews_sealed name u v look sealed =
+    let names : (m : Name) → get v.folder m ≡ get u.folder m = λ m. ap (λ (D : Folder). get D m) look.observes.folder in
+    record {
+      elsewhere = λ m other. names m;
+      there = ap is_some (names name);
+      certain = λ i to doubt. sealed i (sym (names name) ∙ to) (look.sure i doubt);
+      bytes = λ m i to sure. (i, names m ∙ to, λ doubt. sure (look.sure i doubt), look.observes.bytes i sure);
+    }
+
+pub renews_after : (name : Name) (u v w : SystemView) → sys.Looks u v → Renews name v w → Renews name u w
+renews_after name u v w look r =
+    let names : (m : Name) → get v.folder m ≡ get u.folder m = λ m. ap (λ (D : Folder). get D m) look.observes.folder in
+    record {
+      elsewhere = λ m other. r.elsewhere m other ∙ names m;
+      there = r.there ∙ ap is_some (names name);
+      certain = r.certain;
+      bytes = λ m i to sure.
+          let b = r.bytes m i (names m ∙ to) (λ doubt. sure (look.sure i doubt)) in
+          (b.0, b.1, b.2, b.3 ∙ look.observes.bytes i sure);
+    }
+
+-- how far the files are mended
+pub record Going (told : Type 0) (first now : SystemView) (names : List Name) (count : ℕ) : Type 0 where
+  pub mends : told → Mends first now (take count names)
+
+pub none_mended : (told : Type 0) (v : SystemView) (names : List Name) → Going told v v names 0
+none_mended told v names = record {
+  mends = λ is_told. record { same = λ m. refl; certain = λ m i has. absurd (omega (arith, has.1)); bytes = λ m i to sure. (i, to, sure, refl) };
+}
+
+pub one_more : (told : Type 0) (first v w : SystemView) (names : List Name) (count : ℕ) (x : Name) → count < length names → Going told first v names count
+    → (told → Renews (get_or names count x) v w) → Going told first w names (count + 1)
+one_more told first v w names count x there so_far renews = record {
+  mends = λ is_told.
+      let done = so_far.mends is_told in
+      let r = renews is_told in
+      let this : Name = get_or names count x in
+      record {
+        same = λ m. elim (name_cases m this) as (λ _. is_some (get w.folder m) ≡ is_some (get first.folder m)) [
+          | inl is ↦ ap (λ (n : Name). is_some (get w.folder n)) is ∙ r.there ∙ ap (λ (n : Name). is_some (get v.folder n)) (sym is) ∙ done.same m
+          | inr other ↦ ap is_some (r.elsewhere m other) ∙ done.same m
+        ];
+        certain = λ m i has to. elim (name_cases m this) as (λ _. ¬ w.doubtful i) [
+          | inl is ↦ r.certain i (ap (λ (n : Name). get w.folder n) (sym is) ∙ to)
+          | inr other ↦ elim (Contains-push_cases (take count names) this m (subst (λ (l : List Name). Contains l m) (take_more names count x there) has)) as (λ _. ¬ w.doubtful i) [
+            | inl before ↦
+                let to_v : get v.folder m ≡ Some i = sym (r.elsewhere m other) ∙ to in
+                let b = r.bytes m i to_v (done.certain m i before to_v) in
+                subst (λ (n : ℕ). ¬ w.doubtful n) (one_inode (get w.folder m) b.0 i b.1 to) b.2
+            | inr same ↦ absurd (other (sym same))
+          ]
+        ];
+        bytes = λ m i to sure.
+            let a = done.bytes m i to sure in
+            let b = r.bytes m a.0 a.1 a.2 in
+            (b.0, b.1, b.2, b.3 ∙ a.3);
+      };
+}
+
+-- a name that is listed is there
+pub listed_there : (D : Folder) (B : Bytes) (m : Name) → Contains (keys D) m → is_some (get D m) ≡ true
+listed_there D B m has =
+    let r = read_of (files_of D B) m (subst (λ (l : List Name). Contains l m) (sym (keys_of D B)) has) in
+    ap is_some (read_in D B m r.0 r.1).1
+
+pub this_there : (told : Type 0) (first v : SystemView) (names : List Name) (count : ℕ) (x : Name) → count < length names → Going told first v names count
+    → (told → (m : Name) → Contains names m → is_some (get first.folder m) ≡ true) → told → is_some (get v.folder (get_or names count x)) ≡ true
+this_there told first v names count x there so_far listed is_told =
+    let this : Name = get_or names count x in
+    (so_far.mends is_told).same this ∙ listed is_told this (Contains-get_or names count x there)
+
+-- the files are mended, and the folder was synced
+module _ (old first done mid new : SystemView) (names : List Name) (all : names ≡ keys old.folder) (look : sys.Looks old first) (m : Mends first done names)
+    (synced : sys.Looks done mid) (pinned : (D : Folder) (B : Bytes) → mid.now D B → D ≡ mid.folder) (tick : sys.Ticks mid new) where
+  same_names : (D : Folder) (B : Bytes) → IsImage new D B → D ≡ new.folder
+  same_names D B image = pinned D B (tick.now D B (tick.begins D B image)) ∙ sym tick.folder
+
+  leads_now : (n : Name) (i : ℕ) → MayLead new n i → get new.folder n ≡ Some i
+  leads_now n i lead = ap (λ (D : Folder). get D n) (sym (same_names lead.folder lead.bytes lead.image)) ∙ lead.leads
+
+  after : new.folder ≡ done.folder
+  after = tick.folder ∙ synced.observes.folder
+
+  at : (n : Name) → get new.folder n ≡ get done.folder n
+  at n = ap (λ (D : Folder). get D n) after
+
+  before : (n : Name) → get first.folder n ≡ get old.folder n
+  before n = ap (λ (D : Folder). get D n) look.observes.folder
+
+  sure_after : (i : ℕ) → ¬ done.doubtful i → ¬ new.doubtful i
+  sure_after i sure doubt = sure (synced.sure i (tick.doubtful i doubt))
+
+  listed : (n : Name) (i : ℕ) → get done.folder n ≡ Some i → Contains names n
+  listed n i is =
+      let found : is_some (get old.folder n) ≡ true = ap is_some (sym (before n)) ∙ sym (m.same n) ∙ ap is_some is in
+      subst (λ (l : List Name). Contains l n) (keys_of old.folder old.bytes ∙ sym all)
+      (among_names (files_of old.folder old.bytes) n (λ none. absurd (cc (sym found ∙ ap is_some (absent_in old.folder old.bytes n none)))))
+
+  same_bytes : (n : Name) (i : ℕ) → get old.folder n ≡ Some i → ¬ old.doubtful i → Reads (files_of new.folder new.bytes) n (old.bytes i)
+  same_bytes n i is sure =
+      let b = m.bytes n i (before n ∙ is) (λ doubt. sure (look.sure i doubt)) in
+      let here : get new.folder n ≡ Some b.0 = at n ∙ b.1 in
+      file_in new.folder new.bytes n b.0 here
+      ∙ ap (λ (l : List ℕ). Some l) (ap (λ (B : Bytes). B b.0) tick.bytes ∙ synced.observes.bytes b.0 b.2 ∙ b.3 ∙ look.observes.bytes i sure)
+
+  pub opened : Opens old new
+  opened = record {
+    good = record {
+      sure = λ n i is. let was : get done.folder n ≡ Some i = sym (at n) ∙ is in sure_after i (m.certain n i (listed n i was) was);
+      plain = λ n i j a b. one_inode (get new.folder n) i j (leads_now n i a) (leads_now n j b);
+    };
+    pinned = record { there = λ D B n i image is. ap (λ (F : Folder). get F n) (same_names D B image) ∙ is; alone = λ n o i lead is. leads_now o i lead };
+    names = λ n. ap is_some (at n) ∙ m.same n ∙ ap is_some (before n);
+    bytes = same_bytes;
+  }

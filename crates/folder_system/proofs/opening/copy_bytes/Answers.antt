@@ -1,0 +1,12 @@
+use Rattle.std.proofs.Common.{IsTrue, arith, ◌∙◌}
+use Rattle.folder_system.proofs.Mended.{none_copied, more_copied, copied_all}
+use Rattle.folder_system.proofs.opening.copy_bytes.Goals as goal
+
+pub copy-preserved : goal.copy-preserved
+copy-preserved g c = (
+  more_copied (IsTrue g.S.System.told) (g.S.System.inode c.args.from.now) (g.S.System.inode c.args.to.now) c.copy.at c.in-Ok.count (g.S.System.view c.args.system.now) (g.S.System.view c.copy.system)
+      (g.S.System.view c.copy_piece.new.system) c.requires.apart c.copy.invariant.0 c.in-Ok.ensures.grows,
+  c.in-Ok.ensures.fits,
+  c.copy_piece.ensures.kept ∙ c.copy.invariant.2,
+  omega (arith, c.copy.invariant.3, c.copy_piece.ensures.cause.later),
+)
