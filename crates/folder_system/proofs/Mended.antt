@@ -1,43 +1,79 @@
 -- How an opening makes sure of the files.
-use Rattle.std.proofs.Common.{◌≡◌, ◌≢◌, ◌⊎◌, inl, inr, ℕ, ◌+◌, ◌-◌, ◌<◌, ◌≤◌, List, [], ◌++◌, length, take, drop, min, get_or, Contains, Some, true, is_some, refl, sym, ap, subst, ◌∙◌, arith, length-append, length-drop, take-append-drop}
+use Rattle.std.proofs.Common.{◌≡◌, ◌≢◌, ◌⊎◌, inl, inr, ℕ, ◌+◌, ◌-◌, ◌<◌, ◌≤◌, List, [], ◌++◌, length, take, drop, min, get_or, Contains, Some, true, is_some, Result, refl, sym, ap, subst, ◌∙◌, arith, length-append, length-drop, take-append-drop}
 use Rattle.std.specs.FinMap.{get, keys, insert}
 use Rattle.std.proofs.lemmas.List.{take_more, take_all, take_at, take-take, drop-take, length-take}
 use Rattle.std.proofs.lemmas.List.Elements.{Contains-push_cases, Contains-get_or}
 use Rattle.log_model.specs.declared.name.Name.{Name}
-use Rattle.log_model.specs.Files.{Files, Reads}
+use Rattle.log_model.specs.Files.{Files, Reads, content}
 use Rattle.disk_images.specs.Crash.{overwritten}
 use Rattle.disk_images.proofs.Settled.{among_names, read_of}
 use Rattle.disk_images.proofs.Pieces.{overwritten_end}
 use Rattle.folder_system.specs.System.{Folder, Bytes, SystemView, IsImage, IsTrueSystem}
 use Rattle.folder_system.specs.Calls as sys
-use Rattle.folder_system.specs.View.{files_of, MayLead, IsSure, IsPlain, IsGood, AreNamesPinned, Opens}
-use Rattle.folder_system.specs.Mending.{KeepsBytes, Renews, Mends, Beside, Copies, Grows}
+use Rattle.folder_system.specs.View.{files_of, MayLead, Opens}
+use Rattle.folder_system.specs.Mending.{FromImage, AsRead, OpensSafely, Renews, Mends, Beside, Copies, Grows}
 use Rattle.folder_system.specs.Laws.{file_in, keys_of, read_in, absent_in}
-use Rattle.folder_system.proofs.Folders.{name_cases, insert_here, insert_other, one_inode}
+use Rattle.folder_system.proofs.Folders.{name_cases, insert_here, insert_other, one_inode, same_content}
+use Rattle.folder_system.proofs.Watched.{calm_look, watched_calm}
+
+pub look_image : (u v : SystemView) → IsTrueSystem u → sys.Observes u v → (D : Folder) (B : Bytes) → IsImage v D B → IsImage u D B
+look_image u v fair o D B image = (watched_calm u v (calm_look u v fair o)).shrinks D B image
+
+-- an image after a call is one before it, or one that the call left
+image_cases : (u v : SystemView) → sys.IsWithin u v → (D : Folder) (B : Bytes) → IsImage v D B → IsImage u D B ⊎ v.now D B
+image_cases u v within D B image = elim (within.past u.clock D B (omega arith) (subst (λ (c : ℕ). v.image c D B) within.clock image)) as (λ _. IsImage u D B ⊎ v.now D B) [
+  | inl before ↦ inl before
+  | inr after ↦ inr after.1
+]
 
 -- one inode's bytes change
 beside_then : (i : ℕ) (u v w : SystemView) → Beside i u v → Beside i v w → Beside i u w
 beside_then i u v w a b = record {
+  clock = b.clock ∙ a.clock;
   folder = b.folder ∙ a.folder;
   parts = b.parts ∙ a.parts;
   others = λ j other certain. b.others j other (λ doubt. certain (a.sure j doubt)) ∙ a.others j other certain;
   sure = λ j doubt. a.sure j (b.sure j doubt);
+  images = λ D B image.
+      let x = b.images D B image in
+      let y = a.images D x.0 x.1 in
+      (y.0, y.1, λ j other. x.2 j other ∙ y.2 j other);
 }
 
-beside_look : (i : ℕ) (u v : SystemView) → sys.Looks u v → Beside i u v
-beside_look i u v look = record { folder = look.observes.folder; parts = look.parts; others = λ j other certain. look.observes.bytes j certain; sure = look.sure }
+beside_look : (i : ℕ) (u v : SystemView) → IsTrueSystem u → sys.Looks u v → Beside i u v
+beside_look i u v fair look = record {
+  clock = look.observes.within.clock;
+  folder = look.observes.folder;
+  parts = look.parts;
+  others = λ j other certain. look.observes.bytes j certain;
+  sure = look.sure;
+  images = λ D B image. (B, look_image u v fair look.observes D B image, λ j other. refl);
+}
+
+beside_write : {T E : Type 0} (i at : ℕ) (bs : List ℕ) (result : Result T E) (u v : SystemView) → IsTrueSystem u → sys.Writes i at bs result u v → sys.NoneNewlyDoubtful u v → Beside i u v
+beside_write i at bs result u v fair write sure = record {
+  clock = write.within.clock;
+  folder = write.folder;
+  parts = write.parts;
+  others = write.others;
+  sure = sure;
+  images = λ D B image. elim (image_cases u v write.within D B image) as (λ _. (C : Bytes) × IsImage u D C × ((j : ℕ) → j ≢ i → B j ≡ C j)) [
+    | inl before ↦ (B, before, λ j other. refl)
+    | inr after ↦ let s = write.now D B after in (s.0, fair.within D s.0 s.1, s.2)
+  ];
+}
 
 -- a piece is copied
 take_joined : (at n : ℕ) (b : List ℕ) → take (at + n) b ≡ take at b ++ take n (drop at b)
 take_joined at n b = sym (take-append-drop at (take (at + n) b)) ∙ (λ i. take-take at (at + n) b (omega arith) i ++ drop-take at n b i)
 
-pub grows_none : (k i at room : ℕ) (u v : SystemView) → 0 < room → ¬ u.doubtful i → length (u.bytes i) ≡ at → sys.Looks u v
+pub grows_none : (k i at room : ℕ) (u v : SystemView) → IsTrueSystem u → 0 < room → ¬ u.doubtful i → length (u.bytes i) ≡ at → sys.Looks u v
     → (¬ u.doubtful k → 0 ≡ min room (length (u.bytes k) - at)) → Grows k i at 0 u v
-grows_none k i at room u v some certain ends look count =
+grows_none k i at room u v fair some certain ends look count =
     let same : v.bytes i ≡ u.bytes i = look.observes.bytes i certain in
     let none : at + 0 ≡ at = omega arith in
     record {
-      beside = beside_look i u v look;
+      beside = beside_look i u v fair look;
       ends = ap (λ (l : List ℕ). length l) same ∙ ends ∙ sym none;
       more = λ sure so_far. same ∙ so_far ∙ ap (λ (n : ℕ). take n (u.bytes k)) (sym none);
       last = λ zero sure. omega (arith, count sure, some);
@@ -47,15 +83,15 @@ pub piece_text : (b old new bs : List ℕ) (at n : ℕ) → n ≡ min (length ol
 piece_text b old new bs at n count read part =
     part ∙ ap (λ (l : List ℕ). take n l) read ∙ take_at (take n (drop at b)) (drop n old) n (omega (arith, length-take n (drop at b), length-drop at b, count))
 
-pub grows_more : (k i at n : ℕ) (bs : List ℕ) (u v w : SystemView) → 0 < n → ¬ u.doubtful i → length (u.bytes i) ≡ at → sys.Looks u v
-    → w.folder ≡ v.folder → w.parts ≡ v.parts → ((j : ℕ) → j ≢ i → ¬ v.doubtful j → w.bytes j ≡ v.bytes j) → sys.NoneNewlyDoubtful v w
-    → w.bytes i ≡ overwritten (v.bytes i) at bs → length bs ≡ n → (¬ u.doubtful k → bs ≡ take n (drop at (u.bytes k))) → Grows k i at n u w
-grows_more k i at n bs u v w some certain ends look folder parts others sure written long text =
+pub grows_more : {T E : Type 0} (k i at n : ℕ) (bs : List ℕ) (result : Result T E) (u v w : SystemView) → IsTrueSystem u → IsTrueSystem v → 0 < n → ¬ u.doubtful i
+    → length (u.bytes i) ≡ at → sys.Looks u v → sys.Writes i at bs result v w → sys.NoneNewlyDoubtful v w → w.bytes i ≡ overwritten (v.bytes i) at bs
+    → length bs ≡ n → (¬ u.doubtful k → bs ≡ take n (drop at (u.bytes k))) → Grows k i at n u w
+grows_more k i at n bs result u v w fair fair_v some certain ends look write sure written long text =
     let same : v.bytes i ≡ u.bytes i = look.observes.bytes i certain in
     let ended : length (v.bytes i) ≡ at = ap (λ (l : List ℕ). length l) same ∙ ends in
     let joined : w.bytes i ≡ v.bytes i ++ bs = written ∙ overwritten_end (v.bytes i) bs at (sym ended) in
     record {
-      beside = beside_then i u v w (beside_look i u v look) (record { folder = folder; parts = parts; others = others; sure = sure });
+      beside = beside_then i u v w (beside_look i u v fair look) (beside_write i at bs result v w fair_v write sure);
       ends = ap (λ (l : List ℕ). length l) joined ∙ length-append (v.bytes i) bs ∙ (λ j. ended j + long j);
       more = λ certain_k so_far. joined ∙ (λ j. (same ∙ so_far) j ++ text certain_k j) ∙ sym (take_joined at n (u.bytes k));
       last = λ zero. absurd (omega (arith, zero, some));
@@ -73,7 +109,7 @@ pub record Underway (told : Type 0) (k i at : ℕ) (first now : SystemView) : Ty
 pub none_copied : (told : Type 0) (k i : ℕ) (v : SystemView) → (told → v.bytes i ≡ []) → Underway told k i 0 v v
 none_copied told k i v empty = record {
   copying = λ is_told. record {
-    beside = record { folder = refl; parts = refl; others = λ j other certain. refl; sure = λ j doubt. doubt };
+    beside = record { clock = refl; folder = refl; parts = refl; others = λ j other certain. refl; sure = λ j doubt. doubt; images = λ D B image. (B, image, λ j other. refl) };
     ends = ap (λ (l : List ℕ). length l) (empty is_told);
     so_far = λ certain. empty is_told;
   };
@@ -104,9 +140,10 @@ pub more_copied : (told : Type 0) (k i at n : ℕ) (first u v : SystemView) → 
 more_copied told k i at n first u v apart so_far g = record { copying = λ is_told. grown k i at n first u v (apart is_told) (so_far.copying is_told) (g is_told) }
 
 -- a copy gets its place
-pub renewing : (name : Name) (k i : ℕ) (v0 v1 v2 v3 v4 v5 v6 : SystemView) → IsTrueSystem v1 → get v0.folder name ≡ Some k → sys.Looks v0 v1 → sys.PartMade name i v1 v2
-    → Copies k i v2 v3 → sys.Looks v3 v4 → sys.Observes v4 v5 → v5.parts ≡ v4.parts → sys.NoneNewlyDoubtful v4 v5 → (j : ℕ) × sys.Placed name j v5 v6 → Renews name v0 v6
-renewing name k i v0 v1 v2 v3 v4 v5 v6 fair is opened made copy looked synced parts certain placed =
+pub renewing : (name : Name) (k i : ℕ) (v0 v1 v2 v3 v4 v5 v6 : SystemView) → IsTrueSystem v0 → IsTrueSystem v1 → IsTrueSystem v3 → IsTrueSystem v4 → IsTrueSystem v5
+    → get v0.folder name ≡ Some k → sys.Looks v0 v1 → sys.PartMade name i v1 v2 → Copies k i v2 v3 → sys.Looks v3 v4 → sys.Observes v4 v5 → v5.parts ≡ v4.parts
+    → sys.NoneNewlyDoubtful v4 v5 → (¬ v4.doubtful i → (D : Folder) (B : Bytes) → v5.now D B → B i ≡ v5.bytes i) → (j : ℕ) × sys.Placed name j v5 v6 → Renews name v0 v6
+renewing name k i v0 v1 v2 v3 v4 v5 v6 fair0 fair fair3 fair4 fair5 is opened made copy looked synced parts certain pinned placed =
     let p = placed.1 in
     let one : placed.0 ≡ i = one_inode (get v5.parts name) placed.0 i p.was
     (ap (λ (D : Folder). get D name) (parts ∙ looked.parts ∙ copy.beside.parts ∙ made.parts) ∙ insert_here v1.parts name i) in
@@ -131,7 +168,40 @@ renewing name k i v0 v1 v2 v3 v4 v5 v6 fair is opened made copy looked synced pa
     let bytes2 : (j : ℕ) → j ≢ i → ¬ v0.doubtful j → v2.bytes j ≡ v0.bytes j = λ j apart sure. made.bytes j apart (doubt1 j sure) ∙ opened.observes.bytes j sure in
     let bytes6 : (j : ℕ) → j ≢ i → ¬ v0.doubtful j → v6.bytes j ≡ v0.bytes j = λ j apart sure.
     p.bytes j (doubt5 j apart sure) ∙ synced.bytes j (doubt4 j apart sure) ∙ looked.observes.bytes j (doubt3 j apart sure) ∙ copy.beside.others j apart (doubt2 j apart sure) ∙ bytes2 j apart sure in
+    -- an image before the copy got its place has no name that leads to it
+    let back : (D : Folder) (B : Bytes) → IsImage v5 D B → (C : Bytes) × IsImage v1 D C × ((j : ℕ) → j ≢ i → B j ≡ C j) = λ D B image.
+    let x = copy.beside.images D B (look_image v3 v4 fair3 looked.observes D B (look_image v4 v5 fair4 synced D B image)) in
+    elim (image_cases v1 v2 made.within D x.0 x.1) as (λ _. (C : Bytes) × IsImage v1 D C × ((j : ℕ) → j ≢ i → B j ≡ C j)) [
+      | inl early ↦ (x.0, early, x.2)
+      | inr late ↦ let y = made.now D x.0 late in (y.0, fair.within D y.0 y.1, λ j other. x.2 j other ∙ y.2 j other)
+    ] in
+    let from : (D : Folder) (B : Bytes) (m : Name) → IsImage v5 D B → FromImage v0 D B m = λ D B m image.
+    let x = back D B image in
+    (D, x.0, look_image v0 v1 fair0 opened.observes D x.0 x.1, same_content D D B x.0 m refl (λ j to. x.2 j (λ e. made.fresh D x.0 m x.1 (to ∙ ap (λ (n : ℕ). Some n) e)))) in
     record {
+      clock = p.within.clock ∙ synced.within.clock ∙ looked.observes.within.clock ∙ copy.beside.clock ∙ made.within.clock ∙ opened.observes.within.clock;
+      images = λ D B m image. elim (image_cases v5 v6 p.within D B image) as (λ _. FromImage v0 D B m ⊎ AsRead v6 D B m) [
+        | inl early ↦ inl (from D B m early)
+        | inr late ↦
+            let s = p.now D B late in
+            let f = from s.0 B m (fair5.within s.0 B s.1) in
+            elim s.2 as (λ _. FromImage v0 D B m ⊎ AsRead v6 D B m) [
+              | inl not_done ↦ inl (f.0, f.1, f.2, ap (λ (F : Folder). content (files_of F B) m) not_done ∙ f.3)
+              | inr done ↦
+                  let placed_i : D ≡ insert s.0 name i = done ∙ ap (λ (n : ℕ). insert s.0 name n) one in
+                  elim (name_cases m name) as (λ _. FromImage v0 D B m ⊎ AsRead v6 D B m) [
+                    | inl same ↦
+                        let to_i : get D m ≡ Some i = ap (λ (F : Folder). get F m) placed_i ∙ ap (λ (n : Name). get (insert s.0 name i) n) same ∙ insert_here s.0 name i in
+                        inr (
+                          i,
+                          ap (λ (n : Name). get v6.folder n) same ∙ here,
+                          sure6,
+                          file_in D B m i to_i ∙ ap (λ (l : List ℕ). Some l) (pinned sure4 s.0 B s.1 ∙ sym (p.bytes i sure5)),
+                        )
+                    | inr other ↦ inl (f.0, f.1, f.2, same_content D s.0 B B m (ap (λ (F : Folder). get F m) placed_i ∙ insert_other s.0 name m i other) (λ j to. refl) ∙ f.3)
+                  ]
+            ]
+      ];
       elsewhere = elsewhere;
       there = ap is_some here ∙ sym (ap is_some is);
       certain = λ j to. subst (λ (n : ℕ). ¬ v6.doubtful n) (one_inode (get v6.folder name) i j here to) sure6;
@@ -148,20 +218,27 @@ renewing name k i v0 v1 v2 v3 v4 v5 v6 fair is opened made copy looked synced pa
     }
 
 -- a file that is sealed stays
-pub renews_sealed : (name : Name) (u v : SystemView) → sys.Looks u v → ((i : ℕ) → get u.folder name ≡ Some i → ¬ u.doubtful i) → Renews name u v
-renews_sealed name u v look sealed =
+pub renews_sealed : (name : Name) (u v : SystemView) → IsTrueSystem u → sys.Looks u v → ((i : ℕ) → get u.folder name ≡ Some i → ¬ u.doubtful i) → Renews name u v
+renews_sealed name u v fair look sealed =
     let names : (m : Name) → get v.folder m ≡ get u.folder m = λ m. ap (λ (D : Folder). get D m) look.observes.folder in
     record {
+      clock = look.observes.within.clock;
+      images = λ D B m image. inl (D, B, look_image u v fair look.observes D B image, refl);
       elsewhere = λ m other. names m;
       there = ap is_some (names name);
       certain = λ i to doubt. sealed i (sym (names name) ∙ to) (look.sure i doubt);
       bytes = λ m i to sure. (i, names m ∙ to, λ doubt. sure (look.sure i doubt), look.observes.bytes i sure);
     }
 
-pub renews_after : (name : Name) (u v w : SystemView) → sys.Looks u v → Renews name v w → Renews name u w
-renews_after name u v w look r =
+pub renews_after : (name : Name) (u v w : SystemView) → IsTrueSystem u → sys.Looks u v → Renews name v w → Renews name u w
+renews_after name u v w fair look r =
     let names : (m : Name) → get v.folder m ≡ get u.folder m = λ m. ap (λ (D : Folder). get D m) look.observes.folder in
     record {
+      clock = r.clock ∙ look.observes.within.clock;
+      images = λ D B m image. elim (r.images D B m image) as (λ _. FromImage u D B m ⊎ AsRead w D B m) [
+        | inl f ↦ inl (f.0, f.1, look_image u v fair look.observes f.0 f.1 f.2, f.3)
+        | inr a ↦ inr a
+      ];
       elsewhere = λ m other. r.elsewhere m other ∙ names m;
       there = r.there ∙ ap is_some (names name);
       certain = r.certain;
@@ -176,7 +253,7 @@ pub record Going (told : Type 0) (first now : SystemView) (names : List Name) (c
 
 pub none_mended : (told : Type 0) (v : SystemView) (names : List Name) → Going told v v names 0
 none_mended told v names = record {
-  mends = λ is_told. record { same = λ m. refl; certain = λ m i has. absurd (omega (arith, has.1)); bytes = λ m i to sure. (i, to, sure, refl) };
+  mends = λ is_told. record { clock = refl; images = λ D B m image. inl (D, B, image, refl); same = λ m. refl; certain = λ m i has. absurd (omega (arith, has.1)); bytes = λ m i to sure. (i, to, sure, refl) };
 }
 
 pub one_more : (told : Type 0) (first v w : SystemView) (names : List Name) (count : ℕ) (x : Name) → count < length names → Going told first v names count
@@ -187,6 +264,16 @@ one_more told first v w names count x there so_far renews = record {
       let r = renews is_told in
       let this : Name = get_or names count x in
       record {
+        clock = r.clock ∙ done.clock;
+        images = λ D B m image. elim (r.images D B m image) as (λ _. FromImage first D B m ⊎ AsRead w D B m) [
+          | inl f ↦ elim (done.images f.0 f.1 m f.2) as (λ _. FromImage first D B m ⊎ AsRead w D B m) [
+            | inl k ↦ inl (k.0, k.1, k.2, f.3 ∙ k.3)
+            | inr a ↦
+                let b = r.bytes m a.0 a.1 a.2 in
+                inr (b.0, b.1, b.2, f.3 ∙ a.3 ∙ ap (λ (l : List ℕ). Some l) (sym b.3))
+          ]
+          | inr a ↦ inr a
+        ];
         same = λ m. elim (name_cases m this) as (λ _. is_some (get w.folder m) ≡ is_some (get first.folder m)) [
           | inl is ↦ ap (λ (n : Name). is_some (get w.folder n)) is ∙ r.there ∙ ap (λ (n : Name). is_some (get v.folder n)) (sym is) ∙ done.same m
           | inr other ↦ ap is_some (r.elsewhere m other) ∙ done.same m
@@ -221,7 +308,7 @@ this_there told first v names count x there so_far listed is_told =
     (so_far.mends is_told).same this ∙ listed is_told this (Contains-get_or names count x there)
 
 -- the files are mended, and the folder was synced
-module _ (old first done mid new : SystemView) (names : List Name) (all : names ≡ keys old.folder) (look : sys.Looks old first) (m : Mends first done names)
+module _ (old first done mid new : SystemView) (fair : IsTrueSystem old) (fair_done : IsTrueSystem done) (fair_mid : IsTrueSystem mid) (names : List Name) (all : names ≡ keys old.folder) (look : sys.Looks old first) (m : Mends first done names)
     (synced : sys.Looks done mid) (pinned : (D : Folder) (B : Bytes) → mid.now D B → D ≡ mid.folder) (tick : sys.Ticks mid new) where
   same_names : (D : Folder) (B : Bytes) → IsImage new D B → D ≡ new.folder
   same_names D B image = pinned D B (tick.now D B (tick.begins D B image)) ∙ sym tick.folder
@@ -253,6 +340,27 @@ module _ (old first done mid new : SystemView) (names : List Name) (all : names 
       let here : get new.folder n ≡ Some b.0 = at n ∙ b.1 in
       file_in new.folder new.bytes n b.0 here
       ∙ ap (λ (l : List ℕ). Some l) (ap (λ (B : Bytes). B b.0) tick.bytes ∙ synced.observes.bytes b.0 b.2 ∙ b.3 ∙ look.observes.bytes i sure)
+
+  either : (D : Folder) (B : Bytes) (n : Name) → IsImage mid D B → FromImage old D B n ⊎ AsRead new D B n
+  either D B n image = elim (m.images D B n (look_image done mid fair_done synced.observes D B image)) as (λ _. FromImage old D B n ⊎ AsRead new D B n) [
+    | inl f ↦ inl (f.0, f.1, look_image old first fair look.observes f.0 f.1 f.2, f.3)
+    | inr a ↦ inr (
+      a.0,
+      at n ∙ a.1,
+      sure_after a.0 a.2,
+      a.3 ∙ ap (λ (l : List ℕ). Some l) (sym (ap (λ (B : Bytes). B a.0) tick.bytes ∙ synced.observes.bytes a.0 a.2)),
+    )
+  ]
+
+  same_clock : mid.clock ≡ old.clock
+  same_clock = synced.observes.within.clock ∙ m.clock ∙ look.observes.within.clock
+
+  pub opened_safely : OpensSafely old new
+  opened_safely = record {
+    clock = tick.clock ∙ ap (λ (c : ℕ). c + 1) same_clock;
+    before = λ D B n image. either D B n (subst (λ (c : ℕ). mid.image c D B) (sym same_clock) (tick.past old.clock D B (omega (arith, same_clock)) image));
+    after = λ D B n image. either D B n (fair_mid.within D B (tick.now D B (tick.begins D B image)));
+  }
 
   pub opened : Opens old new
   opened = record {

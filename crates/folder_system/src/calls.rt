@@ -8,8 +8,8 @@ ghost use Rattle.folder_system.specs.Calls as sys;
 ghost use Rattle.disk_images.specs.Calls.{HasCause, Looks, Creates, Writes, Syncs, Renames, Removes, Settles};
 ghost use Rattle.folder_system.specs.View.{disk_view, IsSure, IsPlain, IsGood, Keeps, AreNamesPinned, AreOpen};
 
-use crate::open_files::{OpenFile, OpenFiles};
 use crate::System;
+use crate::open_files::{OpenFile, OpenFiles};
 use disk_images::Name;
 use std::alloc::Global;
 use std::io;
@@ -71,7 +71,13 @@ pub(crate) fn size_of<S: System>(system: &mut S, name: Name) -> io::Result<Optio
 }
 
 /// Writes bytes.
-pub(crate) fn write_file<S: System>(system: &mut S, files: &mut OpenFiles<S::Handle>, name: Name, at: u64, bytes: &[u8]) -> io::Result<()>
+pub(crate) fn write_file<S: System>(
+    system: &mut S,
+    files: &mut OpenFiles<S::Handle>,
+    name: Name,
+    at: u64,
+    bytes: &[u8],
+) -> io::Result<()>
     requires opened { IsTrue S.told → AreOpen S.inode (S.view system.old) files.old.files.items }
     requires sure { IsTrue S.told → IsSure (S.view system.old) }
     requires plain { IsTrue S.told → IsPlain (S.view system.old) }
@@ -93,7 +99,11 @@ pub(crate) fn write_file<S: System>(system: &mut S, files: &mut OpenFiles<S::Han
 }
 
 /// Makes an empty file.
-pub(crate) fn create_file<S: System>(system: &mut S, files: &mut OpenFiles<S::Handle>, name: Name) -> io::Result<()>
+pub(crate) fn create_file<S: System>(
+    system: &mut S,
+    files: &mut OpenFiles<S::Handle>,
+    name: Name,
+) -> io::Result<()>
     requires opened { IsTrue S.told → AreOpen S.inode (S.view system.old) files.old.files.items }
     requires sure { IsTrue S.told → IsSure (S.view system.old) }
     requires absent { IsTrue S.told → IsAbsent (disk_view (S.view system.old)).files name × (¬ (disk_view (S.view system.old)).gone name) }
@@ -118,7 +128,12 @@ pub(crate) fn create_file<S: System>(system: &mut S, files: &mut OpenFiles<S::Ha
 }
 
 /// Gives a file another name.
-pub(crate) fn rename_file<S: System>(system: &mut S, files: &mut OpenFiles<S::Handle>, from: Name, to: Name) -> io::Result<()>
+pub(crate) fn rename_file<S: System>(
+    system: &mut S,
+    files: &mut OpenFiles<S::Handle>,
+    from: Name,
+    to: Name,
+) -> io::Result<()>
     requires opened { IsTrue S.told → AreOpen S.inode (S.view system.old) files.old.files.items }
     requires sure { IsTrue S.told → IsSure (S.view system.old) }
     requires plain { IsTrue S.told → IsPlain (S.view system.old) }
@@ -136,7 +151,11 @@ pub(crate) fn rename_file<S: System>(system: &mut S, files: &mut OpenFiles<S::Ha
 }
 
 /// Removes a file.
-pub(crate) fn remove_file<S: System>(system: &mut S, files: &mut OpenFiles<S::Handle>, name: Name) -> io::Result<()>
+pub(crate) fn remove_file<S: System>(
+    system: &mut S,
+    files: &mut OpenFiles<S::Handle>,
+    name: Name,
+) -> io::Result<()>
     requires opened { IsTrue S.told → AreOpen S.inode (S.view system.old) files.old.files.items }
     requires sure { IsTrue S.told → IsSure (S.view system.old) }
     requires plain { IsTrue S.told → IsPlain (S.view system.old) }
@@ -151,7 +170,11 @@ pub(crate) fn remove_file<S: System>(system: &mut S, files: &mut OpenFiles<S::Ha
 }
 
 /// Makes a file durable whose name is durable.
-pub(crate) fn sync_bytes<S: System>(system: &mut S, files: &mut OpenFiles<S::Handle>, name: Name) -> io::Result<()>
+pub(crate) fn sync_bytes<S: System>(
+    system: &mut S,
+    files: &mut OpenFiles<S::Handle>,
+    name: Name,
+) -> io::Result<()>
     requires opened { IsTrue S.told → AreOpen S.inode (S.view system.old) files.old.files.items }
     requires sure { IsTrue S.told → IsSure (S.view system.old) }
     requires settled { IsTrue S.told → AreNamesPinned (S.view system.old) }
@@ -175,7 +198,11 @@ pub(crate) fn sync_bytes<S: System>(system: &mut S, files: &mut OpenFiles<S::Han
 }
 
 /// Makes a file durable, and all names.
-pub(crate) fn sync_all<S: System>(system: &mut S, files: &mut OpenFiles<S::Handle>, name: Name) -> io::Result<()>
+pub(crate) fn sync_all<S: System>(
+    system: &mut S,
+    files: &mut OpenFiles<S::Handle>,
+    name: Name,
+) -> io::Result<()>
     requires opened { IsTrue S.told → AreOpen S.inode (S.view system.old) files.old.files.items }
     requires sure { IsTrue S.told → IsSure (S.view system.old) }
     ensures syncs { IsTrue S.told → Syncs name result (disk_view (S.view system.old)) (disk_view (S.view system.new)) }
@@ -202,7 +229,12 @@ pub(crate) fn sync_all<S: System>(system: &mut S, files: &mut OpenFiles<S::Handl
 }
 
 /// Makes a file durable, and all names where they may not be so.
-pub(crate) fn sync_file<S: System>(system: &mut S, files: &mut OpenFiles<S::Handle>, name: Name, is_settled: bool) -> io::Result<()>
+pub(crate) fn sync_file<S: System>(
+    system: &mut S,
+    files: &mut OpenFiles<S::Handle>,
+    name: Name,
+    is_settled: bool,
+) -> io::Result<()>
     requires opened { IsTrue S.told → AreOpen S.inode (S.view system.old) files.old.files.items }
     requires sure { IsTrue S.told → IsSure (S.view system.old) }
     requires settled { IsTrue S.told → IsTrue is_settled → AreNamesPinned (S.view system.old) }

@@ -3,7 +3,8 @@
 ghost use Rattle.std.specs.Prelude.{◌≡◌, ◌≤◌, ◌⊎◌, IsTrue, IsErr};
 ghost use Rattle.std.proofs.Props.{props};
 ghost use Rattle.disk_images.specs.Calls.{Rose, HasCause};
-ghost use Rattle.folder_system.specs.View.{disk_view, IsSure, IsPlain, HasEachName, HasNoOtherName, AreOpen, Opens};
+ghost use Rattle.folder_system.specs.View.{disk_view, IsSure, IsPlain, HasEachName, HasNoOtherName, AreOpen, IsGood, AreNamesPinned, Opens};
+ghost use Rattle.folder_system.specs.Mending.{OpensSafely};
 
 use crate::System;
 use crate::calls::{
@@ -42,30 +43,46 @@ impl<S: System + Drop> SystemDisk<S> {
     /// call fails the disk has counted a fault, so that each of its own fails.
     pub fn open(system: S, alloc: Global) -> SystemDisk<S>
         ensures opens { IsTrue S.told → result.faults ≡ 0 → Opens (S.view system) (S.view result.system) }
+        ensures safely { IsTrue S.told → result.faults ≡ 0 → OpensSafely (S.view system) (S.view result.system) }
         ensures cause { (result.faults ≡ 0) ⊎ Rose (S.faults system) (S.faults result.system) }
     {
         let mut system = system;
         match mend(&mut system, alloc) {
-            Ok(()) => SystemDisk {
-                system,
-                files: OpenFiles::new(alloc),
-                is_sound: true,
-                may_write: true,
-                is_settled: true,
-                faults: 0,
-            },
-            Err(fault) => {
-                let Fault { call, name, cause } = fault;
+            Ok(()) => SystemDisk::made_sure(system, alloc),
+            Err(Fault { call, name, cause }) => {
                 system.report(call, name, &cause);
-                SystemDisk {
-                    system,
-                    files: OpenFiles::new(alloc),
-                    is_sound: false,
-                    may_write: false,
-                    is_settled: false,
-                    faults: 1,
-                }
+                SystemDisk::broken(system, alloc)
             }
+        }
+    }
+
+    fn made_sure(system: S, alloc: Global) -> SystemDisk<S>
+        requires good { IsTrue S.told → IsGood (S.view system) }
+        requires pinned { IsTrue S.told → AreNamesPinned (S.view system) }
+        ensures same { result.system ≡ system }
+        ensures none { result.faults ≡ 0 }
+    {
+        SystemDisk {
+            system,
+            files: OpenFiles::new(alloc),
+            is_sound: true,
+            may_write: true,
+            is_settled: true,
+            faults: 0,
+        }
+    }
+
+    fn broken(system: S, alloc: Global) -> SystemDisk<S>
+        ensures same { result.system ≡ system }
+        ensures one { result.faults ≡ 1 }
+    {
+        SystemDisk {
+            system,
+            files: OpenFiles::new(alloc),
+            is_sound: false,
+            may_write: false,
+            is_settled: false,
+            faults: 1,
         }
     }
 
@@ -159,7 +176,13 @@ impl<S: System> Disk for SystemDisk<S> {
             let was_sound = self.is_sound;
             self.is_sound = false;
             self.is_settled = false;
-            return Err(only_reads(&self.system, &mut self.faults, was_sound, "create", Some(name)));
+            return Err(only_reads(
+                &self.system,
+                &mut self.faults,
+                was_sound,
+                "create",
+                Some(name),
+            ));
         }
         self.is_settled = false;
         match create_file(&mut self.system, &mut self.files, name) {
@@ -177,7 +200,13 @@ impl<S: System> Disk for SystemDisk<S> {
             let was_sound = self.is_sound;
             self.is_sound = false;
             self.is_settled = false;
-            return Err(only_reads(&self.system, &mut self.faults, was_sound, "write", Some(name)));
+            return Err(only_reads(
+                &self.system,
+                &mut self.faults,
+                was_sound,
+                "write",
+                Some(name),
+            ));
         }
         match write_file(&mut self.system, &mut self.files, name, at, bytes) {
             Ok(()) => Ok(()),
@@ -195,7 +224,13 @@ impl<S: System> Disk for SystemDisk<S> {
             let was_sound = self.is_sound;
             self.is_sound = false;
             self.is_settled = false;
-            return Err(only_reads(&self.system, &mut self.faults, was_sound, "sync", Some(name)));
+            return Err(only_reads(
+                &self.system,
+                &mut self.faults,
+                was_sound,
+                "sync",
+                Some(name),
+            ));
         }
         match sync_file(&mut self.system, &mut self.files, name, self.is_settled) {
             Ok(()) => {
@@ -216,7 +251,13 @@ impl<S: System> Disk for SystemDisk<S> {
             let was_sound = self.is_sound;
             self.is_sound = false;
             self.is_settled = false;
-            return Err(only_reads(&self.system, &mut self.faults, was_sound, "rename", Some(from)));
+            return Err(only_reads(
+                &self.system,
+                &mut self.faults,
+                was_sound,
+                "rename",
+                Some(from),
+            ));
         }
         self.is_settled = false;
         match rename_file(&mut self.system, &mut self.files, from, to) {
@@ -234,7 +275,13 @@ impl<S: System> Disk for SystemDisk<S> {
             let was_sound = self.is_sound;
             self.is_sound = false;
             self.is_settled = false;
-            return Err(only_reads(&self.system, &mut self.faults, was_sound, "remove", Some(name)));
+            return Err(only_reads(
+                &self.system,
+                &mut self.faults,
+                was_sound,
+                "remove",
+                Some(name),
+            ));
         }
         match remove_file(&mut self.system, &mut self.files, name) {
             Ok(()) => Ok(()),

@@ -44,7 +44,11 @@ pub(crate) fn only_reads<S: System>(
 {
     if was_sound {
         let why = "the store is open for reading";
-        system.report(call, name, &io::Error::new(ErrorKind::PermissionDenied, why));
+        system.report(
+            call,
+            name,
+            &io::Error::new(ErrorKind::PermissionDenied, why),
+        );
     }
     refuse(faults)
 }

@@ -36,7 +36,8 @@ impl<H: Drop> OpenFiles<H> {
     fn place_of(&self, name: Name, for_writing: bool) -> Option<usize>
         ensures { IfSome result (λ at. (at < vec_len self.now.files) × ((d : TheOpenFile H) → (slice_index_or self.now.files.items at d).name ≡ name)) }
     {
-        self.files.iter().position(|entry| entry.name == name && (entry.is_writable || !for_writing))
+        self.files.iter().position(|entry| entry.name == name
+            && (entry.is_writable || !for_writing))
     }
 
     /// Takes out the file of this name, open for writing where that is asked for.

@@ -8,7 +8,7 @@ ghost use Rattle.std.specs.Prelude.{◌≡◌, ◌≢◌, ◌<◌, ◌+◌, ◌^
 ghost use Rattle.std.specs.FinMap.{get};
 ghost use Rattle.disk_images.specs.Calls.{HasCause};
 ghost use Rattle.folder_system.specs.View.{Opens};
-ghost use Rattle.folder_system.specs.Mending.{Mends, Renews, Copies, Grows};
+ghost use Rattle.folder_system.specs.Mending.{OpensSafely, Mends, Renews, Copies, Grows};
 
 use crate::System;
 use disk_images::Name;
@@ -32,6 +32,7 @@ pub(crate) struct Fault {
 /// moment: it may be stopped or fail at any call, and is done again by the next opening.
 pub(crate) fn mend<S: System>(system: &mut S, alloc: Global) -> Result<(), Fault>
     ensures opens { IsTrue S.told → OnOk result (Opens (S.view system.old) (S.view system.new)) }
+    ensures safely { IsTrue S.told → OnOk result (OpensSafely (S.view system.old) (S.view system.new)) }
     ensures cause { HasCause (S.faults system.old) (S.faults system.new) (IsErr result) }
 {
     let names = match system.names(alloc) {

@@ -23,7 +23,7 @@ returns-clause-kept g c told =
     let old = g.S.System.view c.args.system.now in
     let mid = g.S.System.view c.tick.new.self in
     on_ok_weaker c.unlink.result (λ gone.
-        open_gone g.S.System.inode mid (g.S.System.view c.unlink.new.self) c.args.files.now.files.items c.close.new.self.files.items gone.0 c.args.name gone.1
-        c.close.ensures.closed c.close.ensures.kept
-        (open_still g.S.System.inode old mid c.args.files.now.files.items c.args.files.now.files.items (c.tick.ensures.ticks told).folder (λ f has. has) (c.requires.opened told)))
+    open_gone g.S.System.inode mid (g.S.System.view c.unlink.new.self) c.args.files.now.files.items c.close.new.self.files.items gone.0 c.args.name gone.1
+    c.close.ensures.closed c.close.ensures.kept
+    (open_still g.S.System.inode old mid c.args.files.now.files.items c.args.files.now.files.items (c.tick.ensures.ticks told).folder (λ f has. has) (c.requires.opened told)))
     (c.unlink.ensures.unlinks told).unlinked

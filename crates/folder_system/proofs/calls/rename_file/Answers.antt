@@ -31,7 +31,7 @@ returns-clause-kept g c told =
     let mid = g.S.System.view c.tick.new.self in
     let folder = (c.tick.ensures.ticks told).folder in
     on_ok_weaker c.rename.result (λ moved.
-        open_moved g.S.System.inode mid (g.S.System.view c.rename.new.self) c.args.files.now.files.items c.close.new.self.files.items moved.0 c.args.from c.args.to moved.1
-        (ap (λ (D : Folder). get D c.args.to) folder ∙ absent_in old.folder old.bytes c.args.to (c.requires.to told).0) c.close.ensures.closed c.close.ensures.kept
-        (open_still g.S.System.inode old mid c.args.files.now.files.items c.args.files.now.files.items folder (λ f has. has) (c.requires.opened told)))
+    open_moved g.S.System.inode mid (g.S.System.view c.rename.new.self) c.args.files.now.files.items c.close.new.self.files.items moved.0 c.args.from c.args.to moved.1
+    (ap (λ (D : Folder). get D c.args.to) folder ∙ absent_in old.folder old.bytes c.args.to (c.requires.to told).0) c.close.ensures.closed c.close.ensures.kept
+    (open_still g.S.System.inode old mid c.args.files.now.files.items c.args.files.now.files.items folder (λ f has. has) (c.requires.opened told)))
     (c.rename.ensures.renames told).moved

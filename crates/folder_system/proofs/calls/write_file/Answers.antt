@@ -16,8 +16,8 @@ returns-in-Err-clause-writes g c told =
     let b = begun_look old first mid (begun_tick old first (c.tick.ensures.ticks told)) (c.handle.ensures.looks told) in
     none_written c.args.name c.args.at c.args.bytes.now _ old mid (g.met.S.System.is_true c.args.system.now told) (c.requires.sure told) b tt
 
-pub write-requires : goal.write-requires
-write-requires g c told =
+pub write-given-requires : goal.write-given-requires
+write-given-requires g c told =
     let old = g.S.System.view c.args.system.now in
     let first = g.S.System.view c.tick.new.self in
     let mid = g.S.System.view c.handle.new.system in
@@ -31,11 +31,11 @@ returns-clause-writes g c told =
     let old = g.S.System.view c.args.system.now in
     let first = g.S.System.view c.tick.new.self in
     let mid = g.S.System.view c.handle.new.system in
-    let new = g.S.System.view c.write.new.self in
+    let new = g.S.System.view c.write-given.new.self in
     let b = begun_look old first mid (begun_tick old first (c.tick.ensures.ticks told)) (c.handle.ensures.looks told) in
     let is = ap (λ (D : Folder). get D c.args.name) (sym (c.tick.ensures.ticks told).folder) ∙ c.in-Ok.ensures.leads told in
-    writing c.args.name (g.S.System.inode c.in-Ok.entry.file) c.args.at c.args.bytes.now c.write.result old mid new (g.met.S.System.is_true c.args.system.now told)
-    (c.requires.sure told) (c.requires.plain told) b is (c.write.ensures.writes told)
+    writing c.args.name (g.S.System.inode c.in-Ok.entry.file) c.args.at c.args.bytes.now c.write-given.result old mid new (g.met.S.System.is_true c.args.system.now told)
+    (c.requires.sure told) (c.requires.plain told) b is (c.write-given.ensures.writes told)
 
 pub returns-clause-keeps : goal.returns-clause-keeps
 returns-clause-keeps g c told =
@@ -43,7 +43,7 @@ returns-clause-keeps g c told =
     let first = g.S.System.view c.tick.new.self in
     let mid = g.S.System.view c.handle.new.system in
     let b = begun_look old first mid (begun_tick old first (c.tick.ensures.ticks told)) (c.handle.ensures.looks told) in
-    keeps_writes (g.S.System.inode c.in-Ok.entry.file) c.args.at c.args.bytes.now c.write.result old mid (g.S.System.view c.write.new.self) (g.met.S.System.is_true c.args.system.now told) b (c.write.ensures.writes told)
+    keeps_writes (g.S.System.inode c.in-Ok.entry.file) c.args.at c.args.bytes.now c.write-given.result old mid (g.S.System.view c.write-given.new.self) (g.met.S.System.is_true c.args.system.now told) b (c.write-given.ensures.writes told)
 
 pub handle-requires : goal.handle-requires
 handle-requires g c told =
@@ -53,6 +53,6 @@ handle-requires g c told =
 pub returns-clause-kept : goal.returns-clause-kept
 returns-clause-kept g c told =
     let mid = g.S.System.view c.handle.new.system in
-    always_ok c.write.result (open_more g.S.System.inode mid (g.S.System.view c.write.new.self) c.handle.new.files.files.items c.keep.new.self.files.items c.in-Ok.entry c.args.name
-    (c.write.ensures.writes told).folder c.in-Ok.ensures.named (ap (λ (D : Folder). get D c.args.name) (c.handle.ensures.looks told).observes.folder ∙ c.in-Ok.ensures.leads told)
+    always_ok c.write-given.result (open_more g.S.System.inode mid (g.S.System.view c.write-given.new.self) c.handle.new.files.files.items c.keep.new.self.files.items c.in-Ok.entry c.args.name
+    (c.write-given.ensures.writes told).folder c.in-Ok.ensures.named (ap (λ (D : Folder). get D c.args.name) (c.handle.ensures.looks told).observes.folder ∙ c.in-Ok.ensures.leads told)
     c.keep.ensures (c.handle.ensures.kept told))
