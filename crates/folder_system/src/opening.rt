@@ -85,11 +85,14 @@ fn mend_file<S: System>(system: &mut S, name: Name) -> io::Result<()>
     ensures renews { IsTrue S.told → OnOk result (Renews name (S.view system.old) (S.view system.new)) }
     ensures cause { HasCause (S.faults system.old) (S.faults system.new) (IsErr result) }
 {
-    match system.is_sealed(name) {
-        Ok(true) => Ok(()),
-        Ok(false) => renew(system, name),
-        Err(e) => Err(e),
+    let is_sealed = match system.is_sealed(name) {
+        Ok(is_sealed) => is_sealed,
+        Err(e) => return Err(e),
+    };
+    if is_sealed {
+        return Ok(());
     }
+    renew(system, name)
 }
 
 /// Copies a file, and puts the copy in its place once it is durable: no crash leaves a part of it under its name.

@@ -1,4 +1,5 @@
-use Rattle.std.proofs.Common.{refl, arith, rules, common_steps}
+use Rattle.std.proofs.Common.{refl, arith}
+use Rattle.std.proofs.lemmas.Grind.{common_steps}
 use Rattle.folder_system.proofs.Mended.{grows_more, piece_text}
 use Rattle.folder_system.proofs.opening.copy_piece.Goals as goal
 

@@ -10,11 +10,11 @@ renew-requires g c = record {
   there = λ told. ap (λ (D : Folder). is_some (get D c.args.name)) (c.is_sealed.ensures.looks told).observes.folder ∙ c.requires.there told;
 }
 
-pub returns-in-Ok-true-clause-renews : goal.returns-in-Ok-true-clause-renews
-returns-in-Ok-true-clause-renews g c told =
-    renews_sealed c.args.name (g.S.System.view c.args.system.now) (g.S.System.view c.is_sealed.new.self) (g.met.S.System.is_true c.args.system.now told) (c.is_sealed.ensures.looks told) (c.in-Ok-true.ensures.sealed told refl)
+pub returns-then-is_sealed-clause-renews : goal.returns-then-is_sealed-clause-renews
+returns-then-is_sealed-clause-renews g c told =
+    renews_sealed c.args.name (g.S.System.view c.args.system.now) (g.S.System.view c.is_sealed.new.self) (g.met.S.System.is_true c.args.system.now told) (c.is_sealed.ensures.looks told) (c.in-Ok.ensures.sealed told c.if-is_sealed.true)
 
-pub returns-in-Ok-false-clause-renews : goal.returns-in-Ok-false-clause-renews
-returns-in-Ok-false-clause-renews g c told =
+pub returns-clause-renews : goal.returns-clause-renews
+returns-clause-renews g c told =
     on_ok_weaker c.renew.result (λ r. renews_after c.args.name (g.S.System.view c.args.system.now) (g.S.System.view c.is_sealed.new.self) (g.S.System.view c.renew.new.system)
     (g.met.S.System.is_true c.args.system.now told) (c.is_sealed.ensures.looks told) r) (c.renew.ensures.renews told)

@@ -1,4 +1,3 @@
-use Rattle.std.proofs.Common.{rules}
 use Rattle.folder_system.proofs.disk.SystemDisk.made_sure.Goals as goal
 
 pub invariant_of-result-clause-sure : goal.invariant_of-result-clause-sure
