@@ -1,12 +1,12 @@
 -- A file is made.
-use Rattle.std.proofs.Common.{◌≡◌, ◌≢◌, ◌⊎◌, inl, inr, ℕ, ◌+◌, ◌≤◌, List, [], Some, None, Result, Ok, Err, OnOk, refl, sym, ap, subst, ◌∙◌, arith}
+use Rattle.std.proofs.Common.{◌≡◌, ◌≢◌, ◌⊎◌, inl, inr, ℕ, List, [], Some, None, Result, Err, OnOk, refl, sym, ap, subst, ◌∙◌}
 use Rattle.std.specs.FinMap.{get, insert}
 use Rattle.log_model.specs.declared.name.Name.{Name}
-use Rattle.log_model.specs.Files.{Files, content, IsAbsent, Reads, SameBut}
+use Rattle.log_model.specs.Files.{content, Reads, SameBut}
 use Rattle.disk_images.specs.Crash.{Follows}
 use Rattle.disk_images.specs.Calls.{CreatedIn, Creates}
 use Rattle.std.proofs.lemmas.Result.{on_ok_weaker}
-use Rattle.folder_system.specs.System.{Folder, Bytes, SystemView, IsImage, IsTrueSystem}
+use Rattle.folder_system.specs.System.{Folder, Bytes, SystemView, IsTrueSystem}
 use Rattle.folder_system.specs.Calls as sys
 use Rattle.folder_system.specs.View.{files_of, disk_view, IsSure, MayLead, IsGone, IsFormerly}
 use Rattle.folder_system.specs.Laws.{file_in, not_in}

@@ -1,13 +1,12 @@
 -- What the adapter keeps from call to call.
-use Rattle.std.proofs.Common.{◌≡◌, ◌≢◌, ◌⊎◌, inl, inr, ℕ, List, length, Some, None, Result, Ok, Err, OnOk, OnErr, refl, sym, ap, subst, ◌∙◌}
-use Rattle.std.specs.FinMap.{get, insert, remove}
+use Rattle.std.proofs.Common.{◌≡◌, ◌≢◌, inl, inr, ℕ, List, Some, None, Result, Ok, Err, OnOk, sym, ap, subst, ◌∙◌}
+use Rattle.std.specs.FinMap.{get, remove}
 use Rattle.log_model.specs.declared.name.Name.{Name}
 use Rattle.folder_system.specs.System.{Folder, Bytes, SystemView, IsImage, IsTrueSystem}
 use Rattle.folder_system.specs.Calls as sys
-use Rattle.folder_system.specs.View.{MayLead, IsSure, IsPlain, IsGone, IsGood, Keeps, AreNamesPinned}
-use Rattle.folder_system.specs.Laws.{leads}
+use Rattle.folder_system.specs.View.{MayLead, IsGone, IsGood, Keeps}
 use Rattle.folder_system.proofs.Folders.{name_cases, insert_here, insert_other, remove_here, remove_other, one_inode, not_none}
-use Rattle.folder_system.proofs.Watched.{Calm, Watched, watched_calm, watched_tick, calm_then, calm_none}
+use Rattle.folder_system.proofs.Watched.{Calm, Watched, watched_tick, calm_then, calm_none}
 use Rattle.folder_system.proofs.Begun.{Begun, image_cases}
 use Rattle.folder_system.proofs.Remove.{led_before}
 

@@ -1,10 +1,10 @@
 -- How an opening makes sure of the files.
-use Rattle.std.proofs.Common.{◌≡◌, ◌≢◌, ◌⊎◌, inl, inr, ℕ, ◌+◌, ◌-◌, ◌<◌, ◌≤◌, List, [], ◌++◌, length, take, drop, min, get_or, Contains, Some, true, is_some, Result, refl, sym, ap, subst, ◌∙◌, arith, length-append, length-drop, take-append-drop}
+use Rattle.std.proofs.Common.{◌≡◌, ◌≢◌, ◌⊎◌, inl, inr, ℕ, ◌+◌, ◌-◌, ◌<◌, List, [], ◌++◌, length, take, drop, min, get_or, Contains, Some, true, is_some, Result, refl, sym, ap, subst, ◌∙◌, arith, length-append, length-drop, take-append-drop}
 use Rattle.std.specs.FinMap.{get, keys, insert}
 use Rattle.std.proofs.lemmas.List.{take_more, take_all, take_at, take-take, drop-take, length-take}
 use Rattle.std.proofs.lemmas.List.Elements.{Contains-push_cases, Contains-get_or}
 use Rattle.log_model.specs.declared.name.Name.{Name}
-use Rattle.log_model.specs.Files.{Files, Reads, content}
+use Rattle.log_model.specs.Files.{Reads, content}
 use Rattle.disk_images.specs.Crash.{overwritten}
 use Rattle.disk_images.proofs.Settled.{among_names, read_of}
 use Rattle.disk_images.proofs.Pieces.{overwritten_end}

@@ -1,6 +1,6 @@
 -- The files that are open between calls.
 use Rattle.std.proofs.Common.{◌≡◌, ◌≢◌, ◌⊎◌, inl, inr, ℕ, List, Contains, Some, None, sym, ap, ◌∙◌}
-use Rattle.std.specs.FinMap.{get, insert, remove}
+use Rattle.std.specs.FinMap.{get, remove}
 use Rattle.log_model.specs.declared.name.Name.{Name}
 use Rattle.folder_system.specs.declared.open_files.OpenFile.{OpenFile}
 use Rattle.folder_system.specs.System.{Folder, SystemView}

@@ -2,7 +2,7 @@ use Rattle.std.specs.FinMap.{get}
 use Rattle.folder_system.specs.System.{Folder}
 use Rattle.folder_system.proofs.Opened.{open_more}
 use Rattle.std.proofs.Common.{◌≡◌, ◌++◌, ◌-◌, ℕ, List, length, take, drop, min, IfOk, subst, ap, ◌∙◌}
-use Rattle.folder_system.proofs.Watched.{calm_look, calm_looks, calm_then, watched_tick, looks}
+use Rattle.folder_system.proofs.Watched.{calm_look, calm_looks, watched_tick, looks}
 use Rattle.folder_system.proofs.Pins.{opened_calm, opened_text}
 use Rattle.folder_system.proofs.Good.{keeps_calm}
 use Rattle.folder_system.proofs.Folders.{always_ok}

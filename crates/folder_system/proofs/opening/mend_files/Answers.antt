@@ -1,4 +1,4 @@
-use Rattle.std.proofs.Common.{IsTrue, get_or, arith}
+use Rattle.std.proofs.Common.{IsTrue, arith}
 use Rattle.log_model.specs.declared.name.Name.{Name}
 use Rattle.log_model.specs.declared.name.NameKind.TheVariants as kinds
 use Rattle.folder_system.proofs.Mended.{none_mended, one_more, this_there}

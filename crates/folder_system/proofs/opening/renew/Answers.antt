@@ -1,7 +1,4 @@
-use Rattle.std.proofs.Common.{◌∙◌, ap, sym, is_some}
-use Rattle.std.specs.FinMap.{get}
 use Rattle.std.proofs.lemmas.Result.{on_ok_weaker}
-use Rattle.folder_system.specs.System.{Folder}
 use Rattle.folder_system.proofs.Mended.{renewing}
 use Rattle.folder_system.proofs.opening.renew.Goals as goal
 

@@ -1,7 +1,6 @@
-use Rattle.std.proofs.Common.{rules, ◌≡◌, ◌≢◌, Contains}
+use Rattle.std.proofs.Common.{rules, ◌≢◌}
 use Rattle.std.proofs.lemmas.Fn.{All-from_retain}
 use Rattle.std.proofs.lemmas.List.Elements.{All-contains}
-use Rattle.folder_system.specs.declared.open_files.OpenFile.{OpenFile}
 use Rattle.folder_system.proofs.Retained.{kept_there}
 use Rattle.folder_system.proofs.open_files.OpenFiles.close.Goals as goal
 
