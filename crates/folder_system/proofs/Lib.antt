@@ -8,6 +8,7 @@ pub mod Remove
 pub mod Pins
 pub mod Good
 pub mod Adapter
+pub mod Copied
 pub mod Mended
 pub mod Retained
 pub mod Opened

@@ -1,5 +1,5 @@
 use Rattle.std.proofs.Common.{IsTrue, arith, ◌∙◌}
-use Rattle.folder_system.proofs.Mended.{more_copied, copied_all}
+use Rattle.folder_system.proofs.Copied.{more_copied, copied_all}
 use Rattle.folder_system.proofs.opening.copy_bytes.Goals as goal
 
 pub copy-preserved : goal.copy-preserved

@@ -1,5 +1,5 @@
 use Rattle.std.proofs.Common.{IsTrue, ◌≤◌, ◌<◌, ◌-◌, ◌^◌, ◌≡◌, length}
-use Rattle.folder_system.proofs.Mended.{Underway}
+use Rattle.folder_system.proofs.Copied.{Underway}
 use Rattle.folder_system.proofs.opening.copy_bytes.Given as goal
 
 abbrev pub invariant-copy : goal.invariant-copy

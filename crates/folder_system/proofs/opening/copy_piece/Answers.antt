@@ -1,6 +1,6 @@
 use Rattle.std.proofs.Common.{refl, arith}
 use Rattle.std.proofs.lemmas.Grind.{common_steps}
-use Rattle.folder_system.proofs.Mended.{grows_more, piece_text}
+use Rattle.folder_system.proofs.Copied.{grows_more, piece_text}
 use Rattle.folder_system.proofs.opening.copy_piece.Goals as goal
 
 pub returns-in-Ok-write-clause-grows : goal.returns-in-Ok-write-clause-grows
