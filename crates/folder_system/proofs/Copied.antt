@@ -1,19 +1,11 @@
 -- How an opening copies a file.
-use Rattle.std.proofs.Common.{◌≡◌, ◌≢◌, ◌⊎◌, inl, inr, ℕ, ◌+◌, ◌-◌, ◌<◌, List, [], ◌++◌, length, take, drop, min, get_or, Contains, Some, true, is_some, Result, refl, sym, ap, subst, ◌∙◌, arith, length-append, length-drop, take-append-drop}
-use Rattle.std.specs.FinMap.{get, keys, insert}
-use Rattle.std.proofs.lemmas.List.{take_more, take_all, take_at, take-take, drop-take, length-take}
-use Rattle.std.proofs.lemmas.List.Elements.{Contains-push_cases, Contains-get_or}
-use Rattle.log_model.specs.declared.name.Name.{Name}
-use Rattle.log_model.specs.Files.{Reads, content}
+use Rattle.std.proofs.Common.{◌≡◌, ◌≢◌, ◌⊎◌, inl, inr, ℕ, ◌+◌, ◌-◌, ◌<◌, List, [], ◌++◌, length, take, drop, min, Result, refl, sym, ap, subst, ◌∙◌, arith, length-append, length-drop, take-append-drop}
+use Rattle.std.proofs.lemmas.List.{take_all, take_at, take-take, drop-take, length-take}
 use Rattle.disk_images.specs.Crash.{overwritten}
-use Rattle.disk_images.proofs.Settled.{among_names, read_of}
 use Rattle.disk_images.proofs.Pieces.{overwritten_end}
 use Rattle.folder_system.specs.System.{Folder, Bytes, SystemView, IsImage, IsTrueSystem}
 use Rattle.folder_system.specs.Calls as sys
-use Rattle.folder_system.specs.View.{files_of, MayLead, Opens}
-use Rattle.folder_system.specs.Mending.{FromImage, AsRead, OpensSafely, Renews, Mends, Beside, Copies, Grows}
-use Rattle.folder_system.specs.Laws.{file_in, keys_of, read_in, absent_in}
-use Rattle.folder_system.proofs.Folders.{name_cases, insert_here, insert_other, one_inode, same_content}
+use Rattle.folder_system.specs.Mending.{Beside, Copies, Grows}
 use Rattle.folder_system.proofs.Watched.{calm_look, watched_calm}
 
 pub look_image : (u v : SystemView) → IsTrueSystem u → sys.Observes u v → (D : Folder) (B : Bytes) → IsImage v D B → IsImage u D B

@@ -80,8 +80,10 @@ pub(crate) fn read_file<S: System>(
     requires opened { IsTrue S.told → AreOpen S.inode (S.view system.old) files.old.files.items }
     requires sure { IsTrue S.told → IsSure (S.view system.old) }
     ensures within { IfOk result (λ n. n ≤ length into.old) }
-    ensures count { IsTrue S.told → (c : List ℕ) → Reads (disk_view (S.view system.old)).files name c → IfOk result (λ n. n ≡ min (length into.old) (length c - at)) }
-    ensures bytes { IsTrue S.told → (c : List ℕ) → Reads (disk_view (S.view system.old)).files name c → IfOk result (λ n. into.new ≡ take n (drop at c) ++ drop n into.old) }
+    ensures count { IsTrue S.told → (c : List ℕ) → Reads (disk_view (S.view system.old)).files name c
+        → IfOk result (λ n. n ≡ min (length into.old) (length c - at)) }
+    ensures bytes { IsTrue S.told → (c : List ℕ) → Reads (disk_view (S.view system.old)).files name c
+        → IfOk result (λ n. into.new ≡ take n (drop at c) ++ drop n into.old) }
     ensures looks { IsTrue S.told → Looks (disk_view (S.view system.old)) (disk_view (S.view system.new)) }
     ensures keeps { IsTrue S.told → OnOk result (Keeps (S.view system.old) (S.view system.new)) }
     ensures kept { IsTrue S.told → OnOk result (AreOpen S.inode (S.view system.new) files.new.files.items) }
