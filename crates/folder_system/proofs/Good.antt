@@ -6,7 +6,7 @@ use Rattle.folder_system.specs.System.{Folder, Bytes, SystemView, IsImage, IsTru
 use Rattle.folder_system.specs.Calls as sys
 use Rattle.folder_system.specs.View.{MayLead, IsGone, IsGood, Keeps}
 use Rattle.folder_system.proofs.Folders.{name_cases, insert_here, insert_other, remove_here, remove_other, one_inode, not_none}
-use Rattle.folder_system.proofs.Watched.{Calm, Watched, watched_tick, calm_then, calm_none}
+use Rattle.folder_system.proofs.Watched.{Calm, Watched, watched_calm, watched_tick, calm_then, calm_none}
 use Rattle.folder_system.proofs.Begun.{Begun, image_cases}
 use Rattle.folder_system.proofs.Remove.{led_before}
 
@@ -31,6 +31,10 @@ pub keeps_watched : (old new : SystemView) → Watched old new → sys.NoneNewly
 keeps_watched old new w sure = keeps_names old new w.folder sure
     (λ m i l. record { folder = l.folder; bytes = l.bytes; image = w.shrinks l.folder l.bytes l.image; leads = l.leads })
     (λ D B image. (B, w.shrinks D B image))
+
+-- calls that only looked
+pub keeps_still : (old new : SystemView) → Calm old new → sys.NoneNewlyDoubtful old new → Keeps old new
+keeps_still old new calm sure = keeps_watched old new (watched_calm old new calm) sure
 
 -- looks, with a tick behind them
 pub keeps_look : (old mid new : SystemView) → IsTrueSystem old → sys.Looks old mid → sys.Ticks mid new → Keeps old new

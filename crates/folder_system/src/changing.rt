@@ -29,7 +29,10 @@ pub(crate) fn create_file<S: System>(
     ensures kept { IsTrue S.told → OnOk result (AreOpen S.inode (S.view system.new) files.new.files.items) }
     ensures cause { HasCause (S.faults system.old) (S.faults system.new) (IsErr result) }
 {
-    system.tick();
+    match system.tick() {
+        Ok(()) => {}
+        Err(e) => return Err(e),
+    }
     match system.create(name) {
         Ok(file) => {
             files.keep(OpenFile {
@@ -61,7 +64,10 @@ pub(crate) fn write_file<S: System>(
     ensures kept { IsTrue S.told → OnOk result (AreOpen S.inode (S.view system.new) files.new.files.items) }
     ensures cause { HasCause (S.faults system.old) (S.faults system.new) (IsErr result) }
 {
-    system.tick();
+    match system.tick() {
+        Ok(()) => {}
+        Err(e) => return Err(e),
+    }
     let entry = match handle(system, files, name, true) {
         Ok(entry) => entry,
         Err(e) => return Err(e),
@@ -89,7 +95,10 @@ pub(crate) fn rename_file<S: System>(
     ensures kept { IsTrue S.told → OnOk result (AreOpen S.inode (S.view system.new) files.new.files.items) }
     ensures cause { HasCause (S.faults system.old) (S.faults system.new) (IsErr result) }
 {
-    system.tick();
+    match system.tick() {
+        Ok(()) => {}
+        Err(e) => return Err(e),
+    }
     files.close(from);
     system.rename(from, to)
 }
@@ -108,7 +117,10 @@ pub(crate) fn remove_file<S: System>(
     ensures kept { IsTrue S.told → OnOk result (AreOpen S.inode (S.view system.new) files.new.files.items) }
     ensures cause { HasCause (S.faults system.old) (S.faults system.new) (IsErr result) }
 {
-    system.tick();
+    match system.tick() {
+        Ok(()) => {}
+        Err(e) => return Err(e),
+    }
     files.close(name);
     system.unlink(name)
 }

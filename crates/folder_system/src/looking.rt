@@ -1,4 +1,4 @@
-//! Calls that change nothing.
+//! Calls that change nothing, and lie within the present moment.
 
 ghost use Rattle.std.specs.Prelude.{◌≡◌, ◌<◌, ◌≤◌, ◌+◌, ◌-◌, ◌++◌, ◌^◌, ℕ, List, Some, length, take, drop, min, IsTrue, IsErr, IfOk, OnOk};
 ghost use Rattle.std.specs.FinMap.{keys, get};
@@ -50,9 +50,7 @@ pub(crate) fn list<S: System>(system: &mut S, alloc: Global) -> io::Result<Vec<N
     ensures stays { IsTrue S.told → (S.view system.new).folder ≡ (S.view system.old).folder }
     ensures cause { HasCause (S.faults system.old) (S.faults system.new) (IsErr result) }
 {
-    let names = system.names(alloc);
-    system.tick();
-    names
+    system.names(alloc)
 }
 
 /// The length of a file.
@@ -64,9 +62,7 @@ pub(crate) fn size_of<S: System>(system: &mut S, name: Name) -> io::Result<Optio
     ensures stays { IsTrue S.told → (S.view system.new).folder ≡ (S.view system.old).folder }
     ensures cause { HasCause (S.faults system.old) (S.faults system.new) (IsErr result) }
 {
-    let length = system.length(name);
-    system.tick();
-    length
+    system.length(name)
 }
 
 /// Reads bytes.
@@ -94,7 +90,6 @@ pub(crate) fn read_file<S: System>(
         Err(e) => return Err(e),
     };
     let filled = system.read(&entry.file, at, into);
-    system.tick();
     files.keep(entry);
     filled
 }

@@ -47,8 +47,10 @@ pub(crate) fn mend<S: System>(system: &mut S, alloc: Global) -> Result<(), Fault
         Ok(()) => {}
         Err(cause) => return Err(on_folder("sync", cause)),
     }
-    system.tick();
-    Ok(())
+    match system.tick() {
+        Ok(()) => Ok(()),
+        Err(cause) => Err(on_folder("sync", cause)),
+    }
 }
 
 fn on_folder(call: &'static str, cause: io::Error) -> Fault {

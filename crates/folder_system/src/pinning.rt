@@ -37,7 +37,10 @@ pub(crate) fn sync_bytes<S: System>(
         Ok(()) => {}
         Err(e) => return Err(e),
     }
-    system.tick();
+    match system.tick() {
+        Ok(()) => {}
+        Err(e) => return Err(e),
+    }
     files.keep(entry);
     Ok(())
 }
@@ -68,7 +71,10 @@ pub(crate) fn sync_all<S: System>(
         Ok(()) => {}
         Err(e) => return Err(e),
     }
-    system.tick();
+    match system.tick() {
+        Ok(()) => {}
+        Err(e) => return Err(e),
+    }
     files.keep(entry);
     Ok(())
 }
@@ -109,6 +115,9 @@ pub(crate) fn settle_names<S: System>(system: &mut S) -> io::Result<()>
         Ok(()) => {}
         Err(e) => return Err(e),
     }
-    system.tick();
+    match system.tick() {
+        Ok(()) => {}
+        Err(e) => return Err(e),
+    }
     Ok(())
 }

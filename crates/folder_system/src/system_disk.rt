@@ -97,6 +97,13 @@ impl<S: System + Drop> SystemDisk<S> {
 }
 
 impl<S: System> SystemDisk<S> {
+    /// The system below.
+    pub fn system(&self) -> &S
+        ensures { result.now ≡ self.now.system }
+    {
+        &self.system
+    }
+
     /// How many faults were counted so far.
     pub fn faults(&self) -> u64
         ensures { result ≡ self.now.faults }

@@ -2,9 +2,9 @@ use Rattle.std.specs.FinMap.{get}
 use Rattle.folder_system.specs.System.{Folder}
 use Rattle.folder_system.proofs.Opened.{open_more}
 use Rattle.std.proofs.Common.{◌≡◌, ◌++◌, ◌-◌, ℕ, List, length, take, drop, min, IfOk, subst, ap, ◌∙◌}
-use Rattle.folder_system.proofs.Watched.{calm_look, calm_looks, watched_tick, looks}
+use Rattle.folder_system.proofs.Watched.{calm_look, calm_looks}
 use Rattle.folder_system.proofs.Pins.{opened_calm, opened_text}
-use Rattle.folder_system.proofs.Good.{keeps_calm}
+use Rattle.folder_system.proofs.Good.{keeps_still}
 use Rattle.folder_system.proofs.Folders.{always_ok}
 use Rattle.folder_system.proofs.looking.read_file.Goals as goal
 
@@ -34,9 +34,8 @@ returns-clause-looks g c told =
     let mid = g.S.System.view c.handle.new.system in
     let done = g.S.System.view c.read-filled.new.self in
     let fair = g.met.S.System.is_true c.args.system.now told in
-    looks old (g.S.System.view c.tick.new.self) (c.requires.sure told) (watched_tick old done (g.S.System.view c.tick.new.self) fair
+    calm_looks old done (c.requires.sure told)
     (opened_calm c.args.name (g.S.System.inode c.in-Ok.entry.file) old mid done fair (c.requires.sure told) (c.in-Ok.ensures.leads told) (c.handle.ensures.looks told) (c.read-filled.ensures.looks told).observes)
-    (c.tick.ensures.ticks told))
 
 pub returns-clause-keeps : goal.returns-clause-keeps
 returns-clause-keeps g c told =
@@ -44,12 +43,12 @@ returns-clause-keeps g c told =
     let mid = g.S.System.view c.handle.new.system in
     let done = g.S.System.view c.read-filled.new.self in
     let fair = g.met.S.System.is_true c.args.system.now told in
-    always_ok c.read-filled.result (keeps_calm old done (g.S.System.view c.tick.new.self) fair
+    always_ok c.read-filled.result (keeps_still old done
     (opened_calm c.args.name (g.S.System.inode c.in-Ok.entry.file) old mid done fair (c.requires.sure told) (c.in-Ok.ensures.leads told) (c.handle.ensures.looks told) (c.read-filled.ensures.looks told).observes)
-    (λ j doubt. (c.handle.ensures.looks told).sure j ((c.read-filled.ensures.looks told).sure j doubt)) (c.tick.ensures.ticks told))
+    (λ j doubt. (c.handle.ensures.looks told).sure j ((c.read-filled.ensures.looks told).sure j doubt)))
 
 pub returns-clause-kept : goal.returns-clause-kept
 returns-clause-kept g c told =
-    always_ok c.read-filled.result (open_more g.S.System.inode (g.S.System.view c.handle.new.system) (g.S.System.view c.tick.new.self) c.handle.new.files.files.items c.keep.new.self.files.items c.in-Ok.entry c.args.name
-    ((c.tick.ensures.ticks told).folder ∙ (c.read-filled.ensures.looks told).observes.folder) c.in-Ok.ensures.named
+    always_ok c.read-filled.result (open_more g.S.System.inode (g.S.System.view c.handle.new.system) (g.S.System.view c.read-filled.new.self) c.handle.new.files.files.items c.keep.new.self.files.items c.in-Ok.entry c.args.name
+    (c.read-filled.ensures.looks told).observes.folder c.in-Ok.ensures.named
     (ap (λ (D : Folder). get D c.args.name) (c.handle.ensures.looks told).observes.folder ∙ c.in-Ok.ensures.leads told) c.keep.ensures (c.handle.ensures.kept told))

@@ -13,16 +13,16 @@ mend_files-requires g c = record {
       ∙ listed_there old.folder old.bytes m (subst (λ (l : List Name). Contains l m) (c.as_slice.ensures.value ∙ c.in-Ok.ensures.names told) has);
 }
 
-pub returns-clause-opens : goal.returns-clause-opens
-returns-clause-opens g c told =
+pub returns-in-Ok-tick-clause-opens : goal.returns-in-Ok-tick-clause-opens
+returns-in-Ok-tick-clause-opens g c told =
     opened (g.S.System.view c.args.system.now) (g.S.System.view c.names.new.self) (g.S.System.view c.mend_files.new.system) (g.S.System.view c.sync_folder.new.self)
     (g.S.System.view c.tick.new.self) (g.met.S.System.is_true c.args.system.now told) (g.met.S.System.is_true c.mend_files.new.system told) (g.met.S.System.is_true c.sync_folder.new.self told)
     c.as_slice.result.now (c.as_slice.ensures.value ∙ c.in-Ok.ensures.names told) (c.names.ensures.looks told) (c.in-Ok-mend_files.ensures.mends told)
-    (c.sync_folder.ensures.syncs told).looks (c.in-Ok-sync_folder.ensures.syncs told).pinned (c.tick.ensures.ticks told)
+    (c.sync_folder.ensures.syncs told).looks (c.in-Ok-sync_folder.ensures.syncs told).pinned (c.in-Ok-tick.ensures.ticks told)
 
-pub returns-clause-safely : goal.returns-clause-safely
-returns-clause-safely g c told =
+pub returns-in-Ok-tick-clause-safely : goal.returns-in-Ok-tick-clause-safely
+returns-in-Ok-tick-clause-safely g c told =
     opened_safely (g.S.System.view c.args.system.now) (g.S.System.view c.names.new.self) (g.S.System.view c.mend_files.new.system) (g.S.System.view c.sync_folder.new.self)
     (g.S.System.view c.tick.new.self) (g.met.S.System.is_true c.args.system.now told) (g.met.S.System.is_true c.mend_files.new.system told) (g.met.S.System.is_true c.sync_folder.new.self told)
     c.as_slice.result.now (c.as_slice.ensures.value ∙ c.in-Ok.ensures.names told) (c.names.ensures.looks told) (c.in-Ok-mend_files.ensures.mends told)
-    (c.sync_folder.ensures.syncs told).looks (c.in-Ok-sync_folder.ensures.syncs told).pinned (c.tick.ensures.ticks told)
+    (c.sync_folder.ensures.syncs told).looks (c.in-Ok-sync_folder.ensures.syncs told).pinned (c.in-Ok-tick.ensures.ticks told)

@@ -49,7 +49,7 @@ returns-clause-syncs g c told =
     let calm = opened_calm name i old mid done fair sure is look (c.sync.ensures.syncs told).observes in
     let folded = c.in-Ok-sync_folder.ensures.syncs told in
     let calm_last = calm_then old done last fair calm (λ j doubt. look.sure j ((c.in-Ok-sync.ensures.syncs told).certain j doubt)) folded.looks.observes in
-    syncing name i old last (g.S.System.view c.tick.new.self) fair sure is calm_last (c.tick.ensures.ticks told)
+    syncing name i old last (g.S.System.view c.tick.new.self) fair sure is calm_last (c.in-Ok-tick.ensures.ticks told)
     (λ D B now. bytes_pinned name i old mid done fair sure is look (c.sync.ensures.syncs told).observes (c.in-Ok-sync.ensures.syncs told).pinned D B (folded.looks.observes.now D B now))
     (λ D B now. ap (λ (F : Folder). get F name) (folded.pinned D B now ∙ calm_last.folder) ∙ is)
     (λ D B m now former. ap (λ (F : Folder). get F m) (folded.pinned D B now ∙ calm_last.folder) ∙ former.2) _
@@ -67,7 +67,7 @@ returns-clause-pinned g c told =
     let folded = c.in-Ok-sync_folder.ensures.syncs told in
     let calm = opened_calm c.args.name i old mid done fair sure (c.in-Ok.ensures.leads told) look (c.sync.ensures.syncs told).observes in
     names_pinned old last (g.S.System.view c.tick.new.self) fair (g.met.S.System.is_true c.tick.new.self told) sure
-    (calm_then old done last fair calm (λ j doubt. look.sure j ((c.in-Ok-sync.ensures.syncs told).certain j doubt)) folded.looks.observes) (c.tick.ensures.ticks told) folded.pinned
+    (calm_then old done last fair calm (λ j doubt. look.sure j ((c.in-Ok-sync.ensures.syncs told).certain j doubt)) folded.looks.observes) (c.in-Ok-tick.ensures.ticks told) folded.pinned
 
 pub returns-clause-keeps : goal.returns-clause-keeps
 returns-clause-keeps g c told =
@@ -81,10 +81,25 @@ returns-clause-keeps g c told =
     let folded = c.in-Ok-sync_folder.ensures.syncs told in
     let calm = opened_calm c.args.name i old mid done fair (c.requires.sure told) (c.in-Ok.ensures.leads told) look (c.sync.ensures.syncs told).observes in
     keeps_calm old last (g.S.System.view c.tick.new.self) fair (calm_then old done last fair calm (λ j doubt. look.sure j ((c.in-Ok-sync.ensures.syncs told).certain j doubt)) folded.looks.observes)
-    (λ j doubt. look.sure j ((c.in-Ok-sync.ensures.syncs told).certain j (folded.looks.sure j doubt))) (c.tick.ensures.ticks told)
+    (λ j doubt. look.sure j ((c.in-Ok-sync.ensures.syncs told).certain j (folded.looks.sure j doubt))) (c.in-Ok-tick.ensures.ticks told)
 
 pub returns-clause-kept : goal.returns-clause-kept
 returns-clause-kept g c told =
     open_more g.S.System.inode (g.S.System.view c.handle.new.system) (g.S.System.view c.tick.new.self) c.handle.new.files.files.items c.keep.new.self.files.items c.in-Ok.entry c.args.name
-    ((c.tick.ensures.ticks told).folder ∙ (c.sync_folder.ensures.syncs told).looks.observes.folder ∙ (c.sync.ensures.syncs told).observes.folder) c.in-Ok.ensures.named
+    ((c.in-Ok-tick.ensures.ticks told).folder ∙ (c.sync_folder.ensures.syncs told).looks.observes.folder ∙ (c.sync.ensures.syncs told).observes.folder) c.in-Ok.ensures.named
     (ap (λ (D : Folder). get D c.args.name) (c.handle.ensures.looks told).observes.folder ∙ c.in-Ok.ensures.leads told) c.keep.ensures (c.handle.ensures.kept told)
+
+pub returns-in-Err-tick-clause-syncs : goal.returns-in-Err-tick-clause-syncs
+returns-in-Err-tick-clause-syncs g c told =
+    let old = g.S.System.view c.args.system.now in
+    let mid = g.S.System.view c.handle.new.system in
+    let done = g.S.System.view c.sync.new.self in
+    let last = g.S.System.view c.sync_folder.new.self in
+    let fair = g.met.S.System.is_true c.args.system.now told in
+    let look = c.handle.ensures.looks told in
+    let folded = c.in-Ok-sync_folder.ensures.syncs told in
+    let calm = opened_calm c.args.name (g.S.System.inode c.in-Ok.entry.file) old mid done fair (c.requires.sure told) (c.in-Ok.ensures.leads told) look (c.sync.ensures.syncs told).observes in
+    let calm_last = calm_then old done last fair calm (λ j doubt. look.sure j ((c.in-Ok-sync.ensures.syncs told).certain j doubt)) folded.looks.observes in
+    none_synced c.args.name c.in-Err-tick.e old (g.S.System.view c.tick.new.self) (c.requires.sure told)
+    (calm_then old last (g.S.System.view c.tick.new.self) fair calm_last (λ j doubt. look.sure j ((c.in-Ok-sync.ensures.syncs told).certain j (folded.looks.sure j doubt)))
+    (c.in-Err-tick.ensures.failed told).observes)
