@@ -13,6 +13,7 @@ use std::alloc::Global;
 
 /// A folder of files as a disk. After a fault it makes no call of the system and refuses each of its own: the store is to be opened
 /// again, by a new disk.
+#[derive(Drop)]
 pub struct SystemDisk<S: System> {
     pub(crate) system: S,
     pub(crate) files: OpenFiles<S::Handle>,

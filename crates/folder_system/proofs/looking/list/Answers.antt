@@ -1,4 +1,4 @@
-use Rattle.std.proofs.Common.{◌≡◌, ◌∙◌, IfOk, List, sym, subst}
+use Rattle.std.proofs.Common.{◌≡◌, IfOk, List, sym, subst}
 use Rattle.log_model.specs.declared.name.Name.{Name}
 use Rattle.folder_system.specs.Laws.{keys_of}
 use Rattle.folder_system.proofs.Watched.{calm_look, calm_looks}

@@ -1,4 +1,4 @@
-use Rattle.std.proofs.Common.{◌≡◌, ◌∙◌, ℕ, IfOk, Option, subst}
+use Rattle.std.proofs.Common.{◌≡◌, ℕ, IfOk, Option, subst}
 use Rattle.folder_system.proofs.Watched.{calm_look, calm_looks, size_at}
 use Rattle.folder_system.proofs.Good.{keeps_still}
 use Rattle.folder_system.proofs.looking.size_of.Goals as goal
