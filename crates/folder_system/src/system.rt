@@ -1,6 +1,6 @@
 //! The calls of the operating system that a folder of files needs.
 
-ghost use Rattle.std.specs.Prelude.{◌≡◌, ◌<◌, ◌≤◌, ◌+◌, ◌-◌, ◌++◌, ◌^◌, ℕ, List, length, take, drop, min, Bool, true, Some, is_some, IsTrue, IsErr, OnOk, IfOk};
+ghost use Rattle.std.specs.Prelude.{◌≡◌, ◌<◌, ◌≤◌, ◌+◌, ◌-◌, ◌++◌, ◌^◌, ℕ, List, length, take, drop, min, Bool, true, Some, is_some, IsTrue, IsErr, OnOk, OnErr, IfOk};
 ghost use Rattle.std.specs.Option.{option_map};
 ghost use Rattle.std.specs.FinMap.{keys, get};
 ghost use Rattle.log_model.specs.Files.{IsName};
@@ -117,10 +117,11 @@ pub trait System {
         ensures puts { IsTrue told → PutsInPlace name result (view self.old) (view self.new) }
         ensures cause { HasCause (faults self.old) (faults self.new) (IsErr result) };
 
-    /// Counts a new moment, and does nothing.
-    fn tick(&mut self)
-        ensures ticks { IsTrue told → Ticks (view self.old) (view self.new) }
-        ensures faults { faults self.new ≡ faults self.old };
+    /// Counts a new moment, and does nothing else. It fails where no further moment can be counted.
+    fn tick(&mut self) -> io::Result<()>
+        ensures ticks { IsTrue told → OnOk result (Ticks (view self.old) (view self.new)) }
+        ensures failed { IsTrue told → OnErr result (Looks (view self.old) (view self.new)) }
+        ensures cause { HasCause (faults self.old) (faults self.new) (IsErr result) };
 
     /// Says on standard error which call failed, on this file or, without a name, on the folder.
     fn report(&self, call: &str, name: Option<Name>, cause: &io::Error);

@@ -1,9 +1,8 @@
 -- What holds of every system holds along every history whose calls met their conditions.
-use Rattle.std.proofs.Common.{◌≡◌, ◌≢◌, ◌⊎◌, inl, inr, ⊎_elim, ℕ, ◌+◌, ◌≤◌, ◌<◌, List, [], ◌∷◌, ◌++◌, length, true, false, Option, Some, None, is_some, get_or, set, take, drop, ◌-◌, refl, sym, ◌∙◌, ap, subst, arith, length-append, length-take, length-drop, append_assoc}
+use Rattle.std.proofs.Common.{◌≡◌, ◌≢◌, ◌⊎◌, inl, inr, ⊎_elim, ℕ, ◌+◌, ◌≤◌, ◌<◌, List, [], ◌∷◌, ◌++◌, length, true, false, Option, Some, None, is_some, get_or, set, take, drop, ◌-◌, zero, suc, refl, sym, ◌∙◌, ap, subst, arith, length-append, length-take, length-drop, append_assoc}
 use Rattle.std.specs.Prelude.{Contains}
-use Rattle.std.proofs.lemmas.List.{take_at, drop_at, get_or-set_same, get_or-set_other, get_or-append_right}
-use Rattle.std.proofs.lemmas.List.Elements.{Contains-append_cases}
-use Rattle.std.proofs.Math.ListN.{get_or-append}
+use Rattle.std.proofs.lemmas.List.{take_at, drop_at, get_or-set_same, get_or-set_other, length-set}
+use Rattle.std.proofs.lemmas.List.Elements.{Contains-push_cases}
 use Rattle.std.specs.FinMap as map
 use Rattle.std.specs.FinMap.{get, insert, remove}
 use Rattle.log_model.specs.declared.name.Name.{Name}
@@ -114,18 +113,15 @@ without_name n i D name plain was = record {
 }
 
 pub bytes_pushed : (files : List (List ℕ)) (i : ℕ) → get_or (files ++ [] ∷ []) i [] ≡ get_or files i []
-bytes_pushed [] 0 = refl
+bytes_pushed [] zero = refl
 bytes_pushed [] (suc i) = refl
-bytes_pushed (f ∷ files) 0 = refl
+bytes_pushed (f ∷ files) zero = refl
 bytes_pushed (f ∷ files) (suc i) = bytes_pushed files i
 
 pub bytes_beyond : (files : List (List ℕ)) (i : ℕ) → length files ≤ i → get_or files i [] ≡ []
 bytes_beyond [] i le = refl
-bytes_beyond (f ∷ files) 0 le = absurd (omega (arith, le))
+bytes_beyond (f ∷ files) zero le = absurd (omega (arith, le))
 bytes_beyond (f ∷ files) (suc i) le = bytes_beyond files i (omega (arith, le))
-
-pub length_set : (files : List (List ℕ)) (i : ℕ) (c : List ℕ) → length (set files i c) ≡ length files
-length_set files i c = grind arith
 
 pub torn_over : (at : ℕ) (c bytes : List ℕ) → at ≤ length c → Torn at (length bytes) c (overwritten c at bytes)
 torn_over at c bytes le =
@@ -149,9 +145,9 @@ pub written_torn : (h : Held) (i at : ℕ) (b : List ℕ) → i < length h.files
 written_torn h i at b lt le = subst (Torn at (length b) (bytes_of h i)) (sym (written_here h i at b lt)) (torn_over at (bytes_of h i) b le)
 
 pub one_doubt : (doubts : List ℕ) (i j : ℕ) → Contains (doubts ++ i ∷ []) j → Contains doubts j ⊎ (j ≡ i)
-one_doubt doubts i j is = elim (Contains-append_cases doubts (i ∷ []) j is) as (λ _. Contains doubts j ⊎ (j ≡ i)) [
+one_doubt doubts i j is = elim (Contains-push_cases doubts i j is) as (λ _. Contains doubts j ⊎ (j ≡ i)) [
   | inl before ↦ inl before
-  | inr new ↦ inr (search new)
+  | inr new ↦ inr (sym new)
 ]
 
 -- What is left to show of a call.
@@ -262,7 +258,7 @@ module _ (s : State) (fair : IsFair s) where
   m i at b = length (set s.held.files i (overwritten (bytes_of s.held i) at b))
 
   as_many : (i at : ℕ) (b : List ℕ) → m i at b ≡ n
-  as_many i at b = length_set s.held.files i (overwritten (bytes_of s.held i) at b)
+  as_many i at b = length-set s.held.files i (overwritten (bytes_of s.held i) at b)
 
   torn_unmade : (i at k : ℕ) → i < n → (j : ℕ) (c : List ℕ) → n ≤ j → torn_in s.texts i at k j c → c ≡ []
   torn_unmade i at k lt j c le torn = elim torn.2 as (λ _. c ≡ []) [
@@ -420,7 +416,7 @@ fair_step s (Write i at bytes) fair met = fair_write s fair i at bytes met.0 met
 fair_step s (Tear i at bytes) fair met = fair_tear s fair i at bytes met.0 met.1
 fair_step s (Doubt i) fair met = fair_doubt s fair i met
 fair_step s (Sync i) fair met = fair_sync s fair i
-fair_step s (Move i from to) fair met = fair_move s fair i from to met.0 met.1
+fair_step s (Move i from to) fair met = fair_move s fair i from to met.0 met.2
 fair_step s (Unlink i name) fair met = fair_unlink s fair i name met
 fair_step s (Place i name) fair met = fair_place s fair i name met.0 met.1
 fair_step s SyncFolder fair met = fair_folder s fair
@@ -440,8 +436,7 @@ no_part : (h : Held) → IsStart h → (m : Name) (i : ℕ) → get h.parts m �
 no_part h start m i leads = let none = start.parts m in absurd (cc (leads, none))
 
 none_in : (l : List ℕ) (i : ℕ) → l ≡ [] → ¬ Contains l i
-none_in [] i e is = search is
-none_in (x ∷ l) i e is = absurd (cc e)
+none_in l i e is = omega (arith, is.1, ap length e)
 
 pub fair_quiet : (h : Held) → IsStart h → IsFair (quiet h)
 fair_quiet h start = record {

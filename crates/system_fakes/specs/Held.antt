@@ -5,6 +5,8 @@ use Rattle.std.specs.FinMap.{empty, insert, remove, from_entries}
 use Rattle.std.specs.declared.alloc.Global.{Global}
 use Rattle.log_model.specs.declared.name.Name.{Name}
 use Rattle.disk_images.specs.Crash.{overwritten}
+use Rattle.system_fakes.specs.declared.op.Op.{Op}
+use Rattle.system_fakes.specs.declared.op.Op.TheVariants.{Create, Begin, Write, Tear, Doubt, Sync, Move, Unlink, Place, SyncFolder, Tick}
 use Rattle.folder_system.specs.System.{Folder, Bytes}
 use Rattle.system_fakes.specs.Order.{coded_folder}
 
@@ -48,6 +50,20 @@ unlinked h name = record { folder = remove h.folder name; parts = h.parts; files
 
 abbrev pub placed : Held → ℕ → Name → Held
 placed h i name = record { folder = insert h.folder name i; parts = remove h.parts name; files = h.files; doubtful = h.doubtful }
+
+-- what is held after a call
+abbrev pub held_after : Held → Op → Held
+held_after h (Create name) = created h name
+held_after h (Begin name) = begun h name
+held_after h (Write i at bytes) = written h i at bytes.items
+held_after h (Tear i at bytes) = doubted (written h i at bytes.items) i
+held_after h (Doubt i) = doubted h i
+held_after h (Sync i) = h
+held_after h (Move i from to) = moved h i from to
+held_after h (Unlink i name) = unlinked h name
+held_after h (Place i name) = placed h i name
+held_after h SyncFolder = h
+held_after h Tick = h
 
 abbrev fields : Type 0
 fields = Folder × (Folder × (List (List ℕ) × List ℕ))

@@ -1,6 +1,6 @@
 -- A system as the history of its calls. What a crash may leave is the names on the one hand and the bytes of each inode on the
 -- other, which reach the disk independently; each call takes both as far as the clause of the call lets them go.
-use Rattle.std.specs.Prelude.{◌≡◌, ◌≢◌, ◌⊎◌, ℕ, ◌+◌, ◌≤◌, ◌<◌, List, [], ◌∷◌, length, Contains, Some, true, is_some}
+use Rattle.std.specs.Prelude.{◌≡◌, ◌≢◌, ◌⊎◌, ℕ, ◌+◌, ◌≤◌, ◌<◌, List, [], ◌∷◌, length, Contains, Some, None, true, is_some, refl}
 use Rattle.std.specs.FinMap.{get, insert, remove}
 use Rattle.log_model.specs.declared.name.Name.{Name}
 use Rattle.log_model.specs.Files.{IsName}
@@ -9,7 +9,7 @@ use Rattle.folder_system.specs.System.{Folder, Bytes, SystemView}
 use Rattle.folder_system.specs.Calls.{Without}
 use Rattle.system_fakes.specs.declared.op.Op.{Op}
 use Rattle.system_fakes.specs.declared.op.Op.TheVariants.{Create, Begin, Write, Tear, Doubt, Sync, Move, Unlink, Place, SyncFolder, Tick}
-use Rattle.system_fakes.specs.Held.{Held, bytes_of, created, begun, written, doubted, moved, unlinked, placed}
+use Rattle.system_fakes.specs.Held.{Held, held_after, bytes_of, created, begun, written, doubted, moved, unlinked, placed}
 
 pub record State : Type 1 where
   pub held : Held
@@ -63,6 +63,19 @@ step s (Place i name) = within s (placed s.held i name) (or_with s.folders name 
 step s SyncFolder = within s s.held (λ D. D ≡ s.held.folder) s.texts
 step s Tick = ticked s
 
+pub step-held : (s : State) (op : Op) → (step s op).held ≡ held_after s.held op
+step-held s (Create name) = refl
+step-held s (Begin name) = refl
+step-held s (Write i at bytes) = refl
+step-held s (Tear i at bytes) = refl
+step-held s (Doubt i) = refl
+step-held s (Sync i) = refl
+step-held s (Move i from to) = refl
+step-held s (Unlink i name) = refl
+step-held s (Place i name) = refl
+step-held s SyncFolder = refl
+step-held s Tick = refl
+
 abbrev pub after : State → List Op → State
 after s [] = s
 after s (op ∷ ops) = after (step s op) ops
@@ -85,7 +98,7 @@ Meets h (Write i at bytes) = (i < length h.files) × (at ≤ length (bytes_of h 
 Meets h (Tear i at bytes) = (i < length h.files) × (at ≤ length (bytes_of h i))
 Meets h (Doubt i) = i < length h.files
 Meets h (Sync i) = Unit {0}
-Meets h (Move i from to) = (get h.folder from ≡ Some i) × IsName to
+Meets h (Move i from to) = (get h.folder from ≡ Some i) × (get h.folder to ≡ None) × IsName to
 Meets h (Unlink i name) = get h.folder name ≡ Some i
 Meets h (Place i name) = (get h.parts name ≡ Some i) × (is_some (get h.folder name) ≡ true)
 Meets h SyncFolder = Unit {0}

@@ -1,4 +1,7 @@
 pub mod Order
 pub mod Held
+pub mod Table
 pub mod History
 pub mod Fair
+pub mod Conditions
+pub mod Views

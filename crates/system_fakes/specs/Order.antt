@@ -64,7 +64,7 @@ parts_order Edits Edits r s n m = refl
 pub order_same : order ≡ name_cmp
 order_same = λ i a b. parts_order a.kind b.kind a.region b.region a.number b.number i
 
-same_name : (q k : Name) → eq_by_cmp name_cmp q k ≡ true → q ≡ k
+pub same_name : (q k : Name) → eq_by_cmp name_cmp q k ≡ true → q ≡ k
 same_name q k is = name_cmp_exact q k (is_equal (name_cmp q k) is)
 
 one_name : (k : Name) → eq_by_cmp name_cmp k k ≡ true
