@@ -1,5 +1,5 @@
 -- A table's names are those that its maps have.
-use Rattle.std.proofs.Common.{◌≡◌, ◌≢◌, inl, inr, ℕ, Bool, true, false, cond, List, [], ◌∷◌, ◌++◌, map as map_list, Option, Some, None, Vec, refl, sym, ◌∙◌, ap, subst}
+use Rattle.std.proofs.Common.{◌≡◌, ◌≢◌, inl, inr, ℕ, Bool, true, false, cond, List, [], ◌∷◌, ◌++◌, map as map_list, Option, Some, None, Vec, zero, suc, ◌<◌, length, get_or, arith, refl, sym, ◌∙◌, ap, subst}
 use Rattle.std.specs.declared.cmp.Ordering.{Ordering}
 use Rattle.std.specs.declared.cmp.Ordering.TheVariants.{Less}
 use Rattle.std.specs.declared.alloc.Global.{Global}
@@ -19,6 +19,7 @@ use Rattle.log_model.proofs.NameLaws.{name_cmp_total, name_cmp_exact}
 use Rattle.folder_system.specs.System.{Folder}
 use Rattle.system_fakes.specs.Order.{order, order_same, is_equal, name_cases, insert_here, insert_other, remove_here, remove_other, same_folder}
 use Rattle.system_fakes.specs.Table.{folder_in}
+use Rattle.system_fakes.specs.Texts.{texts_in}
 use Rattle.system_fakes.specs.Held.{Held}
 
 find_name : (es : List (Name × ℕ)) (q : Name) → find name_cmp q es ≡ lookup (is_at (name_cmp q)) es
@@ -63,6 +64,11 @@ swapped D from to i was free =
 -- equal in each part
 pub held_same : (g h : Held) → g.folder ≡ h.folder → g.parts ≡ h.parts → g.files ≡ h.files → g.doubtful ≡ h.doubtful → g ≡ h
 held_same g h folder parts files doubtful = λ i. record { folder = folder i; parts = parts i; files = files i; doubtful = doubtful i }
+
+pub index_text : (l : List (Vec ℕ Global)) (i : ℕ) (w : Vec ℕ Global) → i < length l → w ≡ get_or l i w → w.items ≡ get_or (texts_in l) i []
+index_text [] i w lt is = absurd (omega (arith, lt))
+index_text (v ∷ l) zero w lt is = ap (λ (u : Vec ℕ Global). u.items) is
+index_text (v ∷ l) (suc i) w lt is = index_text l i w (omega (arith, lt)) is
 
 pub pushed : (l : List (Vec ℕ Global)) (v : Vec ℕ Global) → v.items ≡ [] → map_list (λ (w : Vec ℕ Global). w.items) (l ++ v ∷ []) ≡ map_list (λ (w : Vec ℕ Global). w.items) l ++ [] ∷ []
 pushed [] v empty = ap (λ (c : List ℕ). c ∷ []) empty

@@ -271,17 +271,17 @@ puts_any i name old new (Ok x) placed = record { placed = (i, placed); failed = 
 puts_any i name old new (Err e) placed = record { placed = tt; failed = inr (i, placed) }
 
 module _ {T E : Type 0} (e : E) (v : SystemView) where
-  pub creates_not : (inode : T → ℕ) (name : Name) → Creates inode name (Err {T = T} {E = E} e) v v
+  pub creates_not : (inode : T → ℕ) (name : Name) → Creates {H = T} {E = E} inode name (Err e) v v
   creates_not inode name = record { made = tt; failed = inl (looks_not v) }
 
-  pub creates_part_not : (inode : T → ℕ) (name : Name) → CreatesPart inode name (Err {T = T} {E = E} e) v v
+  pub creates_part_not : (inode : T → ℕ) (name : Name) → CreatesPart {H = T} {E = E} inode name (Err e) v v
   creates_part_not inode name = record { made = tt; failed = inl (observes_not v, λ j is. is) }
 
-  pub renames_not : (from to : Name) → Renames from to (Err {T = T} {E = E} e) v v
+  pub renames_not : (from to : Name) → Renames {T = T} {E = E} from to (Err e) v v
   renames_not from to = record { moved = tt; failed = inl (looks_not v) }
 
-  pub unlinks_not : (name : Name) → Unlinks name (Err {T = T} {E = E} e) v v
+  pub unlinks_not : (name : Name) → Unlinks {T = T} {E = E} name (Err e) v v
   unlinks_not name = record { unlinked = tt; failed = inl (looks_not v) }
 
-  pub puts_not : (name : Name) → PutsInPlace name (Err {T = T} {E = E} e) v v
+  pub puts_not : (name : Name) → PutsInPlace {T = T} {E = E} name (Err e) v v
   puts_not name = record { placed = tt; failed = inl (looks_not v) }

@@ -1,5 +1,6 @@
 pub mod Order
 pub mod Held
+pub mod Texts
 pub mod Table
 pub mod History
 pub mod Fair

@@ -156,8 +156,7 @@ impl System for FakeSystem {
         self.plan.end(given)
     }
 
-    fn copy_access(&mut self, name: Name, from: &FakeFile, to: &FakeFile) -> io::Result<()> {
-        let _ = (name, from, to);
+    fn copy_access(&mut self, _name: Name, _from: &FakeFile, _to: &FakeFile) -> io::Result<()> {
         let fate = self.plan.begin();
         let given = fate.answer(());
         self.plan.end(given)
@@ -175,7 +174,5 @@ impl System for FakeSystem {
     }
 
     /// Says nothing.
-    fn report(&self, call: &str, name: Option<Name>, cause: &io::Error) {
-        let _ = (call, name, cause);
-    }
+    fn report(&self, _call: &str, _name: Option<Name>, _cause: &io::Error) {}
 }

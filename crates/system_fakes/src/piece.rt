@@ -1,6 +1,8 @@
 // Files as bytes in memory.
 ghost use Rattle.std.specs.Prelude.{◌≡◌, ◌<◌, ◌≤◌, ◌-◌, ◌++◌, [], ◌∷◌, length, min, take, drop, vec_len, vec_capacity, true, false, OnOk, OnErr, IfOk};
 ghost use Rattle.disk_images.specs.Crash.{overwritten};
+ghost use Rattle.std.specs.Prelude.{get_or, set};
+ghost use Rattle.system_fakes.specs.Texts.{texts_in};
 
 use std::alloc::{AllocError, Global};
 use std::cmp::min;
@@ -18,6 +20,21 @@ pub fn write_over(file: &mut Vec<u8>, at: usize, bytes: &[u8]) -> Result<(), All
         Ok(()) => Ok(()),
         Err(_) => unreachable!(),
     }
+}
+
+/// Writes over what is there in one of the files, and past its end.
+pub fn write_file(
+    files: &mut Vec<Vec<u8>>,
+    inode: usize,
+    at: usize,
+    bytes: &[u8],
+) -> Result<(), AllocError>
+    requires given { inode < length files.old.items }
+    requires within { at ≤ length (get_or (texts_in files.old.items) inode []) }
+    ensures written { OnOk result (texts_in files.new.items ≡ set (texts_in files.old.items) inode (overwritten (get_or (texts_in files.old.items) inode []) at bytes.now)) }
+    ensures err { OnErr result (texts_in files.new.items ≡ texts_in files.old.items) }
+{
+    write_over(&mut files[inode], at, bytes)
 }
 
 /// Adds a file to the list, which has room for it.

@@ -10,7 +10,7 @@ ghost use Rattle.system_fakes.specs.Held.{held_after, nothing, bytes_of, created
 ghost use Rattle.system_fakes.specs.Table.{held_in};
 
 use crate::op::Op;
-use crate::piece::{push_file, push_inode, write_over};
+use crate::piece::{push_file, push_inode, write_file};
 use disk_images::Name;
 use std::alloc::{AllocError, Global};
 use std::collections::BTreeMap;
@@ -119,7 +119,7 @@ impl Table {
         ensures written { OnOk result (held_in self.new ≡ written (held_in self.old) inode at bytes.now) }
         ensures err { OnErr result (held_in self.new ≡ held_in self.old) }
     {
-        write_over(&mut self.files[inode as usize], at as usize, bytes)
+        write_file(&mut self.files, inode as usize, at as usize, bytes)
     }
 
     /// Writes, and notes that the write has failed.
@@ -130,7 +130,7 @@ impl Table {
         ensures err { OnErr result (held_in self.new ≡ held_in self.old) }
     {
         self.doubts.reserve(1)?;
-        self.write(inode, at, bytes)?;
+        write_file(&mut self.files, inode as usize, at as usize, bytes)?;
         push_inode(&mut self.doubts, inode);
         Ok(())
     }
