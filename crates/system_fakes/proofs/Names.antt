@@ -8,7 +8,8 @@ use Rattle.std.proofs.lemmas.List.{nil_from_length}
 use Rattle.std.specs.BTreeMap as tree
 use Rattle.std.specs.BTreeMap.{BTreeMap, is_at}
 use Rattle.std.specs.Map.{lookup}
-use Rattle.std.specs.List.{AllByRecursion}
+use Rattle.std.specs.List.{AllByRecursion, AllZip, each_same}
+use Rattle.std.specs.Prelude.{vec_len}
 use Rattle.std.specs.List.Sorted.{IsStrictlySortedBy}
 use Rattle.std.specs.FinMap as map
 use Rattle.std.specs.FinMap.{find, get, insert, remove, get-from_entries}
@@ -91,3 +92,21 @@ pub keys_in : (m : BTreeMap Name ℕ) → tree.IsOrdered order m → tree.keys m
 keys_in m ordered =
     let by_name = subst (λ (cmp : Name → Name → Ordering). IsStrictlySortedBy cmp (tree.keys m)) order_same ordered in
     sym (ap (map_list (λ (e : Name × ℕ). e.0)) (entries_in_order m.entries by_name))
+
+pub same_pairs : (es fs : List (Name × ℕ)) → AllZip (λ p q. (q.0 ≡ p.0) × (q.1 ≡ p.1)) es fs → fs ≡ es
+same_pairs [] [] same = refl
+same_pairs [] (f ∷ fs) same = absurd same
+same_pairs (e ∷ es) [] same = absurd same
+same_pairs (e ∷ es) (f ∷ fs) same =
+    let name : f.0 ≡ e.0 = same.0.0 in
+    let inode : f.1 ≡ e.1 = same.0.1 in
+    let first : (f.0, f.1) ≡ (e.0, e.1) = λ i. (name i, inode i) in
+    λ i. first i ∷ same_pairs es fs same.1 i
+
+pub same_texts : (es fs : List (Vec ℕ Global)) → AllZip (λ v w. AllZip (λ (x y : ℕ). y ≡ x) v.items w.items × (vec_len w ≡ vec_len v)) es fs → texts_in fs ≡ texts_in es
+same_texts [] [] same = refl
+same_texts [] (f ∷ fs) same = absurd same
+same_texts (e ∷ es) [] same = absurd same
+same_texts (e ∷ es) (f ∷ fs) same =
+    let bytes : f.items ≡ e.items = each_same e.items f.items same.0.0 in
+    λ i. bytes i ∷ same_texts es fs same.1 i

@@ -29,7 +29,7 @@ HasNoPart h = (m : Name) → get h.parts m ≡ None
 abbrev pub IsCertain : Held → Type 0
 IsCertain h = length h.doubtful ≡ 0
 
-no_length : (l : List ℕ) → length l ≡ 0 → l ≡ []
+pub no_length : (l : List ℕ) → length l ≡ 0 → l ≡ []
 no_length [] e = λ i. []
 no_length (x ∷ l) e = absurd (omega (arith, e))
 

@@ -6,3 +6,4 @@ pub mod History
 pub mod Fair
 pub mod Conditions
 pub mod Views
+pub mod Image

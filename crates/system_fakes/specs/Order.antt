@@ -70,6 +70,9 @@ same_name q k is = name_cmp_exact q k (is_equal (name_cmp q k) is)
 one_name : (k : Name) → eq_by_cmp name_cmp k k ≡ true
 one_name k = (eq_by_cmp_equiv name_cmp_total).refl k
 
+pub one_of : (q k : Name) → q ≡ k → eq_by_cmp name_cmp q k ≡ true
+one_of q k is = ap (λ (x : Name). eq_by_cmp name_cmp x k) is ∙ one_name k
+
 not_one : (q k : Name) → q ≢ k → eq_by_cmp name_cmp q k ≡ false
 not_one q k other = elim (cases_Bool (eq_by_cmp name_cmp q k)) as (λ _. eq_by_cmp name_cmp q k ≡ false) [
   | inl same ↦ absurd (other (same_name q k same))

@@ -1,6 +1,6 @@
 //! A system in memory, which keeps its calls.
 
-ghost use Rattle.std.specs.Prelude.{◌≡◌};
+ghost use Rattle.std.specs.Prelude.{◌≡◌, IfOk};
 ghost use Rattle.std.specs.FinMap as map;
 ghost use Rattle.system_fakes.specs.Views.{view_of, faults_of};
 
@@ -9,7 +9,7 @@ use crate::history::History;
 use crate::plan::{CallPlan, Failing, Fate};
 use disk_images::Name;
 use folder_system::System;
-use std::alloc::Global;
+use std::alloc::{AllocError, Global};
 use std::io;
 
 /// A system in memory. It keeps each call that changes or pins something, so it tells what a crash at each moment may
@@ -54,6 +54,23 @@ impl FakeSystem {
             history: History::new(alloc),
             plan: CallPlan::new(failing),
         }
+    }
+
+    /// A folder as a crash now may leave it, whose calls don't fail. The choice picks among these: 0 takes each call for done, 1
+    /// loses each one that no fsync has pinned, 2 tears each write that none has, and 3 and on mix these call by call, with
+    /// writes that are cut short too. A lost rename leaves the former name, and a lost removal the file.
+    pub fn image(&self, choice: u64) -> Result<FakeSystem, AllocError>
+        ensures image { IfOk result (λ image. (view_of self.now).now (view_of image).folder (view_of image).bytes) }
+        ensures faults { IfOk result (λ image. faults_of image ≡ 0) }
+    {
+        Ok(FakeSystem {
+            history: self.history.image(choice)?,
+            plan: CallPlan::new(Failing {
+                from: 0,
+                count: 0,
+                fate: Fate::Done,
+            }),
+        })
     }
 
     /// How many calls were made, also those that failed. It stands at the end of its type.

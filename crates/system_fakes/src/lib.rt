@@ -2,9 +2,12 @@
 //! It writes nothing to a real disk.
 #![tactic(auto)]
 
+mod crash;
 mod fake_file;
 mod fake_system;
 mod history;
+mod image;
+mod image_table;
 mod op;
 mod piece;
 mod plan;

@@ -100,3 +100,27 @@ fn turn_over(bytes: &mut [u8]) {
         *byte ^= 0xFF;
     }
 }
+
+/// The first half of the bytes.
+pub fn front_half(alloc: Global, bytes: &[u8]) -> Result<Vec<u8>, AllocError>
+    ensures { IfOk result (λ copy. length copy.items ≤ length bytes.now) }
+{
+    bytes[..bytes.len() - bytes.len() / 2].to_vec(alloc)
+}
+
+/// The bytes, of which every second one has each bit turned over.
+pub fn every_second_torn(alloc: Global, bytes: &[u8]) -> Result<Vec<u8>, AllocError>
+    ensures { IfOk result (λ copy. length copy.items ≡ length bytes.now) }
+{
+    let mut copy = bytes.to_vec(alloc)?;
+    tear_every_second(&mut copy);
+    Ok(copy)
+}
+
+fn tear_every_second(bytes: &mut [u8]) {
+    for (place, byte) in bytes.iter_mut().enumerate() {
+        if place % 2 == 1 {
+            *byte ^= 0xFF;
+        }
+    }
+}

@@ -89,7 +89,7 @@ impl Table {
     }
 
     /// Makes an empty file.
-    fn create(&mut self, name: Name) -> Result<(), AllocError>
+    pub fn create(&mut self, name: Name) -> Result<(), AllocError>
         ensures made { OnOk result (held_in self.new ≡ created (held_in self.old) name) }
         ensures err { OnErr result (held_in self.new ≡ held_in self.old) }
     {
@@ -113,7 +113,7 @@ impl Table {
     }
 
     /// Writes over what is there, and past the end.
-    fn write(&mut self, inode: u64, at: u64, bytes: &[u8]) -> Result<(), AllocError>
+    pub fn write(&mut self, inode: u64, at: u64, bytes: &[u8]) -> Result<(), AllocError>
         requires given { inode < length (held_in self.old).files }
         requires within { at ≤ length (bytes_of (held_in self.old) inode) }
         ensures written { OnOk result (held_in self.new ≡ written (held_in self.old) inode at bytes.now) }
@@ -156,7 +156,7 @@ impl Table {
         Ok(())
     }
 
-    fn unlink(&mut self, name: Name) -> Result<(), AllocError>
+    pub fn unlink(&mut self, name: Name) -> Result<(), AllocError>
         ensures unlinked { OnOk result (held_in self.new ≡ unlinked (held_in self.old) name) }
         ensures err { OnErr result (held_in self.new ≡ held_in self.old) }
     {
