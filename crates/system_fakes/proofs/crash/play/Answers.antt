@@ -1,4 +1,5 @@
 use Rattle.std.proofs.Common.{◌≡◌, ◌∙◌, ap, sym, subst}
+use Rattle.std.specs.Prelude.{OnOk}
 use Rattle.std.proofs.lemmas.Result.{on_ok_weaker}
 use Rattle.system_fakes.specs.declared.op.Op.{Op}
 use Rattle.system_fakes.specs.declared.op.Op.TheVariants.{Begin, Sync, SyncFolder, Doubt, Tick}
@@ -31,3 +32,21 @@ returns-in-Doubt c = subst (λ (o : Op). Plays o (held_in c.args.truth.now) (hel
 
 pub returns-in-Tick : goal.returns-in-Tick
 returns-in-Tick c = subst (λ (o : Op). Plays o (held_in c.args.truth.now) (held_in c.args.image.now) (held_in c.args.image.now)) (sym c.in-Tick.is) (plays Tick _ _ _ (λ s fair same was. tick_any s fair _ was))
+
+pub returns-in-Create : goal.returns-in-Create
+returns-in-Create c = subst (λ (o : Op). OnOk c.play_create.result (Plays o (held_in c.args.truth.now) (held_in c.args.image.now) (held_in c.play_create.new.image))) (sym c.in-Create.is) (c.play_create.ensures (held_in c.args.truth.now))
+
+pub returns-in-Write : goal.returns-in-Write
+returns-in-Write c = subst (λ (o : Op). OnOk c.play_write.result (Plays o (held_in c.args.truth.now) (held_in c.args.image.now) (held_in c.play_write.new.image))) (sym c.in-Write.is) (c.play_write.ensures.written (held_in c.args.truth.now))
+
+pub returns-in-Tear : goal.returns-in-Tear
+returns-in-Tear c = subst (λ (o : Op). OnOk c.play_write-in-Tear.result (Plays o (held_in c.args.truth.now) (held_in c.args.image.now) (held_in c.play_write-in-Tear.new.image))) (sym c.in-Tear.is) (c.play_write-in-Tear.ensures.torn (held_in c.args.truth.now))
+
+pub returns-in-Move : goal.returns-in-Move
+returns-in-Move c = subst (λ (o : Op). OnOk c.play_move.result (Plays o (held_in c.args.truth.now) (held_in c.args.image.now) (held_in c.play_move.new.image))) (sym c.in-Move.is) (c.play_move.ensures (held_in c.args.truth.now))
+
+pub returns-in-Unlink : goal.returns-in-Unlink
+returns-in-Unlink c = subst (λ (o : Op). OnOk c.play_unlink.result (Plays o (held_in c.args.truth.now) (held_in c.args.image.now) (held_in c.play_unlink.new.image))) (sym c.in-Unlink.is) (c.play_unlink.ensures (held_in c.args.truth.now))
+
+pub returns-in-Place : goal.returns-in-Place
+returns-in-Place c = subst (λ (o : Op). OnOk c.play_place.result (Plays o (held_in c.args.truth.now) (held_in c.args.image.now) (held_in c.play_place.new.image))) (sym c.in-Place.is) (c.play_place.ensures (held_in c.args.truth.now))
