@@ -1,8 +1,9 @@
 -- The folder as a disk of named files.
-use Rattle.std.specs.Prelude.{◌≡◌, ℕ, List, map, Contains, Some, None}
+use Rattle.std.specs.Prelude.{◌≡◌, ℕ, List, map, Contains, Some, None, is_some}
 use Rattle.std.specs.FinMap.{get, from_sorted, entries}
 use Rattle.log_model.specs.declared.name.Name.{Name}
-use Rattle.log_model.specs.Files.{Files}
+use Rattle.log_model.specs.Files.{Files, Reads}
+use Rattle.folder_system.specs.declared.open_files.OpenFile.{OpenFile}
 use Rattle.disk_images.specs.Crash.{DiskView}
 use Rattle.folder_system.specs.System.{Folder, Bytes, SystemView, IsImage}
 
@@ -63,5 +64,17 @@ pub record IsGood (v : SystemView) : Type 0 where
 
 -- no image is new, and no file is newly doubtful
 pub record Keeps (old new : SystemView) : Type 0 where
-  pub good : IsGood old → IsGood new
+  pub sure : IsSure old → IsSure new
+  pub plain : IsPlain old → IsPlain new
   pub pinned : AreNamesPinned old → AreNamesPinned new
+
+-- each open file is the one that its name leads to
+abbrev pub AreOpen : {H : Type 0} → (H → ℕ) → SystemView → List (OpenFile H) → Type 0
+AreOpen {H} inode v files = (f : OpenFile H) → Contains files f → get v.folder f.name ≡ Some (inode f.file)
+
+-- What an opening leaves: the names that were found, durable, and no doubtful file. A file that wasn't doubtful has its bytes.
+pub record Opens (old new : SystemView) : Type 0 where
+  pub good : IsGood new
+  pub pinned : AreNamesPinned new
+  pub names : (m : Name) → is_some (get new.folder m) ≡ is_some (get old.folder m)
+  pub bytes : (m : Name) (i : ℕ) → get old.folder m ≡ Some i → ¬ old.doubtful i → Reads (files_of new.folder new.bytes) m (old.bytes i)

@@ -48,7 +48,8 @@ pub trait System {
     /// name, or a store that may only be read, as its copy is once it is synced. That no write or fsync of such a file has failed
     /// is a premise on the programs that wrote the folder. A system may always answer no.
     fn is_sealed(&mut self, name: Name) -> io::Result<bool>
-        ensures sealed { IsTrue told → IfOk result (λ sealed. IsTrue sealed → (i : ℕ) → get (view self.old).folder name ≡ Some i → ¬ (view self.old).doubtful i) }
+        ensures sealed { IsTrue told
+            → IfOk result (λ sealed. IsTrue sealed → (i : ℕ) → get (view self.old).folder name ≡ Some i → ¬ (view self.old).doubtful i) }
         ensures looks { IsTrue told → Looks (view self.old) (view self.new) }
         ensures cause { HasCause (faults self.old) (faults self.new) (IsErr result) };
 
@@ -67,8 +68,10 @@ pub trait System {
     /// pread, until the slice is full or the file ends. Of a doubtful file nothing is said.
     fn read(&mut self, file: &Self::Handle, at: u64, into: &mut [u8]) -> io::Result<usize>
         ensures within { IfOk result (λ n. n ≤ length into.old) }
-        ensures count { IsTrue told → ¬ (view self.old).doubtful (inode file.now) → IfOk result (λ n. n ≡ min (length into.old) (length ((view self.old).bytes (inode file.now)) - at)) }
-        ensures bytes { IsTrue told → ¬ (view self.old).doubtful (inode file.now) → IfOk result (λ n. into.new ≡ take n (drop at ((view self.old).bytes (inode file.now))) ++ drop n into.old) }
+        ensures count { IsTrue told → ¬ (view self.old).doubtful (inode file.now)
+            → IfOk result (λ n. n ≡ min (length into.old) (length ((view self.old).bytes (inode file.now)) - at)) }
+        ensures bytes { IsTrue told → ¬ (view self.old).doubtful (inode file.now)
+            → IfOk result (λ n. into.new ≡ take n (drop at ((view self.old).bytes (inode file.now))) ++ drop n into.old) }
         ensures looks { IsTrue told → Looks (view self.old) (view self.new) }
         ensures cause { HasCause (faults self.old) (faults self.new) (IsErr result) };
 

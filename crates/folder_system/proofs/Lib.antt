@@ -1,0 +1,14 @@
+pub mod Folders
+pub mod Watched
+pub mod Begun
+pub mod Create
+pub mod Write
+pub mod Rename
+pub mod Remove
+pub mod Pins
+pub mod Good
+pub mod Adapter
+pub mod Copied
+pub mod Mended
+pub mod Retained
+pub mod Opened
