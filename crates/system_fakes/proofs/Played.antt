@@ -58,8 +58,15 @@ module _ (s : State) (fair : IsFair s) (I : Held) (was : IsPlayed s I) where
 
   torn_written : (i at n : ℕ) (piece : List ℕ) → length piece ≤ n → i < length I.files → at ≤ length (bytes_of I i) → (j : ℕ) → torn_in s.texts i at n j (bytes_of (written I i at piece) j)
   torn_written i at n piece le lt reaches j = elim (nat_cases j i) as (λ _. torn_in s.texts i at n j (bytes_of (written I i at piece) j)) [
-    | inl same ↦ (bytes_of I j, was.bytes j, inr (same, subst (λ (k : ℕ). Torn at n (bytes_of I k) (bytes_of (written I i at piece) k)) (sym same)
-        (torn_more at (length piece) n (bytes_of I i) (bytes_of (written I i at piece) i) le (written_torn I i at piece lt reaches))))
+    | inl same ↦ (
+      bytes_of I j,
+      was.bytes j,
+      inr (
+        same,
+        subst (λ (k : ℕ). Torn at n (bytes_of I k) (bytes_of (written I i at piece) k)) (sym same)
+            (torn_more at (length piece) n (bytes_of I i) (bytes_of (written I i at piece) i) le (written_torn I i at piece lt reaches)),
+      ),
+    )
     | inr other ↦ (bytes_of I j, was.bytes j, inl (other, written_other I i at piece j other))
   ]
 
@@ -99,8 +106,8 @@ module _ (s : State) (fair : IsFair s) (I : Held) (was : IsPlayed s I) where
     folder = was.folder;
     bytes = λ j. elim (nat_cases j i) as (λ _. pinned_in s.texts i (bytes_of s.held i) j (bytes_of (replaced I i (bytes_of s.held i)) j)) [
       | inl same ↦
-        let here : bytes_of (replaced I i (bytes_of s.held i)) j ≡ bytes_of s.held i = ap (bytes_of (replaced I i (bytes_of s.held i))) same ∙ replaced_here i in
-        (subst (s.texts j) (ap (bytes_of s.held) same ∙ sym here) (fair.bytes_now j), λ is. here)
+          let here : bytes_of (replaced I i (bytes_of s.held i)) j ≡ bytes_of s.held i = ap (bytes_of (replaced I i (bytes_of s.held i))) same ∙ replaced_here i in
+          (subst (s.texts j) (ap (bytes_of s.held) same ∙ sym here) (fair.bytes_now j), λ is. here)
       | inr other ↦ (subst (s.texts j) (sym (get_or-set_other I.files i j (bytes_of s.held i) [] other)) (was.bytes j), λ is. absurd (other is))
     ];
     as_many = length-set I.files i (bytes_of s.held i) ∙ was.as_many;

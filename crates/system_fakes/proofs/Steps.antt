@@ -72,10 +72,16 @@ module _ (s : State) (fair : IsFair s) where
     bytes = λ j other certain. bytes_pushed s.held.files j;
     certain = λ is. omega (arith, fair.doubts_given (length s.held.files) is);
     sure = λ j other is. is;
-    now = λ D B now. let from = now.names in (from.0, B, record { names = from.1; bytes = now.bytes }, (λ j other. refl), elim from.2 as (λ _. (D ≡ from.0) ⊎ ((D ≡ insert from.0 name (length s.held.files)) × (B (length s.held.files) ≡ []))) [
-      | inl same ↦ inl same
-      | inr new ↦ inr (new, fair.unmade (length s.held.files) (B (length s.held.files)) (omega arith) (now.bytes (length s.held.files)))
-    ]);
+    now = λ D B now. let from = now.names in (
+      from.0,
+      B,
+      record { names = from.1; bytes = now.bytes },
+      (λ j other. refl),
+      elim from.2 as (λ _. (D ≡ from.0) ⊎ ((D ≡ insert from.0 name (length s.held.files)) × (B (length s.held.files) ≡ []))) [
+        | inl same ↦ inl same
+        | inr new ↦ inr (new, fair.unmade (length s.held.files) (B (length s.held.files)) (omega arith) (now.bytes (length s.held.files)))
+      ],
+    );
     within = within_call s _ _ _;
   }
 
@@ -126,8 +132,12 @@ module _ (s : State) (fair : IsFair s) where
     others = λ j other certain. written_other s.held i at b.items j other;
     certain = tt;
     sure = one_doubt_here i;
-    now = λ D B now. ((λ j. (now.bytes j).0), record { names = now.names; bytes = λ j. (now.bytes j).1 }, same_elsewhere i at (length b.items) B now.bytes,
-      subst (λ (n : ℕ). Torn at n (now.bytes i).0 (B i)) same (torn_here i at (length b.items) B now.bytes));
+    now = λ D B now. (
+      (λ j. (now.bytes j).0),
+      record { names = now.names; bytes = λ j. (now.bytes j).1 },
+      same_elsewhere i at (length b.items) B now.bytes,
+      subst (λ (n : ℕ). Torn at n (now.bytes i).0 (B i)) same (torn_here i at (length b.items) B now.bytes),
+    );
     within = within_call s _ _ _;
   }
 

@@ -31,7 +31,8 @@ pub fn write_file(
 ) -> Result<(), AllocError>
     requires given { inode < length files.old.items }
     requires within { at ≤ length (get_or (texts_in files.old.items) inode []) }
-    ensures written { OnOk result (texts_in files.new.items ≡ set (texts_in files.old.items) inode (overwritten (get_or (texts_in files.old.items) inode []) at bytes.now)) }
+    ensures written { OnOk result
+        (texts_in files.new.items ≡ set (texts_in files.old.items) inode (overwritten (get_or (texts_in files.old.items) inode []) at bytes.now)) }
     ensures err { OnErr result (texts_in files.new.items ≡ texts_in files.old.items) }
 {
     write_over(&mut files[inode], at, bytes)

@@ -13,19 +13,19 @@ use Rattle.system_fakes.proofs.crash.play.Goals as goal
 pub returns-in-Begin : goal.returns-in-Begin
 returns-in-Begin c =
     on_ok_weaker c.skip.result (λ is. subst (λ (o : Op). Plays o (held_in c.args.truth.now) (held_in c.args.image.now) (held_in c.skip.new.self)) (sym c.in-Begin.is)
-      (plays_to (Begin c.in-Begin.field-0) _ _ _ _ is (λ s fair same was. begin_any s fair _ was c.in-Begin.field-0))) c.skip.ensures
+    (plays_to (Begin c.in-Begin.field-0) _ _ _ _ is (λ s fair same was. begin_any s fair _ was c.in-Begin.field-0))) c.skip.ensures
 
 pub returns-in-Sync : goal.returns-in-Sync
 returns-in-Sync c =
     on_ok_weaker c.replace.result (λ is. subst (λ (o : Op). Plays o (held_in c.args.truth.now) (held_in c.args.image.now) (held_in c.replace.new.self)) (sym c.in-Sync.is)
-      (plays (Sync c.in-Sync.inode) (held_in c.args.truth.now) (held_in c.args.image.now) (held_in c.replace.new.self) (λ s fair same was. subst (IsPlayed (step s (Sync c.in-Sync.inode)))
-        (sym (is ∙ ap (replaced (held_in c.args.image.now) c.in-Sync.inode) (c.bytes.ensures ∙ ap (λ (h : Held). bytes_of h c.in-Sync.inode) (sym same)))) (sync_any s fair _ was c.in-Sync.inode)))) c.replace.ensures
+    (plays (Sync c.in-Sync.inode) (held_in c.args.truth.now) (held_in c.args.image.now) (held_in c.replace.new.self) (λ s fair same was. subst (IsPlayed (step s (Sync c.in-Sync.inode)))
+    (sym (is ∙ ap (replaced (held_in c.args.image.now) c.in-Sync.inode) (c.bytes.ensures ∙ ap (λ (h : Held). bytes_of h c.in-Sync.inode) (sym same)))) (sync_any s fair _ was c.in-Sync.inode)))) c.replace.ensures
 
 pub returns-in-SyncFolder : goal.returns-in-SyncFolder
 returns-in-SyncFolder c =
     on_ok_weaker c.take_names.result (λ is. subst (λ (o : Op). Plays o (held_in c.args.truth.now) (held_in c.args.image.now) (held_in c.take_names.new.self)) (sym c.in-SyncFolder.is)
-      (plays SyncFolder (held_in c.args.truth.now) (held_in c.args.image.now) (held_in c.take_names.new.self) (λ s fair same was. subst (IsPlayed (step s SyncFolder))
-        (sym (is ∙ ap (λ (h : Held). named_as (held_in c.args.image.now) h.folder) (sym same))) (folder_any s fair _ was)))) c.take_names.ensures
+    (plays SyncFolder (held_in c.args.truth.now) (held_in c.args.image.now) (held_in c.take_names.new.self) (λ s fair same was. subst (IsPlayed (step s SyncFolder))
+    (sym (is ∙ ap (λ (h : Held). named_as (held_in c.args.image.now) h.folder) (sym same))) (folder_any s fair _ was)))) c.take_names.ensures
 
 pub returns-in-Doubt : goal.returns-in-Doubt
 returns-in-Doubt c = subst (λ (o : Op). Plays o (held_in c.args.truth.now) (held_in c.args.image.now) (held_in c.args.image.now)) (sym c.in-Doubt.is) (plays (Doubt c.in-Doubt.field-0) _ _ _ (λ s fair same was. doubt_any s fair _ was c.in-Doubt.field-0))

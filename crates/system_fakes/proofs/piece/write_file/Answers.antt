@@ -17,8 +17,8 @@ returns-clause-written c =
     let was : c.index_mut.result.now.items ≡ get_or (texts_in c.args.files.now.items) c.args.inode [] = index_text c.args.files.now.items c.args.inode c.index_mut.result.now c.requires.given c.index_mut.ensures.value in
     on_ok_weaker c.write_over.result
     (λ (is : c.write_over.new.file.items ≡ overwritten c.index_mut.result.now.items c.args.at c.args.bytes.now).
-      map-set (λ (w : Vec ℕ Global). w.items) c.args.files.now.items c.args.inode c.write_over.new.file
-      ∙ ap (set (texts_in c.args.files.now.items) c.args.inode) (is ∙ ap (λ (l : List ℕ). overwritten l c.args.at c.args.bytes.now) was))
+    map-set (λ (w : Vec ℕ Global). w.items) c.args.files.now.items c.args.inode c.write_over.new.file
+    ∙ ap (set (texts_in c.args.files.now.items) c.args.inode) (is ∙ ap (λ (l : List ℕ). overwritten l c.args.at c.args.bytes.now) was))
     c.write_over.ensures.written
 
 pub returns-clause-err : goal.returns-clause-err
@@ -26,6 +26,6 @@ returns-clause-err c =
     let was : c.index_mut.result.now.items ≡ get_or (texts_in c.args.files.now.items) c.args.inode [] = index_text c.args.files.now.items c.args.inode c.index_mut.result.now c.requires.given c.index_mut.ensures.value in
     on_err_weaker c.write_over.result
     (λ (is : c.write_over.new.file.items ≡ c.index_mut.result.now.items).
-      map-set (λ (w : Vec ℕ Global). w.items) c.args.files.now.items c.args.inode c.write_over.new.file
-      ∙ ap (set (texts_in c.args.files.now.items) c.args.inode) (is ∙ was) ∙ set-get_or (texts_in c.args.files.now.items) c.args.inode [])
+    map-set (λ (w : Vec ℕ Global). w.items) c.args.files.now.items c.args.inode c.write_over.new.file
+    ∙ ap (set (texts_in c.args.files.now.items) c.args.inode) (is ∙ was) ∙ set-get_or (texts_in c.args.files.now.items) c.args.inode [])
     c.write_over.ensures.err
