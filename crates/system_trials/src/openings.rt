@@ -1,6 +1,6 @@
 //! Openings that are cut, and openings after a failed fsync.
 
-use crate::former::{CALLS, FILES, File, made_all, made_in_doubt, reads};
+use crate::former::{CALLS, FILES, File, NONE, made_all, made_in_doubt, reads};
 use folder_system::SystemDisk;
 use std::alloc::Global;
 use std::process::Abort;
@@ -85,9 +85,16 @@ fn first_wrong(alloc: Global, fate: Fate) -> Option<u64> {
     None
 }
 
+/// How many calls there were after an opening in which none fails.
+fn calls_in_all(alloc: Global) -> Option<u64> {
+    let (system, _) = opened(made_all(alloc, NONE)?, alloc);
+    Some(system.calls())
+}
+
 #[test]
 fn each_call_of_an_opening_may_fail(rt: HostRuntime) {
     let alloc = rt.alloc();
+    assert!(rt; calls_in_all(alloc) == Some(CALLS + OPENING));
     assert_none(&rt, first_wrong(alloc, Fate::Refused));
     assert_none(&rt, first_wrong(alloc, Fate::Unsaid));
 }
