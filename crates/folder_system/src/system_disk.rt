@@ -105,6 +105,21 @@ impl<S: System> SystemDisk<S> {
         &self.system
     }
 
+    /// The system below, for the disk that is opened next.
+    pub fn into_system(self) -> S
+        ensures { result ≡ self.system }
+    {
+        let SystemDisk {
+            system,
+            files: _,
+            is_sound: _,
+            may_write: _,
+            is_settled: _,
+            faults: _,
+        } = self;
+        system
+    }
+
     /// How many faults were counted so far.
     pub fn faults(&self) -> u64
         ensures { result ≡ self.now.faults }
