@@ -35,7 +35,7 @@ module _ (name : Name) (i : ℕ) (old mid new : SystemView) (fair : IsTrueSystem
   create_others m other = same_content new.folder old.folder new.bytes old.bytes m (elsewhere m other)
       (λ j is. made.bytes j (other_inode m j is) (λ doubt. sure m j is (b.sure j doubt)) ∙ b.bytes j (sure m j is))
 
-  -- in an image of behind the call each other name leads where one of before has it
+  -- in an image after the call each other name leads where one of before has it
   lead_was : (m : Name) (j : ℕ) → m ≢ name → MayLead new m j → MayLead old m j
   lead_was m j other lead = elim (image_cases old mid new fair b made.within lead.folder lead.bytes lead.image) as (λ _. MayLead old m j) [
     | inl before ↦ record { folder = lead.folder; bytes = lead.bytes; image = fair.within lead.folder lead.bytes (b.begins lead.folder lead.bytes before); leads = lead.leads }

@@ -36,7 +36,7 @@ keeps_watched old new w sure = keeps_names old new w.folder sure
 pub keeps_still : (old new : SystemView) → Calm old new → sys.NoneNewlyDoubtful old new → Keeps old new
 keeps_still old new calm sure = keeps_watched old new (watched_calm old new calm) sure
 
--- looks, with a tick behind them
+-- looks, with a tick after them
 pub keeps_look : (old mid new : SystemView) → IsTrueSystem old → sys.Looks old mid → sys.Ticks mid new → Keeps old new
 keeps_look old mid new fair look tick =
     keeps_watched old new (watched_tick old mid new fair (calm_then old old mid fair (calm_none old) (λ j doubt. doubt) look.observes) tick)
@@ -208,7 +208,7 @@ keeps_unlinked name i old mid new fair b gone =
       };
     }
 
--- calls that only looked, some of which pinned, with a tick behind them
+-- calls that only looked, some of which pinned, with a tick after them
 pub keeps_calm : (old mid new : SystemView) → IsTrueSystem old → Calm old mid → sys.NoneNewlyDoubtful old mid → sys.Ticks mid new → Keeps old new
 keeps_calm old mid new fair calm sure tick = keeps_watched old new (watched_tick old mid new fair calm tick) (λ j doubt. sure j (tick.doubtful j doubt))
 
