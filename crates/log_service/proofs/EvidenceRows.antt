@@ -1,6 +1,6 @@
 -- Where the evidence of turns is false: of a log whose first item came from no region, and of a log with a disk that hasn't done what is answered.
 use Rattle.std.proofs.Common.{◌≡◌, inl, inr, ℕ, ◌+◌, ◌*◌, ◌<◌, ◌≤◌, ◌==◌, Bool, true, List, [], ◌∷◌, ◌++◌, length, get_or, refl, sym, ap, ◌∙◌, subst, arith}
-use Rattle.std.specs.Prelude.{if◌then◌else◌, Option, Some, None, Ok, IsTrue}
+use Rattle.std.specs.Prelude.{if◌then◌else◌, ◌-◌, ◌^◌, Option, Some, None, Ok, Err, IsTrue}
 use Rattle.std.proofs.Math.Logic.{∥∥₁_elim}
 use Rattle.std.proofs.lemmas.Bool.Decides.{nat_tests}
 use Rattle.std.proofs.lemmas.List.{append-nil, nil_from_length}
@@ -17,10 +17,12 @@ use Rattle.log_device.specs.declared.error.Rolled.{Rolled}
 use Rattle.log_device.specs.Whole.{numbers_of}
 use Rattle.log_halves.specs.declared.item.Item.{Item}
 use Rattle.log_halves.specs.declared.item.Item.TheVariants as items
+use Rattle.log_halves.specs.declared.starting.Written.{Written}
 use Rattle.log_halves.specs.declared.name.ServiceNaming.{Ghosts}
 use Rattle.log_halves.specs.declared.consumer.ConsumerHalf.{ConsumerHalf}
 use Rattle.log_halves.specs.Items.{region_of, number_of, IsWholeItem, held_in}
 use Rattle.log_halves.specs.Moves.{WasEmpty, WasFull}
+use Rattle.log_halves.specs.Counts.{one_more, with_stores, flushed_by, rolled_by}
 use Rattle.log_halves.specs.Numbers.{seen_synced}
 use Rattle.log_halves.specs.Trucks.{FollowFrom, onward, come_to}
 use Rattle.log_halves.specs.Chains.{all_trucks, AreInOrder}
@@ -150,3 +152,17 @@ module _ {D N : Type 0} (d : Disks D) (g : Ghosts N) where
       let low = did.3.keeps.orderly.low r cells.some.of in
       let is = did.3.counted.synced r (e.half.served r above within) in
       omega (arith, high, at, low, is, e.sees.synced r above within))
+
+-- ---- what is counted, below the end of the type
+
+-- a store file was written, and the tally stays
+uncounted_flush : {T E : Type 0} (t : T) (w : Written) → w.stores < 2 ^ 64 - 1 → w ≡ flushed_by {T} {E} (Ok t) w → ⊥
+uncounted_flush t w low is = let same : w.stores ≡ one_more w.stores = ap (λ (v : Written). v.stores) is in omega (arith, low, same)
+
+-- none was written, and the tally has one more
+counted_refusal : {T E : Type 0} (e : E) (w : Written) → w.stores < 2 ^ 64 - 1 → with_stores w (one_more w.stores) ≡ flushed_by {T} {E} (Err e) w → ⊥
+counted_refusal e w low is = let same : one_more w.stores ≡ w.stores = ap (λ (v : Written). v.stores) is in omega (arith, low, same)
+
+-- a log file was closed, and the tally stays
+uncounted_roll : {T E : Type 0} (t : T) (w : Written) → w.logs < 2 ^ 64 - 1 → w ≡ rolled_by {T} {E} (Ok t) w → ⊥
+uncounted_roll t w low is = let same : w.logs ≡ one_more w.logs = ap (λ (v : Written). v.logs) is in omega (arith, low, same)

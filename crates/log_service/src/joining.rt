@@ -13,9 +13,7 @@ use crate::starting::{ServiceParts, ServiceRefusal};
 use append_ring::{ConsumerPass, NoMemory, Ring, RingKeys};
 use disk_images::Disk;
 use log_berth::{Berth, BerthParts, BerthRefusal};
-use log_halves::{
-    ConsumerHalf, DeviceHalf, FrameChain, Item, ServiceNaming, Tallies, first_half,
-};
+use log_halves::{ConsumerHalf, DeviceHalf, FrameChain, Item, ServiceNaming, Tallies, first_half};
 use std::alloc::Global;
 
 /// What stays as it is while the berths are made.
