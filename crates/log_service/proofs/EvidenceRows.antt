@@ -119,7 +119,7 @@ out_in_order lasts v pops is (held, none, views, pass, kept, here) =
     let reads = (kept.each pass v here).reads pops in
     let empty : held ≡ [] = nil_from_length held none in
     let out : kept.pushed 1 ≡ v.popped = sym (kept.flows 1) ∙ (ap (λ (l : List (List Held)). of (λ (_ : List Held). 1) 1 kept.popped ++ of (λ (_ : List Held). 1) 1 l) empty ∙ (append-nil (of (λ (_ : List Held). 1) 1 kept.popped) ∙ (of_all kept.popped ∙ sym reads.1))) in
-    subst (λ (p : List ℕ × List (List Held)). AreInOrder p.0 p.1) {x = (kept.lasts, kept.pushed 1)} {y = (lasts, v.popped)} (λ i. ((sym reads.2.0 ∙ is) i, out i)) (kept.ordered 1)
+    subst (λ (p : List ℕ × List (List Held)). AreInOrder p.0 p.1) {x = (kept.lasts, kept.pushed 1)} {y = (lasts, v.popped)} (λ i. ((sym reads.2 ∙ is) i, out i)) (kept.ordered 1)
 
 module _ {D N : Type 0} (d : Disks D) (g : Ghosts N) where
   -- a commit, of a seat by which each synced word still stands at the start's number
