@@ -115,7 +115,7 @@ chain_rises lasts before after (t ∷ ts) is some order =
 
 -- what the ring of chains let out was in order where it was empty at a moment
 out_in_order : (lasts : List ℕ) (v : Knows (List Held)) → v.pops ≡ true → v.lasts ≡ lasts → WasFull 0 v → AreInOrder lasts v.popped
-out_in_order lasts v pops is (held, none, views, pass, kept, here) =
+out_in_order lasts v pops is (held, none, (views, pass, kept, here)) =
     let reads = (kept.each pass v here).reads pops in
     let empty : held ≡ [] = nil_from_length held none in
     let out : kept.pushed 1 ≡ v.popped = sym (kept.flows 1) ∙ (ap (λ (l : List (List Held)). of (λ (_ : List Held). 1) 1 kept.popped ++ of (λ (_ : List Held). 1) 1 l) empty ∙ (append-nil (of (λ (_ : List Held). 1) 1 kept.popped) ∙ (of_all kept.popped ∙ sym reads.1))) in
@@ -156,13 +156,13 @@ module _ {D N : Type 0} (d : Disks D) (g : Ghosts N) where
 -- ---- what is counted, below the end of the type
 
 -- a store file was written, and the tally stays
-uncounted_flush : {T E : Type 0} (t : T) (w : Written) → w.stores < 2 ^ 64 - 1 → w ≡ flushed_by {T} {E} (Ok t) w → ⊥
-uncounted_flush t w low is = let same : w.stores ≡ one_more w.stores = ap (λ (v : Written). v.stores) is in omega (arith, low, same)
+uncounted_flush : (T E : Type 0) (t : T) (w : Written) → w.stores < 2 ^ 64 - 1 → w ≡ flushed_by {T = T} {E = E} (Ok t) w → ⊥
+uncounted_flush T E t w low is = let same : w.stores ≡ one_more w.stores = ap (λ (v : Written). v.stores) is in omega (arith, low, same)
 
 -- none was written, and the tally has one more
-counted_refusal : {T E : Type 0} (e : E) (w : Written) → w.stores < 2 ^ 64 - 1 → with_stores w (one_more w.stores) ≡ flushed_by {T} {E} (Err e) w → ⊥
-counted_refusal e w low is = let same : one_more w.stores ≡ w.stores = ap (λ (v : Written). v.stores) is in omega (arith, low, same)
+counted_refusal : (T E : Type 0) (e : E) (w : Written) → w.stores < 2 ^ 64 - 1 → with_stores w (one_more w.stores) ≡ flushed_by {T = T} {E = E} (Err e) w → ⊥
+counted_refusal T E e w low is = let same : one_more w.stores ≡ w.stores = ap (λ (v : Written). v.stores) is in omega (arith, low, same)
 
 -- a log file was closed, and the tally stays
-uncounted_roll : {T E : Type 0} (t : T) (w : Written) → w.logs < 2 ^ 64 - 1 → w ≡ rolled_by {T} {E} (Ok t) w → ⊥
-uncounted_roll t w low is = let same : w.logs ≡ one_more w.logs = ap (λ (v : Written). v.logs) is in omega (arith, low, same)
+uncounted_roll : (T E : Type 0) (t : T) (w : Written) → w.logs < 2 ^ 64 - 1 → w ≡ rolled_by {T = T} {E = E} (Ok t) w → ⊥
+uncounted_roll T E t w low is = let same : w.logs ≡ one_more w.logs = ap (λ (v : Written). v.logs) is in omega (arith, low, same)
