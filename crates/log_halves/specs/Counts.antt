@@ -2,11 +2,14 @@
 use Rattle.std.specs.Prelude.{ℕ, ◌+◌, ◌-◌, ◌^◌, min}
 use Rattle.std.specs.declared.result.Result.{Result}
 use Rattle.std.specs.declared.result.Result.TheVariants.{Ok, Err}
-use Rattle.log_halves.specs.declared.written.Written.{Written}
+use Rattle.log_halves.specs.declared.starting.Written.{Written}
 
 -- one more, up to the end of its type
 abbrev pub one_more : ℕ → ℕ
 one_more n = min (n + 1) (2 ^ 64 - 1)
+
+abbrev pub nothing_written : Written
+nothing_written = record { stores = 0; logs = 0 }
 
 abbrev pub with_stores : Written → ℕ → Written
 with_stores w n = record { stores = n; logs = w.logs }

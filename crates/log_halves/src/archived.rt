@@ -15,7 +15,7 @@ ghost use Rattle.log_halves.specs.Counts.{flushed_by, rolled_by};
 
 use crate::committer::DeviceHalf;
 use crate::name::ServiceNaming;
-use crate::written::Written;
+use crate::starting::Written;
 use disk_images::Disk;
 use log_device::{Device, DeviceFlush, RollRefusal, Rolled};
 use std::alloc::Global;
@@ -48,7 +48,7 @@ pub(crate) fn roll_archived<D: Disk>(
     };
     match device.archive() {
         Ok(_) => {
-            written.logs = written.logs.saturating_add(1);
+            written.count_log();
             Ok(rolled)
         }
         Err(_) => Err(RollRefusal::WriteFault),
@@ -83,7 +83,7 @@ pub(crate) fn flush_archived<D: Disk>(
     };
     match device.archive() {
         Ok(_) => {
-            written.stores = written.stores.saturating_add(1);
+            written.count_store();
             Ok(number)
         }
         Err(_) => Err(DeviceFlush::WriteFault),

@@ -16,7 +16,7 @@ use crate::consumer::ConsumerHalf;
 use crate::item::Item;
 use crate::moving::Moves;
 use crate::name::ServiceNaming;
-use crate::written::Written;
+use crate::starting::Written;
 use append_ring::Ring;
 use disk_images::Disk;
 use log_device::{DeviceFlush, RollRefusal, Rolled};

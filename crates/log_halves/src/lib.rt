@@ -20,7 +20,6 @@ mod raising;
 mod settling;
 mod staging;
 mod starting;
-mod written;
 
 pub use chain::FrameChain;
 pub use committer::DeviceHalf;
@@ -31,5 +30,4 @@ pub use moving::Moves;
 pub use name::ServiceNaming;
 pub use raising::{raise_all, tell_all};
 pub use settling::{settle_chains, settle_items};
-pub use starting::{first_half, second_half};
-pub use written::Written;
+pub use starting::{Tallies, Written, first_half, second_half};

@@ -1,4 +1,4 @@
-//! The halves at the start.
+//! The halves at the start, and what is counted of the calls of each seat from then on.
 ghost use Rattle.std.specs.Prelude.{◌≡◌, ◌≤◌, ℕ, [], None, length, IsTrue};
 ghost use Rattle.crossbeam_queue.specs.Passes.{view};
 ghost use Rattle.append_ring.specs.Parts.{IsNew, AreNewAfter};
@@ -16,6 +16,54 @@ use append_ring::{ConsumerPass, RingKey, RingKeys};
 use disk_images::Disk;
 use log_device::Device;
 use std::marker::PhantomData;
+
+/// How many store files the flushes of a seat have written, and how many log files its rolls have closed. A count stands still at 2^64 - 1.
+///
+/// A seat has one, and a call that flushes or rolls has none but its seat's: one is made by `Tallies` alone, and nobody can copy a count, set
+/// one or take one back. So what a call answers is said by what it did. No wrong body shows this, since none that counts elsewhere can be
+/// written: that is why the fields and what makes one are private to this file.
+#[derive(Drop)]
+pub struct Written {
+    stores: u64,
+    logs: u64,
+}
+
+impl Written {
+    ghost use Rattle.std.specs.Prelude.{◌≡◌};
+    ghost use Rattle.log_halves.specs.Counts.{one_more, with_stores, with_closed};
+
+    /// A flush has written a store file.
+    pub(crate) fn count_store(&mut self)
+        ensures { self.new ≡ with_stores self.old (one_more self.old.stores) }
+    {
+        self.stores = self.stores.saturating_add(1);
+    }
+
+    /// A roll has closed a log file.
+    pub(crate) fn count_log(&mut self)
+        ensures { self.new ≡ with_closed self.old (one_more self.old.logs) }
+    {
+        self.logs = self.logs.saturating_add(1);
+    }
+}
+
+/// What makes the tallies of a service's seats. There is one for each service: it comes with the device's half, at the start alone.
+#[derive(Drop)]
+pub struct Tallies {
+    seal: (),
+}
+
+impl Tallies {
+    ghost use Rattle.std.specs.Prelude.{◌≡◌};
+    ghost use Rattle.log_halves.specs.Counts.{nothing_written};
+
+    /// That of a seat by which nothing was written yet.
+    pub fn tally(&self) -> Written
+        ensures { result ≡ nothing_written }
+    {
+        Written { stores: 0, logs: 0 }
+    }
+}
 
 /// The consumer's half at the start.
 pub fn first_half<N: ServiceNaming>(
@@ -41,12 +89,12 @@ pub fn first_half<N: ServiceNaming>(
     }
 }
 
-/// The device's half at the start.
+/// The device's half at the start, and the tallies of its service's seats.
 pub fn second_half<D: Disk, N: ServiceNaming>(
     device: Device<D>,
     consumer: ConsumerPass<FrameChain>,
     regions: u32,
-) -> DeviceHalf<D, N>
+) -> (DeviceHalf<D, N>, Tallies)
     requires regions { (regions ≡ length N.lasts) × (regions ≤ 64) }
     requires chain_ring { consumer.pass.table_id ≡ N.chain_ring }
     requires consumer { ((view consumer.pass).lasts ≡ N.lasts) × ((view consumer.pass).popped ≡ []) }
@@ -56,12 +104,13 @@ pub fn second_half<D: Disk, N: ServiceNaming>(
     requires past { IsTrue D.told → (t : ℕ) (J : Files) → t ≤ N.start
         → ((D.view (disk_of device)).image t J → N.past t J) × (N.past t J → (D.view (disk_of device)).image t J) }
     requires faults { N.faults ≡ D.faults (disk_of device) }
-    ensures { (result.device ≡ device) × (result.regions ≡ regions) }
+    ensures { (result.0.device ≡ device) × (result.0.regions ≡ regions) }
 {
-    DeviceHalf {
+    let half = DeviceHalf {
         device,
         consumer,
         regions,
         of: PhantomData,
-    }
+    };
+    (half, Tallies { seal: () })
 }

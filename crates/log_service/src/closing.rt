@@ -61,7 +61,11 @@ impl<D: Disk, N: ServiceNaming> LogService<D, N> {
             company: _,
             shows: _,
         } = self;
-        let LogSeats { consumers, devices } = seats;
+        let LogSeats {
+            consumers,
+            devices,
+            tallies: _,
+        } = seats;
         let Berthed {
             ware: mut mover,
             ..

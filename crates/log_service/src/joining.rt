@@ -13,7 +13,7 @@ use crate::starting::{ServiceParts, ServiceRefusal};
 use append_ring::{ConsumerPass, NoMemory, Ring, RingKeys};
 use disk_images::Disk;
 use log_berth::{Berth, BerthParts, BerthRefusal};
-use log_halves::{ConsumerHalf, DeviceHalf, FrameChain, Item, ServiceNaming, first_half};
+use log_halves::{ConsumerHalf, DeviceHalf, FrameChain, Item, ServiceNaming, Tallies, first_half};
 use std::alloc::Global;
 
 /// What stays as it is while the berths are made.
@@ -79,6 +79,7 @@ impl Left {
         self,
         first: BerthParts<ConsumerHalf<N>>,
         second: BerthParts<DeviceHalf<D, N>>,
+        tallies: Tallies,
         regions: u32,
     ) -> ServiceParts<D, N>
         requires rings { (self.ring.id ≡ N.ring) × (self.chain_ring.id ≡ N.chain_ring) × (self.ring.capacity ≡ 1024) × (self.chain_ring.capacity ≡ 2) }
@@ -116,7 +117,11 @@ impl Left {
                 shows: Shows::new(),
             },
             passes,
-            seats: LogSeats { consumers, devices },
+            seats: LogSeats {
+                consumers,
+                devices,
+                tallies,
+            },
         }
     }
 }

@@ -1,9 +1,11 @@
 //! The seats of a service.
 ghost use Rattle.std.specs.Prelude.{◌≡◌, ◌<◌, [], length, MatchOption};
 ghost use Rattle.log_service.specs.Bundles.{IsBehind, IsHandedOut};
+ghost use Rattle.log_service.specs.Tallies.{no_tally};
 
+use crate::tally::PutTally;
 use log_berth::{LogSeat as BerthSeat, LogSeats as BerthSeats};
-use log_halves::Written;
+use log_halves::{Tallies, Written};
 
 /// Two seats, one of the consumer's berth and one of the device's, with what the flushes and rolls of both have written since they were
 /// handed out.
@@ -14,11 +16,12 @@ pub struct LogSeat {
     pub(crate) written: Written,
 }
 
-/// The seats that are not handed out.
+/// The seats that are not handed out, and what makes their tallies, which is nowhere else.
 #[derive(Drop)]
 pub struct LogSeats {
     pub(crate) consumers: BerthSeats,
     pub(crate) devices: BerthSeats,
+    pub(crate) tallies: Tallies,
     ghost pairs: { length consumers.seats ≡ length devices.seats },
 }
 
@@ -35,11 +38,19 @@ impl LogSeats {
                 Some(LogSeat {
                     consumer,
                     device,
-                    written: Written::none(),
+                    written: self.tallies.tally(),
                 })
             }
             _ => None,
         }
+    }
+
+    /// What is counted of the puts of a pass into one region, which has made none yet. Who has these seats makes a pass; a put has none of
+    /// them, and so no tally but its pass's.
+    pub fn put_tally(&self) -> PutTally
+        ensures { result ≡ no_tally }
+    {
+        PutTally::none()
     }
 
     /// Takes a seat back. It takes no memory.

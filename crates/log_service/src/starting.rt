@@ -111,9 +111,9 @@ impl<D: Disk, N: ServiceNaming> LogService<D, N> {
         let Ok(first) = first_berth::<N>(alloc, consumer, idle, seats) else {
             return Err(ServiceRefusal { device });
         };
-        let committer = second_half(device, popper, regions);
+        let (committer, tallies) = second_half(device, popper, regions);
         match Berth::new(alloc, committer, 3 * regions, seats) {
-            Ok(second) => Ok(left.joined(first, second, regions)),
+            Ok(second) => Ok(left.joined(first, second, tallies, regions)),
             Err(refusal) => Err(given_back(refusal, first)),
         }
     }

@@ -18,7 +18,9 @@ pub struct Watch {
     pub(crate) broken: bool,
 }
 
-/// Both. Nobody can copy a count, so what a put has asked and seen is told by what it did.
+/// Both. Nobody can copy a count, set one or take one back, and only who has a service's seats makes one (`LogSeats::put_tally`), as a pass is
+/// made. So what a put has asked and seen is said by what it did. No wrong body of a put shows this, since none that counts elsewhere can be
+/// written.
 #[derive(Drop)]
 pub struct PutTally {
     pub asked: Asked,
@@ -26,8 +28,13 @@ pub struct PutTally {
 }
 
 impl PutTally {
+    ghost use Rattle.std.specs.Prelude.{◌≡◌};
+    ghost use Rattle.log_service.specs.Tallies.{no_tally};
+
     /// Nothing yet.
-    pub fn none() -> PutTally {
+    pub(crate) fn none() -> PutTally
+        ensures { result ≡ no_tally }
+    {
         PutTally {
             asked: Asked {
                 requests: 0,

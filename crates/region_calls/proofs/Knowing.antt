@@ -65,6 +65,10 @@ module _ {N : Type 0} {g : Ghosts N} where
   pub tally_here : (ps : List (RegionPass N g)) (k : ℕ) (p : RegionPass N g) → k < length ps → tally_in (set ps k p) (suc k) ≡ p.tally
   tally_here ps k p low = ap tally_at (get_here ps k p low)
 
+  pub tally_other : (ps : List (RegionPass N g)) (k : ℕ) (p : RegionPass N g) (s : ℕ) → s ≢ suc k → tally_in (set ps k p) s ≡ tally_in ps s
+  tally_other ps k p zero ne = refl
+  tally_other ps k p (suc j) ne = ap tally_at (get_other ps k j p (λ e. ne (ap suc e)))
+
   pub hands_set : (h calls more : ℕ) (ps : List (RegionPass N g)) (k : ℕ) (p : RegionPass N g) → AreHandsOf h calls ps → calls ≤ more → IsHandOf h more (k + 1) p → AreHandsOf h more (set ps k p)
   hands_set h calls more ps k p all le one j q at = elim (get_set ps k j p q at) as (λ _. IsHandOf h more (j + 1) q) [
     | inl (here, same) ↦ subst (λ (t : RegionPass N g). IsHandOf h more (j + 1) t) same (subst (λ n. IsHandOf h more (n + 1) p) (sym here) one)

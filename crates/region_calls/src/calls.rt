@@ -1,6 +1,6 @@
 //! A server's calls, each on one region.
 
-ghost use Rattle.std.specs.Prelude.{◌≡◌, ◌-◌, ◌≤◌, ◌<◌, ◌^◌, ◌⊎◌, length, IfSome, Contains, true, false};
+ghost use Rattle.std.specs.Prelude.{◌≡◌, ◌≢◌, ℕ, ◌-◌, ◌≤◌, ◌<◌, ◌^◌, ◌⊎◌, length, IfSome, Contains, true, false};
 ghost use Rattle.std.specs.Option.{option_map};
 ghost use Rattle.pass_calls.specs.log_service.Places.{IsSeatOf, IsLaterSeat, written_of, FoundTaken, HadTurn, LastFoundTaken, LastHadTurn};
 ghost use Rattle.server_model.specs.Pass.{IsLater};
@@ -77,6 +77,8 @@ impl<
             pass.new.seat.device.knows.broken }
         // It looks at the fault word at its start and once after each try that found the ring full.
         ensures watched { WatchesFault result (tally_of region pass.old).watch (tally_of region pass.new).watch }
+        // Nothing of that is counted among its puts into another region.
+        ensures others { (r : ℕ) → r ≢ region → tally_of r pass.new ≡ tally_of r pass.old }
         ensures of { IsPassOf self.now pass.new }
     {
         let caller = Caller {

@@ -5,11 +5,13 @@ ghost use Rattle.region_calls.specs.Hands.{AreDeals};
 ghost use Rattle.region_calls.specs.Passes.{AreNewHands};
 
 use crate::hands::RegionHands;
+use pass_calls::log_service::LogSeats;
 use pass_calls::region_lock::RegionPass;
 
 /// The next handler's hands of all regions, into the room for them.
 pub(crate) fn deal<N: pass_calls::region_lock::LockNaming + region_versions::VersionsNaming>(
     regions: &mut Vec<RegionHands<N>>,
+    seats: &LogSeats,
     room: Vec<RegionPass<N>>,
     handler: u32,
     left: u32,
@@ -24,7 +26,7 @@ pub(crate) fn deal<N: pass_calls::region_lock::LockNaming + region_versions::Ver
     // The contract alone uses these two.
     let _ = (handler, left);
     'dealing: for place in 0..regions.len() {
-        hands.push_reserved(regions[place].next());
+        hands.push_reserved(regions[place].next(seats));
     }
     hands
 }

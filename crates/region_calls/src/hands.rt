@@ -5,7 +5,7 @@ ghost use Rattle.region_calls.specs.Hands.{deal_of};
 ghost use Rattle.region_calls.specs.Passes.{IsNewHand};
 
 use hand_register::HandList;
-use pass_calls::log_service::PutTally;
+use pass_calls::log_service::LogSeats;
 use pass_calls::region_lock::RegionPass;
 use region_state::Line;
 use region_versions::ViewerList;
@@ -37,8 +37,8 @@ impl<N: pass_calls::region_lock::LockNaming + region_versions::VersionsNaming> M
 }
 
 impl<N: pass_calls::region_lock::LockNaming + region_versions::VersionsNaming> RegionHands<N> {
-    /// The next handler's.
-    pub(crate) fn next(&mut self) -> RegionPass<N>
+    /// The next handler's, of those that these seats are for.
+    pub(crate) fn next(&mut self, seats: &LogSeats) -> RegionPass<N>
         requires { 0 < self.old.left }
         ensures hand { IsNewHand self.old.region self.old.next result }
         ensures left { self.new ≡ deal_of self.old.region (self.old.next + 1) (self.old.left - 1) }
@@ -58,7 +58,7 @@ impl<N: pass_calls::region_lock::LockNaming + region_versions::VersionsNaming> R
             hand,
             told,
             viewer,
-            tally: PutTally::none(),
+            tally: seats.put_tally(),
         }
     }
 }

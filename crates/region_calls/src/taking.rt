@@ -28,7 +28,7 @@ impl<N: pass_calls::region_lock::LockNaming + region_versions::VersionsNaming> P
         };
         let left = self.handlers - self.out;
         self.out += 1;
-        let regions = deal(&mut self.regions, room, self.out, left);
+        let regions = deal(&mut self.regions, &self.seats, room, self.out, left);
         Some(Pass {
             handler: self.out,
             calls: 0,

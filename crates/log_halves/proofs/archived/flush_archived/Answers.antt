@@ -3,7 +3,6 @@ use Rattle.std.specs.Option.{option_map}
 use Rattle.std.proofs.Math.Logic.{∥∥₁_map}
 use Rattle.log_ledger.specs.History.{committed_in, flushed_in, family_in, with_logs}
 use Rattle.log_device.specs.Whole.{disk_of, numbers_of}
-use Rattle.log_halves.specs.Counts.{with_stores}
 use Rattle.log_halves.proofs.Tied.{ties_committed, ties_archived, one_higher}
 use Rattle.log_halves.proofs.Stored.{numbers_flushed, numbers_archived}
 use Rattle.log_halves.proofs.Faults.{no_flush_fault}
@@ -128,6 +127,3 @@ returns-in-Err-archive-clause-flush g c =
       flushed = λ told. tt;
       nothing = λ told n is. absurd (no_flush_fault n is refl);
     }
-
-pub returns-in-Ok-archive-clause-counted : goal.returns-in-Ok-archive-clause-counted
-returns-in-Ok-archive-clause-counted g c = ap (with_stores c.args.written.now) c.saturating_add-written.ensures

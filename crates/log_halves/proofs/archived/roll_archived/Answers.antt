@@ -1,8 +1,7 @@
-use Rattle.std.proofs.Common.{◌<◌, ℕ, List, length, get_or, refl, sym, ap, subst, arith}
+use Rattle.std.proofs.Common.{◌<◌, ℕ, List, length, get_or, refl, sym, subst, arith}
 use Rattle.std.proofs.Math.Logic.{∥∥₁_map}
 use Rattle.log_ledger.specs.History.{committed_in, closed_in}
 use Rattle.log_device.specs.Whole.{disk_of, numbers_of, IsBegunAfter}
-use Rattle.log_halves.specs.Counts.{with_closed}
 use Rattle.log_halves.proofs.Tied.{ties_committed, ties_archived, one_higher}
 use Rattle.log_halves.proofs.Stored.{numbers_rolled, numbers_archived}
 use Rattle.log_halves.proofs.archived.roll_archived.Goals as goal
@@ -84,6 +83,3 @@ returns-in-Ok-archive-clause-empty g c file is none unbroken = let told = c.in-O
 
 pub returns-in-Err-archive-clause-empty : goal.returns-in-Err-archive-clause-empty
 returns-in-Err-archive-clause-empty g c file is none unbroken = absurd (unbroken (c.in-Err-archive.ensures.broken.0 refl))
-
-pub returns-in-Ok-archive-clause-counted : goal.returns-in-Ok-archive-clause-counted
-returns-in-Ok-archive-clause-counted g c = ap (with_closed c.args.written.now) c.saturating_add-written.ensures

@@ -13,8 +13,8 @@ use Rattle.log_halves.proofs.Beginning.{stands_first, since_first}
 use Rattle.log_halves.proofs.Elapsed.{goes_on_first}
 use Rattle.log_halves.proofs.starting.second_half.Goals as goal
 
-pub invariant_of-result : goal.invariant_of-result
-invariant_of-result g c =
+pub invariant_of-half : goal.invariant_of-half
+invariant_of-half g c =
     let d = c.args.device in
     let v = g.D.Disk.view (disk_of d) in
     let lasts : List ℕ = g.N.ServiceNaming.lasts in

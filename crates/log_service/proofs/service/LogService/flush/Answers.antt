@@ -11,7 +11,7 @@ use Rattle.log_service.proofs.Numbers.{stored_low}
 use Rattle.log_service.proofs.SeatLaws.{later_trans, given_later}
 use Rattle.log_halves.proofs.Faults.{has_file, is_broken, not_broken, no_flush_fault, then_whole}
 use Rattle.log_service.proofs.Sees.{sees_all}
-use Rattle.log_halves.specs.declared.written.Written.{Written}
+use Rattle.log_halves.specs.declared.starting.Written.{Written}
 use Rattle.log_halves.specs.Counts.{flushed_by}
 use Rattle.log_service.proofs.service.LogService.flush.Goals as goal
 

@@ -10,7 +10,7 @@ use Rattle.log_service.specs.declared.seats.LogSeat.{LogSeat}
 use Rattle.log_service.proofs.SeatLaws.{later_trans, given_later}
 use Rattle.log_halves.proofs.Faults.{has_file, is_broken, not_broken, no_roll_fault, then_whole}
 use Rattle.log_service.proofs.Sees.{sees_all, closed_over}
-use Rattle.log_halves.specs.declared.written.Written.{Written}
+use Rattle.log_halves.specs.declared.starting.Written.{Written}
 use Rattle.log_halves.specs.Counts.{rolled_by}
 use Rattle.log_service.proofs.service.LogService.roll.Goals as goal
 

@@ -1,9 +1,9 @@
-use Rattle.std.proofs.Common.{ℕ, ◌+◌, sym, ap, ◌∙◌, subst, arith}
+use Rattle.std.proofs.Common.{◌≡◌, ℕ, suc, ◌+◌, sym, ap, ◌∙◌, subst, arith}
 use Rattle.pass_calls.specs.log_service.Places.{ServiceId, IsSeatOf}
 use Rattle.pass_calls.specs.region_lock.Answers.{is_sync, put_answer}
 use Rattle.pass_calls.specs.region_lock.Puts.{IsFaultExact}
 use Rattle.pass_calls.proofs.region_lock_laws.Lists.{length_set}
-use Rattle.region_calls.proofs.Knowing.{below_more, hands_set}
+use Rattle.region_calls.proofs.Knowing.{below_more, hands_set, tally_other}
 use Rattle.region_calls.proofs.Calling.{put_hand}
 use Rattle.region_calls.proofs.Using.{put_is, used, puts_used, asks_used, watches_used, at_service}
 use Rattle.region_calls.proofs.server.Server.put.Goals as goal
@@ -53,6 +53,12 @@ returns-clause-watched g c =
     let k = c.place_of-place.result in
     let u = used pass.handler pass.calls c.args.self.now.regions c.args.region k pass.regions.items p c.requires.of.count c.place_of-place.ensures.place c.requires.region.0 c.place_of-place.ensures.few c.requires.of.hands c.index_mut.ensures.value in
     watches_used pass.handler pass.calls c.args.region k done.result pass.regions.items p done.new.at u done.ensures.watched
+
+pub returns-clause-others : goal.returns-clause-others
+returns-clause-others g c r other =
+    let k = c.place_of-place.result in
+    let place : suc k ≡ c.args.region = omega (arith, c.place_of-place.ensures.place, c.requires.region.0) in
+    tally_other c.args.pass.now.regions.items k c.put_at-answer.new.at r (λ is. other (is ∙ place))
 
 pub returns-clause-of : goal.returns-clause-of
 returns-clause-of g c =
