@@ -31,7 +31,7 @@ use Rattle.log_halves.proofs.Numbers.{told_past}
 use Rattle.log_halves.proofs.Chains.{follow_back, come_append}
 use Rattle.log_halves.proofs.Committed.{of_all, come_later}
 use Rattle.log_halves.proofs.ItemLaws.{all_with}
-use Rattle.log_service.specs.Turns.{HasMovedItems, FoundEmpty, FoundTooLong, HasMovedAll, HasSynced, FoundNoLoad, SawAllLoads, HasRolledFile, HasFlushedFamily}
+use Rattle.log_service.specs.Turns.{HasMovedItems, FoundEmpty, FoundTooLong, HasMovedAll, HasSynced, FoundNoChain, SawAllChains, HasRolledFile, HasFlushedFamily}
 
 -- ---- the consumer's evidence, of a log whose ring let out an item of region 0
 
@@ -129,11 +129,11 @@ module _ {D N : Type 0} (d : Disks D) (g : Ghosts N) where
       omega (arith, still up.0 up.1 up.2, e.sees up.0 up.1 up.2, up.3)
 
   -- no chain there, of a seat that has seen a number at a word above the last one of the log's regions
-  pub none_clean : (k : Known) (i : ℕ) → 3 * length g.lasts ≤ i → 0 < get_or k.seen i 0 → FoundNoLoad d g k → ⊥
+  pub none_clean : (k : Known) (i : ℕ) → 3 * length g.lasts ≤ i → 0 < get_or k.seen i 0 → FoundNoChain d g k → ⊥
   none_clean k i past some e = omega (arith, e.below i, told_past e.half.regions (numbers_of e.half.device) i (omega (arith, past, e.half.all.0)), some)
 
   -- all chains committed, of a seat that has seen a region's synced word below the start's number
-  pub none_drained : (k : Known) (r : ℕ) → 0 < r → r ≤ length g.lasts → seen_synced k r < base_of g.lasts r → SawAllLoads d g k → ⊥
+  pub none_drained : (k : Known) (r : ℕ) → 0 < r → r ≤ length g.lasts → seen_synced k r < base_of g.lasts r → SawAllChains d g k → ⊥
   none_drained k r above within low e =
       let v = view e.half.consumer.pass in
       let order = out_in_order g.lasts v e.half.consumer.pops e.half.from.1 e.empty in

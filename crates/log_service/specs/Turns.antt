@@ -72,14 +72,14 @@ pub record HasSynced {D N : Type 0} (d : Disks D) (g : Ghosts N) (old new : Know
   pub sees : SawCommitted g.lasts new (view after.consumer.pass).popped
 
 -- A half of this service found the ring of chains empty at a moment, and the seat has seen no word above what the half tells.
-pub record FoundNoLoad {D N : Type 0} (d : Disks D) (g : Ghosts N) (k : Known) : Type 0 where
+pub record FoundNoChain {D N : Type 0} (d : Disks D) (g : Ghosts N) (k : Known) : Type 0 where
   pub half : DeviceHalf D N d g
   pub broken : broken_of half.device ≡ k.broken
   pub below : NoMore k.seen (told_numbers half.regions (numbers_of half.device))
   pub empty : WasFull 0 (view half.consumer.pass)
 
 -- A half of this service found the ring of chains empty at a moment, and the seat has seen each word at what the half tells.
-pub record SawAllLoads {D N : Type 0} (d : Disks D) (g : Ghosts N) (k : Known) : Type 0 where
+pub record SawAllChains {D N : Type 0} (d : Disks D) (g : Ghosts N) (k : Known) : Type 0 where
   pub half : DeviceHalf D N d g
   pub broken : broken_of half.device ≡ k.broken
   pub empty : WasFull 0 (view half.consumer.pass)

@@ -2,7 +2,7 @@
 ghost use Rattle.std.specs.Prelude.{◌≡◌, ◌≤◌, ◌<◌, ◌↔◌, ℕ, true, false, length, Err, IfOk, IfSome, IsErrOf};
 ghost use Rattle.std.specs.Option.{option_map};
 ghost use Rattle.log_service.specs.Places.{IsSeatOf, IsLaterSeat, written_of};
-ghost use Rattle.log_service.specs.Turns.{HasMovedAll, SawAllLoads, HasFlushedFamily};
+ghost use Rattle.log_service.specs.Turns.{HasMovedAll, SawAllChains, HasFlushedFamily};
 ghost use Rattle.log_halves.specs.Ends.{HasFlushed, HadNothing};
 ghost use Rattle.log_halves.specs.Counts.{flushed_by};
 
@@ -44,7 +44,7 @@ impl<D: Disk, N: ServiceNaming> LogService<D, N> {
             → HasFlushedFamily D.Disk N.ServiceNaming self.now.regions region (option_map (λ f. f.now) family.entry) result seat.new.device.knows }
         // Unless the log is broken, all that was moved is committed, and the seat has seen so.
         ensures moved { seat.new.device.knows.broken ≡ false → HasMovedAll N.ServiceNaming }
-        ensures saw { seat.new.device.knows.broken ≡ false → SawAllLoads D.Disk N.ServiceNaming seat.new.device.knows }
+        ensures saw { seat.new.device.knows.broken ≡ false → SawAllChains D.Disk N.ServiceNaming seat.new.device.knows }
         // After Ok the flushes of this seat have written a store file more, and else none.
         ensures counted { written_of seat.new ≡ flushed_by result (written_of seat.old) }
         ensures fault { IsErrOf result DeviceFlush.WriteFault ↔ (seat.new.device.knows.broken ≡ true) }

@@ -18,29 +18,29 @@ impl<D: Disk, N: ServiceNaming> LogService<D, N> {
         self.turns.now()
     }
 
-    /// Sleeps until a turn of the device has ended since `turns` was so many. It may also return for no reason. It is for who has found a
-    /// turn taken since then, so that who had that turn is yet to end one of the device.
+    /// Sleeps until a turn of the device has ended since `turns` was so many. It may also return for no reason. For a caller
+    /// that found a turn taken since then: whoever holds it will still end a turn of the device.
     pub fn rest<R: Wait>(&self, rt: &R, turns: u64) {
         self.turns.rest(rt, turns);
     }
 
-    /// How often a put has told that it ended or showed an edit of the region, modulo 2^64. Regions may share a count.
+    /// How often a put has ended or shown an edit of the region, modulo 2^64. Regions may share a count.
     pub fn shows(&self, region: u32) -> u64 {
         self.shows.of(region).now()
     }
 
-    /// Sleeps until a put has told so since `shows` was so many. It may also return for no reason. It is for who waits for an edit before its own
-    /// in its region: who ends or shows that one tells so afterwards.
+    /// Sleeps until a put has ended or shown one since `shows` was so many. It may also return for no reason. For a put that waits for an edit before its
+    /// own in its region: whoever ends or shows that one calls `tell_show` afterwards.
     pub fn rest_shows<R: Wait>(&self, rt: &R, region: u32, shows: u64) {
         self.shows.of(region).rest(rt, shows);
     }
 
-    /// Tells who sleeps that an edit of the region has ended, or was shown.
+    /// Wakes all who sleep until an edit of the region has ended, or was shown.
     pub fn tell_show(&self, region: u32) {
         self.shows.of(region).raise();
     }
 
-    /// Tells all who sleep that a turn of the device has ended. Who gives that turn back calls it afterwards.
+    /// Wakes all who sleep, after a turn of the device has ended. Called by whoever gave the turn back.
     pub(crate) fn tell_turn(&self) {
         self.turns.raise();
         self.commits.end_all();

@@ -3,7 +3,7 @@ ghost use Rattle.std.specs.Prelude.{◌≡◌, ◌≤◌, ◌<◌, ◌↔◌, �
 ghost use Rattle.log_halves.specs.Numbers.{seen_synced, seen_closed};
 ghost use Rattle.log_halves.specs.Counts.{rolled_by};
 ghost use Rattle.log_service.specs.Places.{IsSeatOf, IsLaterSeat, written_of};
-ghost use Rattle.log_service.specs.Turns.{HasMovedAll, SawAllLoads, HasRolledFile};
+ghost use Rattle.log_service.specs.Turns.{HasMovedAll, SawAllChains, HasRolledFile};
 
 use crate::seats::LogSeat;
 use crate::service::LogService;
@@ -36,7 +36,7 @@ impl<D: Disk, N: ServiceNaming> LogService<D, N> {
             → seen_synced seat.old.device.knows r ≤ seen_closed self.now.regions seat.new.device.knows r }
         // Unless the log is broken, all that was moved is committed, and the seat has seen so.
         ensures moved { seat.new.device.knows.broken ≡ false → HasMovedAll N.ServiceNaming }
-        ensures saw { seat.new.device.knows.broken ≡ false → SawAllLoads D.Disk N.ServiceNaming seat.new.device.knows }
+        ensures saw { seat.new.device.knows.broken ≡ false → SawAllChains D.Disk N.ServiceNaming seat.new.device.knows }
         // After Ok the rolls of this seat have closed a log file more, and else none.
         ensures counted { written_of seat.new ≡ rolled_by result (written_of seat.old) }
         ensures fault { IsErrOf result RollRefusal.WriteFault ↔ (seat.new.device.knows.broken ≡ true) }

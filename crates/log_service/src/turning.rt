@@ -10,7 +10,7 @@ ghost use Rattle.log_halves.specs.Halves.{broken_of};
 ghost use Rattle.log_halves.specs.Moves.{WasFull};
 ghost use Rattle.log_halves.specs.Numbers.{told_numbers};
 ghost use Rattle.log_service.specs.Places.{IsSeatOf, IsLaterSeat, FoundTaken, HadTurn, HadBothTurns, FoundOneTaken};
-ghost use Rattle.log_service.specs.Turns.{HasMovedItems, FoundEmpty, FoundTooLong, HasSynced, FoundNoLoad, SawCommitted};
+ghost use Rattle.log_service.specs.Turns.{HasMovedItems, FoundEmpty, FoundTooLong, HasSynced, FoundNoChain, SawCommitted};
 
 use crate::seats::LogSeat;
 use crate::service::LogService;
@@ -102,7 +102,7 @@ impl<D: Disk, N: ServiceNaming> LogService<D, N> {
         ensures later { IsLaterSeat seat.old seat.new }
         ensures synced { (n : ℕ) → result ≡ SyncTurn.Synced n → HadBothTurns seat.old seat.new
             × HasSynced D.Disk N.ServiceNaming seat.old.device.knows seat.new.device.knows n }
-        ensures clean { result ≡ SyncTurn.Clean → HadBothTurns seat.old seat.new × FoundNoLoad D.Disk N.ServiceNaming seat.new.device.knows }
+        ensures clean { result ≡ SyncTurn.Clean → HadBothTurns seat.old seat.new × FoundNoChain D.Disk N.ServiceNaming seat.new.device.knows }
         ensures busy { result ≡ SyncTurn.Busy → FoundOneTaken seat.old seat.new }
         ensures fault { result ≡ SyncTurn.WriteFault → HadBothTurns seat.old seat.new
             × (seat.old.device.knows.broken ≡ false) × (seat.new.device.knows.broken ≡ true) }
@@ -126,7 +126,7 @@ impl<D: Disk, N: ServiceNaming> LogService<D, N> {
         ensures later { IsLaterSeat seat.old seat.new }
         ensures synced { (n : ℕ) → result ≡ SyncTurn.Synced n → HadBothTurns seat.old seat.new
             × HasSynced D.Disk N.ServiceNaming seat.old.device.knows seat.new.device.knows n }
-        ensures clean { result ≡ SyncTurn.Clean → HadBothTurns seat.old seat.new × FoundNoLoad D.Disk N.ServiceNaming seat.new.device.knows }
+        ensures clean { result ≡ SyncTurn.Clean → HadBothTurns seat.old seat.new × FoundNoChain D.Disk N.ServiceNaming seat.new.device.knows }
         ensures busy { result ≡ SyncTurn.Busy → FoundOneTaken seat.old seat.new }
         ensures fault { result ≡ SyncTurn.WriteFault → HadBothTurns seat.old seat.new
             × (seat.old.device.knows.broken ≡ false) × (seat.new.device.knows.broken ≡ true) }

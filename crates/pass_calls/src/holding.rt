@@ -7,8 +7,8 @@ ghost use Rattle.region_state.specs.States.{write_point};
 use region_lock::{LockNaming, Locked};
 use std::sync::{Mutex, MutexGuard, Wait};
 
-/// Takes the lock of this region, of which this point was seen. Where another region lies after it, or one that hasn't come to the point,
-/// which no run shows, it waits for ever.
+/// Takes the lock of this region, of which this point was seen. By the lock's invariant no other region lies in it, and none that hasn't
+/// come to the point: if one did, the call would try for ever rather than answer wrongly.
 pub(crate) fn hold<
     'l,
     N: LockNaming + region_lock::log_service::ServiceNaming + region_versions::VersionsNaming,

@@ -41,7 +41,7 @@ pub struct Locked<
     pub(crate) history: History<N>,
 }
 
-/// By hand, so that who drops a region's lock calls it: a derived one is proved anew in each crate that does.
+/// Written by hand: a derived `Drop` would be proved again in every crate that drops a lock.
 impl<
     N: LockNaming + log_service::ServiceNaming + region_versions::VersionsNaming,
     R: Wait + Drop,
