@@ -10,3 +10,4 @@ pub mod Going
 mod Ends
 mod Leads
 mod Stops
+mod HalfLaws
