@@ -1,6 +1,10 @@
 -- What each half adds to what it has done.
-use Rattle.std.proofs.Common.{◌≡◌, ◌⊎◌, inl, inr, ℕ, zero, suc, ◌+◌, ◌<◌, ◌≤◌, ◌==◌, Bool, true, false, cond, List, [], ◌∷◌, ◌++◌, length, Result, Ok, Err, refl, sym, ap, ◌∙◌, subst, arith, append_assoc, append-nil, length-append}
+use Rattle.std.proofs.Common.{◌≡◌, ◌⊎◌, inl, inr, ℕ, zero, suc, ◌+◌, ◌<◌, ◌≤◌, ◌==◌, Bool, true, false, cond, List, [], ◌∷◌, ◌++◌, length, Option, Some, Result, Ok, Err, refl, sym, ap, ◌∙◌, subst, arith, append_assoc, append-nil, length-append}
+use Rattle.crossbeam_queue.specs.Passes.{view}
+use Rattle.append_ring.specs.declared.pass.RingKey.{RingKey}
 use Rattle.append_ring.specs.Rules.{of}
+use Rattle.append_ring.specs.Parts.{EachThere, IsCounted, IsDrained, IsEqual}
+use Rattle.atomic_table.specs.Seated.{TableId}
 use Rattle.log_model.specs.Entry.{Entry}
 use Rattle.log_model.specs.Files.{Files}
 use Rattle.disk_images.specs.Calls.{HasCause, Rose}
@@ -16,7 +20,7 @@ use Rattle.ship_queue.specs.declared.reading_half.Stage.TheVariants as stages
 use Rattle.ship_queue.specs.Messages.{Message}
 use Rattle.ship_queue.specs.Course.{counted, HasReadOn, IsAtEnd, IsRefusedAt, LeadsTo}
 use Rattle.ship_queue.specs.Sent.{HasSent, HasStopped, HasTorn}
-use Rattle.ship_queue.specs.Halves.{AreCut, AreShipped, EndsAt, HasRead, HasShipped, all_given, given_by, held_in}
+use Rattle.ship_queue.specs.Halves.{AreCut, AreShipped, EndsAt, HasRead, HasShipped, all_given, given_by, held_in, read_so_far}
 use Rattle.ship_queue.proofs.Going.{joined_read, looks_both, end_on}
 use Rattle.ship_queue.proofs.Leads.{leads_from, refused_on, last_read}
 use Rattle.ship_queue.proofs.Places.{placed_length}
@@ -58,6 +62,17 @@ module _ {D : Type 0} (told : Type 0) (images : D → DiskView) (faults : D → 
       risen = λ e. elim either as (λ _. Rose (faults first) (faults disk)) [ inl is ↦ absurd (cc (is, e)) | inr is ↦ absurd (cc (is, e)) ];
     };
   }
+
+  -- what stands read where nothing is held
+  pub held_none : (key : RingKey Reading) (stage : Stage) → stage ≡ stages.Read → HasRead told images faults p first q disk (read_so_far key stage) stage
+      → HasRead told images faults p first q disk (all_given (view key.pass).pushed) stages.Read
+  held_none key stage is was =
+      subst (λ (rs : List Reading). HasRead told images faults p first q disk (all_given rs) stages.Read) (append-nil (view key.pass).pushed)
+      (subst (λ (s : Stage). HasRead told images faults p first q disk (read_so_far key s) s) is was)
+
+  pub held_some : (key : RingKey Reading) (stage : Stage) → HasRead told images faults p first q disk (all_given (view key.pass).pushed ++ all_given (held_in stage)) stage
+      → HasRead told images faults p first q disk (read_so_far key stage) stage
+  held_some key stage was = subst (λ (l : List Placed). HasRead told images faults p first q disk l stage) (sym (given_append (view key.pass).pushed (held_in stage))) was
 
   module _ (now : Position) (next : D) (was : HasRead told images faults p first q disk xs stages.Read) (looks : told → OnlyReads (images disk) (images next)) where
     pub read_more : (r : Reading) → (told → IsRead (images disk).files q r.entries now) → (told → HasReadOn (images disk).files q now (given_by r))
@@ -106,7 +121,7 @@ module _ {P : Type 0} (has : P → List Message → Type 0) (torn : P → List M
     all = λ e. absurd (cc e);
     part = λ e. let cut = was.part e in record {
       stopped = stopped_longer has first old xs (given_by r) cut.stopped;
-      torn = torn_longer has torn first old 0 xs (given_by r) cut.torn;
+      cut = torn_longer has torn first old 0 xs (given_by r) cut.cut;
     };
     stays = was.stays;
     cause = was.cause;
@@ -131,8 +146,22 @@ module _ {P : Type 0} (has : P → List Message → Type 0) (torn : P → List M
       all = λ e. absurd (cc e);
       part = λ e. let all = was.all refl in record {
         stopped = stopped_behind has first old now 0 count.unrecorded xs (given_by r) all.sent stopped;
-        torn = torn_behind has torn first old now 0 count.unrecorded xs (given_by r) all.sent cut;
+        cut = torn_behind has torn first old now 0 count.unrecorded xs (given_by r) all.sent cut;
       };
       stays = on stays;
       cause = record { later = omega (arith, was.cause.later, cause.later); risen = λ e. omega (arith, was.cause.later, cause.risen tt) };
     }
+
+-- ---- the close
+
+module _ (key : RingKey Reading) (keys : List (Option (RingKey Reading))) (is : keys ≡ Some key ∷ []) where
+  pub there_one : (id : TableId) → key.pass.table_id ≡ id → EachThere (λ (k : RingKey Reading). k.pass.table_id ≡ id) keys
+  there_one id of_it = subst (EachThere (λ (k : RingKey Reading). k.pass.table_id ≡ id)) (sym is) (of_it, tt)
+
+  pub counted_one : (popped : List Reading) → EachThere (IsDrained (λ (r : Reading). 1) popped) keys → EachThere (IsCounted (λ (r : Reading). 1) popped) keys
+  counted_one popped each = subst (EachThere (IsCounted (λ (r : Reading). 1) popped)) (sym is) ((subst (EachThere (IsDrained (λ (r : Reading). 1) popped)) is each).0.0, tt)
+
+  pub closed_all : (popped : List Reading) → key.region ≡ 1 → EachThere (IsEqual (λ (r : Reading). 1) popped) keys → popped ≡ (view key.pass).pushed
+  closed_all popped one each =
+      let its : of (λ (r : Reading). 1) key.region popped ≡ (view key.pass).pushed = (subst (EachThere (IsEqual (λ (r : Reading). 1) popped)) is each).0 in
+      sym (of_one popped) ∙ ap (λ (n : ℕ). of (λ (r : Reading). 1) n popped) (sym one) ∙ its

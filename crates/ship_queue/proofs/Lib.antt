@@ -11,3 +11,4 @@ mod Ends
 mod Leads
 mod Stops
 mod HalfLaws
+mod GoneLaws

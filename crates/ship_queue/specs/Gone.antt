@@ -20,10 +20,10 @@ use Rattle.ship_queue.specs.Halves.{AreCut, AreShipped, IsKeyOf}
 
 -- a new ring of one region: nothing was pushed, and its key is handed out
 pub record IsOpened (ring : RingPlace) (keys : List (Option (RingKey Reading))) (key : RingKey Reading) (popper : ConsumerPass Reading) : Type 0 where
-  pub keys : keys ≡ None ∷ []
-  pub key : IsKeyOf ring key
+  pub out : keys ≡ None ∷ []
+  pub its : IsKeyOf ring key
   pub pushed : (view key.pass).pushed ≡ []
-  pub popper : popper.pass.table_id ≡ ring.id
+  pub pops : popper.pass.table_id ≡ ring.id
   pub regions : length (view popper.pass).lasts ≡ 1
   pub popped : (view popper.pass).popped ≡ []
 

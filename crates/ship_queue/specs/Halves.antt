@@ -87,7 +87,7 @@ pub record AreShipped {P : Type 0} (has : P → List Message → Type 0) (first 
 -- it failed somewhere in these
 pub record AreCut {P : Type 0} (has : P → List Message → Type 0) (torn : P → List Message → Message → Type 0) (first now : P) (xs : List Placed) : Type 0 where
   pub stopped : HasStopped has first now xs
-  pub torn : HasTorn has torn first now 0 xs
+  pub cut : HasTorn has torn first now 0 xs
 
 -- Of a peer as it was at first, all these were shipped, or it failed somewhere in them.
 pub record HasShipped {P : Type 0} (has : P → List Message → Type 0) (torn : P → List Message → Message → Type 0) (same : P → P → Type 0) (faults : P → ℕ) (first now : P) (count : Count) (failed : Bool) (xs : List Placed) : Type 0 where

@@ -1,6 +1,6 @@
 //! The half of a call that reads, in the worker's thread.
 
-ghost use Rattle.std.specs.Prelude.{◌≡◌, ◌⊎◌, [], ◌++◌, IsTrue};
+ghost use Rattle.std.specs.Prelude.{◌≡◌, ◌⊎◌, List, [], ◌∷◌, ◌++◌, IsTrue};
 ghost use Rattle.crossbeam_queue.specs.Passes.{view};
 ghost use Rattle.chronicle_model.specs.Chronicle.{Placed, Position as ThePosition};
 ghost use Rattle.ship_queue.specs.declared.reading_half.Stage.TheVariants as stages;
@@ -121,6 +121,14 @@ impl ReadingHalf {
         }
     }
 
+    /// Whether its turn goes on after a step. Where the ring was full it sleeps before.
+    fn goes_on<R: Wait>(&self, rt: &R, gate: &Gate, moves: u64, has_moved: bool) -> bool {
+        if gate.has_peer_failed() {
+            return false;
+        }
+        has_moved || (!self.has_ended() && gate.wait_for_room(rt, moves))
+    }
+
     /// Its turn: reads on and pushes, until it reads no more, or the caller's turn has ended and the ring is full. Where the ring
     /// is full before that it sleeps.
     pub(crate) fn read_on<R: Wait, D: Disk>(
@@ -143,15 +151,12 @@ impl ReadingHalf {
         gate.begin_worker();
         for _step in rt.forever() {
             let moves = gate.moves();
-            if !self.step(rt, alloc, ring, gate, tail, disk)
-                && (self.has_ended() || !gate.wait_for_room(rt, moves))
-            {
-                break;
-            }
-            if gate.has_peer_failed() {
-                break;
+            let has_moved = self.step(rt, alloc, ring, gate, tail, disk);
+            if !self.goes_on(rt, gate, moves, has_moved) {
+                gate.end_worker();
+                return;
             }
         }
-        gate.end_worker();
+        unreachable!()
     }
 }

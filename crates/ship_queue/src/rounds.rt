@@ -171,17 +171,17 @@ fn settle<R: Wait, P: Peer>(
     keys.put_back(key);
     for _step in rt.forever() {
         if ring.drained(&keys, &shipper.consumer) {
-            break;
+            let ShippingHalf {
+                consumer,
+                count,
+                has_failed,
+            } = shipper;
+            ring.close(keys, consumer);
+            return (count, has_failed);
         }
         shipper.ship_next(rt, &ring, gate, peer);
     }
-    let ShippingHalf {
-        consumer,
-        count,
-        has_failed,
-    } = shipper;
-    ring.close(keys, consumer);
-    (count, has_failed)
+    unreachable!()
 }
 
 /// Reads what stands after the tail's position in a worker, and ships it in the caller's thread.

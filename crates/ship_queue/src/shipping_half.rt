@@ -37,7 +37,10 @@ fn ship_reading<P: Peer>(
     if has_failed {
         return true;
     }
-    ship_list(peer, count, reading.at, reading.entries.as_slice()).is_err()
+    match ship_list(peer, count, reading.at, reading.entries.as_slice()) {
+        Ok(()) => false,
+        Err(_) => true,
+    }
 }
 
 impl ShippingHalf {
@@ -65,6 +68,21 @@ impl ShippingHalf {
         true
     }
 
+    /// Whether its turn goes on after a pop. Where the ring was empty it sleeps before, unless the worker's turn was over then.
+    fn goes_on<R: Wait>(
+        &self,
+        rt: &R,
+        gate: &Gate,
+        moves: u64,
+        is_over: bool,
+        has_shipped: bool,
+    ) -> bool {
+        if self.has_failed {
+            return false;
+        }
+        has_shipped || (!is_over && gate.wait_for_reading(rt, moves))
+    }
+
     /// Its turn: ships what it pops, until the worker's turn has ended and the ring is empty, or the peer fails. Where the ring is
     /// empty before that it sleeps.
     pub(crate) fn ship_on<R: Wait, P: Peer>(
@@ -84,15 +102,12 @@ impl ShippingHalf {
         for _step in rt.forever() {
             let moves = gate.moves();
             let is_over = gate.has_worker_ended();
-            if !self.ship_next(rt, ring, gate, peer)
-                && (is_over || !gate.wait_for_reading(rt, moves))
-            {
-                break;
-            }
-            if self.has_failed {
-                break;
+            let has_shipped = self.ship_next(rt, ring, gate, peer);
+            if !self.goes_on(rt, gate, moves, is_over, has_shipped) {
+                gate.end_caller(self.has_failed);
+                return;
             }
         }
-        gate.end_caller(self.has_failed);
+        unreachable!()
     }
 }
