@@ -1,10 +1,9 @@
 -- What each half adds to what it has done.
-use Rattle.std.proofs.Common.{◌≡◌, ◌⊎◌, inl, inr, ℕ, zero, suc, ◌+◌, ◌<◌, ◌≤◌, ◌==◌, Bool, true, false, cond, List, [], ◌∷◌, ◌++◌, length, Option, Some, Result, Ok, Err, refl, sym, ap, ◌∙◌, subst, arith, append_assoc, append-nil, length-append}
+use Rattle.std.proofs.Common.{◌≡◌, ◌⊎◌, inl, inr, ℕ, zero, suc, ◌+◌, ◌<◌, ◌≤◌, ◌==◌, Bool, true, false, cond, List, [], ◌∷◌, ◌++◌, length, Option, Some, None, Result, Ok, Err, refl, sym, ap, ◌∙◌, subst, arith, append_assoc, append-nil, length-append}
 use Rattle.crossbeam_queue.specs.Passes.{view}
 use Rattle.append_ring.specs.declared.pass.RingKey.{RingKey}
-use Rattle.append_ring.specs.Rules.{of}
-use Rattle.append_ring.specs.Parts.{EachThere, IsCounted, IsDrained, IsEqual}
-use Rattle.atomic_table.specs.Seated.{TableId}
+use Rattle.append_ring.specs.Rules.{RingPlace, of}
+use Rattle.append_ring.specs.Parts.{AreNew, EachThere, IsCounted, IsDrained, IsEqual, first_there, without_first}
 use Rattle.log_model.specs.Entry.{Entry}
 use Rattle.log_model.specs.Files.{Files}
 use Rattle.disk_images.specs.Calls.{HasCause, Rose}
@@ -15,12 +14,13 @@ use Rattle.log_tail.specs.declared.refusal.TailRefusal.TheVariants.{DiskFault}
 use Rattle.log_tail.specs.Reads.{IsRead, OnlyReads, placed_behind}
 use Rattle.ship_queue.specs.declared.reading.Reading.{Reading}
 use Rattle.ship_queue.specs.declared.sending.Count.{Count}
+use Rattle.ship_queue.specs.declared.reading_half.ReadingHalf.{ReadingHalf}
 use Rattle.ship_queue.specs.declared.reading_half.Stage.{Stage}
 use Rattle.ship_queue.specs.declared.reading_half.Stage.TheVariants as stages
 use Rattle.ship_queue.specs.Messages.{Message}
 use Rattle.ship_queue.specs.Course.{counted, HasReadOn, IsAtEnd, IsRefusedAt, LeadsTo}
 use Rattle.ship_queue.specs.Sent.{HasSent, HasStopped, HasTorn}
-use Rattle.ship_queue.specs.Halves.{AreCut, AreShipped, EndsAt, HasRead, HasShipped, all_given, given_by, held_in, read_so_far}
+use Rattle.ship_queue.specs.Halves.{AreCut, AreShipped, EndsAt, HasRead, HasShipped, ReadsOn, ShipsOn, all_given, given_by, held_in, read_so_far}
 use Rattle.ship_queue.proofs.Going.{joined_read, looks_both, end_on}
 use Rattle.ship_queue.proofs.Leads.{leads_from, refused_on, last_read}
 use Rattle.ship_queue.proofs.Places.{placed_length}
@@ -112,6 +112,14 @@ module _ {D : Type 0} (told : Type 0) (images : D → DiskView) (faults : D → 
       };
     }
 
+module _ {D : Type 0} (told : Type 0) (images : D → DiskView) (faults : D → ℕ) (q r : Position) (disk next : D) (half then : ReadingHalf) where
+  pub read_still : ReadsOn told images faults q q disk disk half half
+  read_still = record { on = λ p first was. was }
+
+  pub reads_both : (s : Position) (last : D) (now : ReadingHalf) → ReadsOn told images faults q r disk next half then → ReadsOn told images faults r s next last then now
+      → ReadsOn told images faults q s disk last half now
+  reads_both s last now a b = record { on = λ p first was. b.on p first (a.on p first was) }
+
 -- ---- the half that ships
 
 module _ {P : Type 0} (has : P → List Message → Type 0) (torn : P → List Message → Message → Type 0) (same : P → P → Type 0) (faults : P → ℕ) (first old now : P) (xs : List Placed) (r : Reading) where
@@ -152,11 +160,27 @@ module _ {P : Type 0} (has : P → List Message → Type 0) (torn : P → List M
       cause = record { later = omega (arith, was.cause.later, cause.later); risen = λ e. omega (arith, was.cause.later, cause.risen tt) };
     }
 
+module _ {P : Type 0} (has : P → List Message → Type 0) (torn : P → List Message → Message → Type 0) (same : P → P → Type 0) (faults : P → ℕ) (old now last : P) (count next final : Count) (failed fails still : Bool) (xs ys zs : List Reading) where
+  pub ship_still : ShipsOn has torn same faults old old count count failed failed xs xs
+  ship_still = record { on = λ first was. was }
+
+  pub ships_both : ShipsOn has torn same faults old now count next failed fails xs ys → ShipsOn has torn same faults now last next final fails still ys zs
+      → ShipsOn has torn same faults old last count final failed still xs zs
+  ships_both a b = record { on = λ first was. b.on first (a.on first was) }
+
 -- ---- the close
 
+-- the one key of a new ring is the next
+pub opened_one : (ring : RingPlace) (lasts : List ℕ) (places : List (Option (RingKey Reading))) → length places ≡ 1 → AreNew ring.id lasts 0 places
+    → (k : RingKey Reading) × (first_there places ≡ Some k) × (without_first places ≡ None ∷ []) × (k.pass.table_id ≡ ring.id) × (k.region ≡ 1) × ((view k.pass).pushed ≡ [])
+opened_one ring lasts [] one new = absurd (omega (arith, one))
+opened_one ring lasts (None ∷ places) one new = absurd new
+opened_one ring lasts (Some k ∷ []) one new = (k, refl, refl, new.0.0, new.0.1, ap (λ v. v.pushed) new.0.2)
+opened_one ring lasts (Some k ∷ x ∷ places) one new = absurd (omega (arith, one))
+
 module _ (key : RingKey Reading) (keys : List (Option (RingKey Reading))) (is : keys ≡ Some key ∷ []) where
-  pub there_one : (id : TableId) → key.pass.table_id ≡ id → EachThere (λ (k : RingKey Reading). k.pass.table_id ≡ id) keys
-  there_one id of_it = subst (EachThere (λ (k : RingKey Reading). k.pass.table_id ≡ id)) (sym is) (of_it, tt)
+  pub there_one : (ring : RingPlace) → key.pass.table_id ≡ ring.id → EachThere (λ (k : RingKey Reading). k.pass.table_id ≡ ring.id) keys
+  there_one ring of_it = subst (EachThere (λ (k : RingKey Reading). k.pass.table_id ≡ ring.id)) (sym is) (of_it, tt)
 
   pub counted_one : (popped : List Reading) → EachThere (IsDrained (λ (r : Reading). 1) popped) keys → EachThere (IsCounted (λ (r : Reading). 1) popped) keys
   counted_one popped each = subst (EachThere (IsCounted (λ (r : Reading). 1) popped)) (sym is) ((subst (EachThere (IsDrained (λ (r : Reading). 1) popped)) is each).0.0, tt)

@@ -1,8 +1,7 @@
 -- How reading and shipping have ended, but for the last record.
-use Rattle.std.specs.Prelude.{◌≡◌, ◌<◌, ℕ, true, List, [], ◌∷◌, length, Option, Some, None, Err}
+use Rattle.std.specs.Prelude.{◌≡◌, ◌<◌, ℕ, true, List, [], ◌∷◌, Option, None, Err}
 use Rattle.crossbeam_queue.specs.Passes.{view}
 use Rattle.append_ring.specs.declared.pass.RingKey.{RingKey}
-use Rattle.append_ring.specs.declared.pass.ConsumerPass.{ConsumerPass}
 use Rattle.append_ring.specs.Rules.{RingPlace}
 use Rattle.log_model.specs.Files.{Files}
 use Rattle.disk_images.specs.Calls.{HasCause}
@@ -18,14 +17,11 @@ use Rattle.ship_queue.specs.Course.{HasReadOn, IsAtEnd, IsRefusedAt, LeadsTo}
 use Rattle.ship_queue.specs.Sent.{HasSent}
 use Rattle.ship_queue.specs.Halves.{AreCut, AreShipped, IsKeyOf}
 
--- a new ring of one region: nothing was pushed, and its key is handed out
-pub record IsOpened (ring : RingPlace) (keys : List (Option (RingKey Reading))) (key : RingKey Reading) (popper : ConsumerPass Reading) : Type 0 where
+-- a new ring of one region, whose key is handed out and under which nothing was pushed
+pub record IsOpened (ring : RingPlace) (keys : List (Option (RingKey Reading))) (key : RingKey Reading) : Type 0 where
   pub out : keys ≡ None ∷ []
   pub its : IsKeyOf ring key
   pub pushed : (view key.pass).pushed ≡ []
-  pub pops : popper.pass.table_id ≡ ring.id
-  pub regions : length (view popper.pass).lasts ≡ 1
-  pub popped : (view popper.pass).popped ≡ []
 
 -- why no more was read from the position on
 abbrev pub StoppedAt : Files → Position → Ending → Type 0

@@ -11,6 +11,7 @@ use Rattle.log_tail.specs.declared.refusal.TailRefusal.TheVariants.{DiskFault}
 use Rattle.log_tail.specs.Reads.{IsRead, OnlyReads, placed_behind}
 use Rattle.ship_queue.specs.declared.reading.Reading.{Reading}
 use Rattle.ship_queue.specs.declared.sending.Count.{Count}
+use Rattle.ship_queue.specs.declared.reading_half.ReadingHalf.{ReadingHalf}
 use Rattle.ship_queue.specs.declared.reading_half.Stage.{Stage}
 use Rattle.ship_queue.specs.declared.reading_half.Stage.TheVariants as stages
 use Rattle.ship_queue.specs.Messages.{Message}
@@ -77,6 +78,11 @@ pub record HasRead {D : Type 0} (told : Type 0) (images : D → DiskView) (fault
   pub looks : told → OnlyReads (images first) (images disk)
   pub cause : HasCause (faults first) (faults disk) (stage ≡ stages.Refused DiskFault)
 
+-- whatever it had read, it goes on from there
+pub record ReadsOn {D : Type 0} (told : Type 0) (images : D → DiskView) (faults : D → ℕ) (q now : Position) (disk next : D) (old new : ReadingHalf) : Type 0 where
+  pub on : (p : Position) (first : D) → HasRead told images faults p first q disk (read_so_far old.key old.stage) old.stage
+      → HasRead told images faults p first now next (read_so_far new.key new.stage) new.stage
+
 -- ---- the half that ships
 
 -- a peer was shipped these, and they were counted
@@ -95,3 +101,7 @@ pub record HasShipped {P : Type 0} (has : P → List Message → Type 0) (torn :
   pub part : failed ≡ true → AreCut has torn first now xs
   pub stays : same first now
   pub cause : HasCause (faults first) (faults now) (failed ≡ true)
+
+-- whatever was shipped of what had been popped, so it goes on with what is popped now
+pub record ShipsOn {P : Type 0} (has : P → List Message → Type 0) (torn : P → List Message → Message → Type 0) (same : P → P → Type 0) (faults : P → ℕ) (old now : P) (count next : Count) (failed fails : Bool) (before after : List Reading) : Type 0 where
+  pub on : (first : P) → HasShipped has torn same faults first old count failed (all_given before) → HasShipped has torn same faults first now next fails (all_given after)

@@ -4,7 +4,7 @@ ghost use Rattle.std.specs.Prelude.{◌≡◌, ◌⊎◌, List, [], ◌∷◌, �
 ghost use Rattle.crossbeam_queue.specs.Passes.{view};
 ghost use Rattle.chronicle_model.specs.Chronicle.{Placed, Position as ThePosition};
 ghost use Rattle.ship_queue.specs.declared.reading_half.Stage.TheVariants as stages;
-ghost use Rattle.ship_queue.specs.Halves.{FitsItsLog, HasEnded, HasRead, HoldsWhole, IsKeyOf, all_given, held_in, read_so_far};
+ghost use Rattle.ship_queue.specs.Halves.{FitsItsLog, HasEnded, HasRead, HoldsWhole, IsKeyOf, ReadsOn, all_given, held_in};
 
 use crate::gate::Gate;
 use crate::reading::{Reading, read_next};
@@ -104,9 +104,7 @@ impl ReadingHalf {
         requires whole { HoldsWhole self.old.stage }
         ensures key { IsKeyOf ring.now self.new.key }
         ensures whole { HoldsWhole self.new.stage }
-        ensures reads { (p : ThePosition) (first : D)
-            → HasRead (IsTrue D.told) D.view D.faults p first tail.old disk.old (read_so_far self.old.key self.old.stage) self.old.stage
-            → HasRead (IsTrue D.told) D.view D.faults p first tail.new disk.new (read_so_far self.new.key self.new.stage) self.new.stage }
+        ensures reads { ReadsOn (IsTrue D.told) D.view D.faults tail.old tail.new disk.old disk.new self.old self.new }
     {
         match mem::replace(&mut self.stage, Stage::Read) {
             Stage::Read => {
@@ -144,9 +142,7 @@ impl ReadingHalf {
         requires whole { HoldsWhole self.old.stage }
         ensures key { IsKeyOf ring.now self.new.key }
         ensures whole { HoldsWhole self.new.stage }
-        ensures reads { (p : ThePosition) (first : D)
-            → HasRead (IsTrue D.told) D.view D.faults p first tail.old disk.old (read_so_far self.old.key self.old.stage) self.old.stage
-            → HasRead (IsTrue D.told) D.view D.faults p first tail.new disk.new (read_so_far self.new.key self.new.stage) self.new.stage }
+        ensures reads { ReadsOn (IsTrue D.told) D.view D.faults tail.old tail.new disk.old disk.new self.old self.new }
     {
         gate.begin_worker();
         for _step in rt.forever() {

@@ -2,8 +2,7 @@
 
 ghost use Rattle.std.specs.Prelude.{◌≡◌, ◌⊎◌, ◌∷◌, [], length, true, IsTrue, IfOk, None};
 ghost use Rattle.crossbeam_queue.specs.Passes.{view};
-ghost use Rattle.chronicle_model.specs.Chronicle.{Position as ThePosition};
-ghost use Rattle.ship_queue.specs.Halves.{HasEnded, HasRead, HasShipped, HoldsWhole, IsKeyOf, all_given, read_so_far};
+ghost use Rattle.ship_queue.specs.Halves.{HasEnded, HoldsWhole, IsKeyOf, ReadsOn, ShipsOn};
 ghost use Rattle.ship_queue.specs.Gone.{HasGone, IsOpened};
 
 use crate::gate::Gate;
@@ -44,7 +43,9 @@ struct Opened {
 
 impl Opened {
     fn new(alloc: Global) -> Result<Opened, NoMemory>
-        ensures { IfOk result (λ o. IsOpened o.ring o.keys o.key o.consumer) }
+        ensures key { IfOk result (λ o. IsOpened o.ring o.keys o.key) }
+        ensures consumer { IfOk result (λ o. (o.consumer.pass.table_id ≡ o.ring.id)
+            × (length (view o.consumer.pass).lasts ≡ 1) × ((view o.consumer.pass).popped ≡ [])) }
     {
         let RingParts {
             ring,
@@ -82,12 +83,9 @@ fn beside<'a, R: Threads + Wait + Sync, D: Disk + Send, P: Peer>(
     ensures whole { HoldsWhole reader.new.stage }
     ensures consumer { shipper.new.consumer.pass.table_id ≡ ring.now.id }
     ensures regions { (view shipper.new.consumer.pass).lasts ≡ (view shipper.old.consumer.pass).lasts }
-    ensures reads { (p : ThePosition) (first : D)
-        → HasRead (IsTrue D.told) D.view D.faults p first tail.old disk.old (read_so_far reader.old.key reader.old.stage) reader.old.stage
-        → HasRead (IsTrue D.told) D.view D.faults p first tail.new disk.new (read_so_far reader.new.key reader.new.stage) reader.new.stage }
-    ensures ships { (first : P)
-        → HasShipped P.has P.torn P.stays P.faults first peer.old shipper.old.count shipper.old.has_failed (all_given (view shipper.old.consumer.pass).popped)
-        → HasShipped P.has P.torn P.stays P.faults first peer.new shipper.new.count shipper.new.has_failed (all_given (view shipper.new.consumer.pass).popped) }
+    ensures reads { ReadsOn (IsTrue D.told) D.view D.faults tail.old tail.new disk.old disk.new reader.old reader.new }
+    ensures ships { ShipsOn P.has P.torn P.stays P.faults peer.old peer.new shipper.old.count shipper.new.count shipper.old.has_failed shipper.new.has_failed
+        (view shipper.old.consumer.pass).popped (view shipper.new.consumer.pass).popped }
 {
     gate.begin_round();
     join_mut(
@@ -97,17 +95,15 @@ fn beside<'a, R: Threads + Wait + Sync, D: Disk + Send, P: Peer>(
             requires whole { HoldsWhole reader.now.stage }
             ensures key { IsKeyOf ring.entry.now reader.exit.now.key }
             ensures whole { HoldsWhole reader.exit.now.stage }
-            ensures reads { (p : ThePosition) (first : D)
-                → HasRead (IsTrue D.told) D.view D.faults p first tail.entry.now disk.entry.now (read_so_far reader.entry.now.key reader.entry.now.stage) reader.entry.now.stage
-                → HasRead (IsTrue D.told) D.view D.faults p first tail.exit.now disk.exit.now (read_so_far reader.exit.now.key reader.exit.now.stage) reader.exit.now.stage }
+            ensures reads { ReadsOn (IsTrue D.told) D.view D.faults tail.entry.now tail.exit.now disk.entry.now disk.exit.now reader.entry.now reader.exit.now }
         { reader.read_on(rt, alloc, ring, gate, tail, disk) },
         &mut || -> ()
             requires consumer { shipper.now.consumer.pass.table_id ≡ ring.now.id }
             ensures consumer { shipper.exit.now.consumer.pass.table_id ≡ ring.entry.now.id }
             ensures regions { (view shipper.exit.now.consumer.pass).lasts ≡ (view shipper.entry.now.consumer.pass).lasts }
-            ensures ships { (first : P)
-                → HasShipped P.has P.torn P.stays P.faults first peer.entry.now shipper.entry.now.count shipper.entry.now.has_failed (all_given (view shipper.entry.now.consumer.pass).popped)
-                → HasShipped P.has P.torn P.stays P.faults first peer.exit.now shipper.exit.now.count shipper.exit.now.has_failed (all_given (view shipper.exit.now.consumer.pass).popped) }
+            ensures ships { ShipsOn P.has P.torn P.stays P.faults peer.entry.now peer.exit.now shipper.entry.now.count shipper.exit.now.count
+                shipper.entry.now.has_failed shipper.exit.now.has_failed
+                (view shipper.entry.now.consumer.pass).popped (view shipper.exit.now.consumer.pass).popped }
         { shipper.ship_on(rt, ring, gate, peer) },
     );
 }
@@ -131,12 +127,9 @@ fn go_on<R: Threads + Wait + Sync, D: Disk + Send, P: Peer>(
     ensures consumer { shipper.new.consumer.pass.table_id ≡ ring.now.id }
     ensures regions { (view shipper.new.consumer.pass).lasts ≡ (view shipper.old.consumer.pass).lasts }
     ensures ended { HasEnded reader.new.stage ⊎ (shipper.new.has_failed ≡ true) }
-    ensures reads { (p : ThePosition) (first : D)
-        → HasRead (IsTrue D.told) D.view D.faults p first tail.old disk.old (read_so_far reader.old.key reader.old.stage) reader.old.stage
-        → HasRead (IsTrue D.told) D.view D.faults p first tail.new disk.new (read_so_far reader.new.key reader.new.stage) reader.new.stage }
-    ensures ships { (first : P)
-        → HasShipped P.has P.torn P.stays P.faults first peer.old shipper.old.count shipper.old.has_failed (all_given (view shipper.old.consumer.pass).popped)
-        → HasShipped P.has P.torn P.stays P.faults first peer.new shipper.new.count shipper.new.has_failed (all_given (view shipper.new.consumer.pass).popped) }
+    ensures reads { ReadsOn (IsTrue D.told) D.view D.faults tail.old tail.new disk.old disk.new reader.old reader.new }
+    ensures ships { ShipsOn P.has P.torn P.stays P.faults peer.old peer.new shipper.old.count shipper.new.count shipper.old.has_failed shipper.new.has_failed
+        (view shipper.old.consumer.pass).popped (view shipper.new.consumer.pass).popped }
 {
     for _round in rt.forever() {
         beside(rt, alloc, ring, gate, tail, disk, reader, peer, shipper);
@@ -162,9 +155,8 @@ fn settle<R: Wait, P: Peer>(
     requires consumer { shipper.consumer.pass.table_id ≡ ring.id }
     requires regions { length (view shipper.consumer.pass).lasts ≡ 1 }
     ensures still { shipper.has_failed ≡ true → result.1 ≡ true }
-    ensures ships { (first : P)
-        → HasShipped P.has P.torn P.stays P.faults first peer.old shipper.count shipper.has_failed (all_given (view shipper.consumer.pass).popped)
-        → HasShipped P.has P.torn P.stays P.faults first peer.new result.0 result.1 (all_given (view key.pass).pushed) }
+    ensures ships { ShipsOn P.has P.torn P.stays P.faults peer.old peer.new shipper.count result.0 shipper.has_failed result.1
+        (view shipper.consumer.pass).popped (view key.pass).pushed }
 {
     let mut keys = keys;
     let mut shipper = shipper;

@@ -83,7 +83,7 @@ pub fn ship_all<R: Threads + Wait + Sync, D: Disk + Send, P: Peer>(
                 position,
             })
         }
-        Ending::Refused(e) => Err(e.into()),
+        Ending::Refused(e) => Err(ShipRefusal::from(e)),
         Ending::PeerFailed => Err(ShipRefusal::PeerFault),
     }
 }

@@ -3,7 +3,7 @@
 ghost use Rattle.std.specs.Prelude.{◌≡◌, ◌++◌, List, true};
 ghost use Rattle.crossbeam_queue.specs.Passes.{view};
 ghost use Rattle.chronicle_model.specs.Chronicle.{Placed};
-ghost use Rattle.ship_queue.specs.Halves.{FitsItsLog, HasShipped, all_given, given_by};
+ghost use Rattle.ship_queue.specs.Halves.{FitsItsLog, HasShipped, ShipsOn, given_by};
 
 use crate::gate::Gate;
 use crate::peer::Peer;
@@ -56,9 +56,8 @@ impl ShippingHalf {
         ensures ring { self.new.consumer.pass.table_id ≡ ring.now.id }
         ensures regions { (view self.new.consumer.pass).lasts ≡ (view self.old.consumer.pass).lasts }
         ensures still { self.old.has_failed ≡ true → self.new.has_failed ≡ true }
-        ensures ships { (first : P)
-            → HasShipped P.has P.torn P.stays P.faults first peer.old self.old.count self.old.has_failed (all_given (view self.old.consumer.pass).popped)
-            → HasShipped P.has P.torn P.stays P.faults first peer.new self.new.count self.new.has_failed (all_given (view self.new.consumer.pass).popped) }
+        ensures ships { ShipsOn P.has P.torn P.stays P.faults peer.old peer.new self.old.count self.new.count self.old.has_failed self.new.has_failed
+            (view self.old.consumer.pass).popped (view self.new.consumer.pass).popped }
     {
         let Some(reading) = ring.pop(rt, &mut self.consumer) else {
             return false;
@@ -95,9 +94,8 @@ impl ShippingHalf {
         requires ring { self.old.consumer.pass.table_id ≡ ring.now.id }
         ensures ring { self.new.consumer.pass.table_id ≡ ring.now.id }
         ensures regions { (view self.new.consumer.pass).lasts ≡ (view self.old.consumer.pass).lasts }
-        ensures ships { (first : P)
-            → HasShipped P.has P.torn P.stays P.faults first peer.old self.old.count self.old.has_failed (all_given (view self.old.consumer.pass).popped)
-            → HasShipped P.has P.torn P.stays P.faults first peer.new self.new.count self.new.has_failed (all_given (view self.new.consumer.pass).popped) }
+        ensures ships { ShipsOn P.has P.torn P.stays P.faults peer.old peer.new self.old.count self.new.count self.old.has_failed self.new.has_failed
+            (view self.old.consumer.pass).popped (view self.new.consumer.pass).popped }
     {
         for _step in rt.forever() {
             let moves = gate.moves();

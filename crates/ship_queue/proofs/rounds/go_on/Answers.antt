@@ -7,6 +7,12 @@ loop-round-preserved g c = record {
   whole = c.beside.ensures.whole;
   consumer = c.beside.ensures.consumer;
   regions = c.beside.ensures.regions ∙ c.loop-round.invariant.regions;
-  reads = λ p first was. c.beside.ensures.reads p first (c.loop-round.invariant.reads p first was);
-  ships = λ first was. c.beside.ensures.ships first (c.loop-round.invariant.ships first was);
+  reads = record { on = λ p first was. c.beside.ensures.reads.on p first (c.loop-round.invariant.reads.on p first was) };
+  ships = record { on = λ first was. c.beside.ensures.ships.on first (c.loop-round.invariant.ships.on first was) };
 }
+
+pub returns-then-has_ended-clause-reads : goal.returns-then-has_ended-clause-reads
+returns-then-has_ended-clause-reads g c = record { on = λ p first was. c.beside.ensures.reads.on p first (c.loop-round.invariant.reads.on p first was) }
+
+pub returns-then-has_ended-clause-ships : goal.returns-then-has_ended-clause-ships
+returns-then-has_ended-clause-ships g c = record { on = λ first was. c.beside.ensures.ships.on first (c.loop-round.invariant.ships.on first was) }

@@ -1,7 +1,7 @@
 use Rattle.std.proofs.Common.{◌≡◌, ◌∷◌, [], true}
 use Rattle.std.specs.Prelude.{Some}
 use Rattle.crossbeam_queue.specs.Passes.{view}
-use Rattle.ship_queue.specs.Halves.{HasShipped, all_given}
+use Rattle.ship_queue.specs.Halves.{ShipsOn}
 use Rattle.ship_queue.proofs.rounds.settle.Given as goal
 
 abbrev pub invariant-loop-step : goal.invariant-loop-step
@@ -10,7 +10,6 @@ invariant-loop-step g l = record {
   consumer : l.shipper.consumer.pass.table_id ≡ l.ring.id;
   regions : (view l.shipper.consumer.pass).lasts ≡ (view l.fn.shipper.consumer.pass).lasts;
   still : l.fn.shipper.has_failed ≡ true → l.shipper.has_failed ≡ true;
-  ships : (first : g.row.P.Denot)
-      → HasShipped g.P.Peer.has g.P.Peer.torn g.P.Peer.stays g.P.Peer.faults first l.fn.peer l.fn.shipper.count l.fn.shipper.has_failed (all_given (view l.fn.shipper.consumer.pass).popped)
-      → HasShipped g.P.Peer.has g.P.Peer.torn g.P.Peer.stays g.P.Peer.faults first l.peer l.shipper.count l.shipper.has_failed (all_given (view l.shipper.consumer.pass).popped);
+  ships : ShipsOn g.P.Peer.has g.P.Peer.torn g.P.Peer.stays g.P.Peer.faults l.fn.peer l.peer l.fn.shipper.count l.shipper.count l.fn.shipper.has_failed l.shipper.has_failed
+      (view l.fn.shipper.consumer.pass).popped (view l.shipper.consumer.pass).popped;
 }

@@ -5,8 +5,8 @@ pub loop-step-preserved : goal.loop-step-preserved
 loop-step-preserved g c = record {
   ring = c.ship_next-has_shipped.ensures.ring;
   regions = c.ship_next-has_shipped.ensures.regions ∙ c.loop-step.invariant.regions;
-  ships = λ first was. c.ship_next-has_shipped.ensures.ships first (c.loop-step.invariant.ships first was);
+  ships = record { on = λ first was. c.ship_next-has_shipped.ensures.ships.on first (c.loop-step.invariant.ships.on first was) };
 }
 
 pub returns-then-not-goes_on-clause-ships : goal.returns-then-not-goes_on-clause-ships
-returns-then-not-goes_on-clause-ships g c first was = c.ship_next-has_shipped.ensures.ships first (c.loop-step.invariant.ships first was)
+returns-then-not-goes_on-clause-ships g c = record { on = λ first was. c.ship_next-has_shipped.ensures.ships.on first (c.loop-step.invariant.ships.on first was) }
