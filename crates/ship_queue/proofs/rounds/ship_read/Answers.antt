@@ -1,7 +1,4 @@
-use Rattle.std.proofs.Common.{◌≡◌, ◌∙◌, IsTrue, ℕ, [], false, refl, sym, ap, subst}
-use Rattle.crossbeam_queue.specs.Passes.{view}
-use Rattle.append_ring.specs.declared.pass.RingKey.{RingKey}
-use Rattle.ship_queue.specs.declared.reading.Reading.{Reading}
+use Rattle.std.proofs.Common.{IsTrue, refl}
 use Rattle.ship_queue.proofs.GoneLaws.{gone_failed, gone_nowhere, gone_refused, gone_whole, nothing_read, nothing_shipped}
 use Rattle.ship_queue.proofs.rounds.ship_read.Goals as goal
 
@@ -17,11 +14,9 @@ returns-then-has_failed g c =
     let p = g.P.Peer in
     let peer = c.args.peer.now in
     let half = c.go_on.new.reader in
-    let none = subst (λ (k : RingKey Reading). (view k.pass).pushed ≡ []) c.in-Ok.key-is c.in-Ok.ensures.key.pushed in
-    let empty = sym (ap (λ v. (view v.pass).popped) c.in-Ok.consumer-is) ∙ c.in-Ok.ensures.consumer.2 in
-    let read = c.go_on.ensures.reads.on c.args.tail.now c.args.disk.now (nothing_read (IsTrue d.told) d.view d.faults c.args.tail.now c.args.disk.now c.in-Ok.key none) in
-    let begun = nothing_shipped p.has p.torn p.stays p.faults peer _ (view c.in-Ok.consumer.pass).popped (g.met.P.Peer.stays_itself peer) refl refl empty in
-    let shipped = c.settle-has_failed.ensures.ships.on peer (c.go_on.ensures.ships.on peer begun) in
+    let read = c.go_on.ensures.reads.on c.args.tail.now c.args.disk.now (nothing_read (IsTrue d.told) d.view d.faults c.args.tail.now c.args.disk.now c.in-Ok.field-0.key c.in-Ok.ensures.key.pushed) in
+    let shipped = c.settle-has_failed.ensures.ships.on peer
+    (c.go_on.ensures.ships.on peer (nothing_shipped p.has p.torn p.stays p.faults peer _ _ (g.met.P.Peer.stays_itself peer) refl refl c.in-Ok.ensures.consumer.2)) in
     gone_failed (IsTrue d.told) d.view d.faults p.has p.torn p.stays p.faults c.args.tail.now c.args.disk.now peer c.go_on.new.tail c.go_on.new.disk c.settle-has_failed.new.peer
     half.key half.stage c.settle-has_failed.result.0 c.settle-has_failed.result.1 read shipped c.if-has_failed.true
 
@@ -31,11 +26,9 @@ returns-in-AtEnd g c =
     let p = g.P.Peer in
     let peer = c.args.peer.now in
     let half = c.go_on.new.reader in
-    let none = subst (λ (k : RingKey Reading). (view k.pass).pushed ≡ []) c.in-Ok.key-is c.in-Ok.ensures.key.pushed in
-    let empty = sym (ap (λ v. (view v.pass).popped) c.in-Ok.consumer-is) ∙ c.in-Ok.ensures.consumer.2 in
-    let read = c.go_on.ensures.reads.on c.args.tail.now c.args.disk.now (nothing_read (IsTrue d.told) d.view d.faults c.args.tail.now c.args.disk.now c.in-Ok.key none) in
-    let begun = nothing_shipped p.has p.torn p.stays p.faults peer _ (view c.in-Ok.consumer.pass).popped (g.met.P.Peer.stays_itself peer) refl refl empty in
-    let shipped = c.settle-has_failed.ensures.ships.on peer (c.go_on.ensures.ships.on peer begun) in
+    let read = c.go_on.ensures.reads.on c.args.tail.now c.args.disk.now (nothing_read (IsTrue d.told) d.view d.faults c.args.tail.now c.args.disk.now c.in-Ok.field-0.key c.in-Ok.ensures.key.pushed) in
+    let shipped = c.settle-has_failed.ensures.ships.on peer
+    (c.go_on.ensures.ships.on peer (nothing_shipped p.has p.torn p.stays p.faults peer _ _ (g.met.P.Peer.stays_itself peer) refl refl c.in-Ok.ensures.consumer.2)) in
     gone_whole (IsTrue d.told) d.view d.faults p.has p.torn p.stays p.faults c.args.tail.now c.args.disk.now peer c.go_on.new.tail c.go_on.new.disk c.settle-has_failed.new.peer
     half.key half.stage c.settle-has_failed.result.0 c.settle-has_failed.result.1 read shipped c.if-has_failed.false c.in-AtEnd.is
 
@@ -45,10 +38,8 @@ returns-in-Refused g c =
     let p = g.P.Peer in
     let peer = c.args.peer.now in
     let half = c.go_on.new.reader in
-    let none = subst (λ (k : RingKey Reading). (view k.pass).pushed ≡ []) c.in-Ok.key-is c.in-Ok.ensures.key.pushed in
-    let empty = sym (ap (λ v. (view v.pass).popped) c.in-Ok.consumer-is) ∙ c.in-Ok.ensures.consumer.2 in
-    let read = c.go_on.ensures.reads.on c.args.tail.now c.args.disk.now (nothing_read (IsTrue d.told) d.view d.faults c.args.tail.now c.args.disk.now c.in-Ok.key none) in
-    let begun = nothing_shipped p.has p.torn p.stays p.faults peer _ (view c.in-Ok.consumer.pass).popped (g.met.P.Peer.stays_itself peer) refl refl empty in
-    let shipped = c.settle-has_failed.ensures.ships.on peer (c.go_on.ensures.ships.on peer begun) in
+    let read = c.go_on.ensures.reads.on c.args.tail.now c.args.disk.now (nothing_read (IsTrue d.told) d.view d.faults c.args.tail.now c.args.disk.now c.in-Ok.field-0.key c.in-Ok.ensures.key.pushed) in
+    let shipped = c.settle-has_failed.ensures.ships.on peer
+    (c.go_on.ensures.ships.on peer (nothing_shipped p.has p.torn p.stays p.faults peer _ _ (g.met.P.Peer.stays_itself peer) refl refl c.in-Ok.ensures.consumer.2)) in
     gone_refused (IsTrue d.told) d.view d.faults p.has p.torn p.stays p.faults c.args.tail.now c.args.disk.now peer c.go_on.new.tail c.go_on.new.disk c.settle-has_failed.new.peer
     half.key half.stage c.settle-has_failed.result.0 c.settle-has_failed.result.1 read shipped c.if-has_failed.false c.in-Refused.e c.in-Refused.is
