@@ -1,20 +1,18 @@
 -- How both halves have gone together.
-use Rattle.std.proofs.Common.{◌≡◌, ◌⊎◌, inl, inr, ℕ, ◌<◌, ◌≤◌, Bool, true, false, List, [], ◌∷◌, ◌++◌, length, Err, refl, sym, ap, ◌∙◌, subst, arith, append-nil}
+use Rattle.std.proofs.Common.{◌≡◌, ◌⊎◌, inl, inr, ℕ, Bool, true, false, List, [], ◌++◌, length, refl, sym, ap, ◌∙◌, subst, arith, append-nil}
 use Rattle.crossbeam_queue.specs.Passes.{view}
 use Rattle.append_ring.specs.declared.pass.RingKey.{RingKey}
-use Rattle.log_model.specs.Files.{Files}
 use Rattle.disk_images.specs.Crash.{DiskView}
 use Rattle.chronicle_model.specs.Chronicle.{Placed, Position}
 use Rattle.log_tail.specs.declared.refusal.TailRefusal.{TailRefusal}
 use Rattle.log_tail.specs.declared.refusal.TailRefusal.TheVariants.{Memory, DiskFault}
-use Rattle.log_tail.specs.Reads.{OnlyReads}
 use Rattle.ship_queue.specs.declared.reading.Reading.{Reading}
 use Rattle.ship_queue.specs.declared.sending.Count.{Count}
 use Rattle.ship_queue.specs.declared.reading_half.Stage.{Stage}
 use Rattle.ship_queue.specs.declared.reading_half.Stage.TheVariants as stages
 use Rattle.ship_queue.specs.declared.rounds.Ending.TheVariants as endings
 use Rattle.ship_queue.specs.Messages.{Message}
-use Rattle.ship_queue.specs.Course.{counted, HasReadOn, IsRefusedAt, LeadsTo}
+use Rattle.ship_queue.specs.Course.{counted, HasReadOn}
 use Rattle.ship_queue.specs.Sent.{HasSent}
 use Rattle.ship_queue.specs.Halves.{AreCut, AreShipped, EndsAt, HasEnded, HasRead, HasShipped, all_given, held_in, read_so_far}
 use Rattle.ship_queue.specs.Gone.{HasGone}

@@ -1,26 +1,24 @@
 -- What each half adds to what it has done.
-use Rattle.std.proofs.Common.{◌≡◌, ◌⊎◌, inl, inr, ℕ, zero, suc, ◌+◌, ◌<◌, ◌≤◌, ◌==◌, Bool, true, false, cond, List, [], ◌∷◌, ◌++◌, length, Option, Some, None, Result, Ok, Err, refl, sym, ap, ◌∙◌, subst, arith, append_assoc, append-nil, length-append}
+use Rattle.std.proofs.Common.{◌≡◌, ◌⊎◌, inl, inr, ℕ, ◌+◌, ◌≤◌, true, false, List, [], ◌∷◌, ◌++◌, length, Option, Some, None, Err, refl, sym, ap, ◌∙◌, subst, arith, append_assoc, append-nil, length-append}
 use Rattle.crossbeam_queue.specs.Passes.{view}
 use Rattle.append_ring.specs.declared.pass.RingKey.{RingKey}
 use Rattle.append_ring.specs.Rules.{RingPlace, of}
 use Rattle.append_ring.specs.Parts.{AreNew, EachThere, IsCounted, IsDrained, IsEqual, first_there, without_first}
 use Rattle.log_model.specs.Entry.{Entry}
-use Rattle.log_model.specs.Files.{Files}
 use Rattle.disk_images.specs.Calls.{HasCause, Rose}
 use Rattle.disk_images.specs.Crash.{DiskView}
 use Rattle.chronicle_model.specs.Chronicle.{Placed, Position}
 use Rattle.log_tail.specs.declared.refusal.TailRefusal.{TailRefusal}
 use Rattle.log_tail.specs.declared.refusal.TailRefusal.TheVariants.{DiskFault}
-use Rattle.log_tail.specs.Reads.{IsRead, OnlyReads, placed_behind}
+use Rattle.log_tail.specs.Reads.{IsRead, OnlyReads}
 use Rattle.ship_queue.specs.declared.reading.Reading.{Reading}
 use Rattle.ship_queue.specs.declared.sending.Count.{Count}
-use Rattle.ship_queue.specs.declared.reading_half.ReadingHalf.{ReadingHalf}
 use Rattle.ship_queue.specs.declared.reading_half.Stage.{Stage}
 use Rattle.ship_queue.specs.declared.reading_half.Stage.TheVariants as stages
 use Rattle.ship_queue.specs.Messages.{Message}
 use Rattle.ship_queue.specs.Course.{counted, HasReadOn, IsAtEnd, IsRefusedAt, LeadsTo}
 use Rattle.ship_queue.specs.Sent.{HasSent, HasStopped, HasTorn}
-use Rattle.ship_queue.specs.Halves.{AreCut, AreShipped, EndsAt, HasRead, HasShipped, ReadsOn, ShipsOn, all_given, given_by, held_in, read_so_far}
+use Rattle.ship_queue.specs.Halves.{EndsAt, HasRead, HasShipped, all_given, given_by, held_in, read_so_far}
 use Rattle.ship_queue.proofs.Going.{joined_read, looks_both, end_on}
 use Rattle.ship_queue.proofs.Leads.{leads_from, refused_on, last_read}
 use Rattle.ship_queue.proofs.Places.{placed_length}
@@ -112,14 +110,6 @@ module _ {D : Type 0} (told : Type 0) (images : D → DiskView) (faults : D → 
       };
     }
 
-module _ {D : Type 0} (told : Type 0) (images : D → DiskView) (faults : D → ℕ) (q r : Position) (disk next : D) (half then : ReadingHalf) where
-  pub read_still : ReadsOn told images faults q q disk disk half half
-  read_still = record { on = λ p first was. was }
-
-  pub reads_both : (s : Position) (last : D) (now : ReadingHalf) → ReadsOn told images faults q r disk next half then → ReadsOn told images faults r s next last then now
-      → ReadsOn told images faults q s disk last half now
-  reads_both s last now a b = record { on = λ p first was. b.on p first (a.on p first was) }
-
 -- ---- the half that ships
 
 module _ {P : Type 0} (has : P → List Message → Type 0) (torn : P → List Message → Message → Type 0) (same : P → P → Type 0) (faults : P → ℕ) (first old now : P) (xs : List Placed) (r : Reading) where
@@ -159,14 +149,6 @@ module _ {P : Type 0} (has : P → List Message → Type 0) (torn : P → List M
       stays = on stays;
       cause = record { later = omega (arith, was.cause.later, cause.later); risen = λ e. omega (arith, was.cause.later, cause.risen tt) };
     }
-
-module _ {P : Type 0} (has : P → List Message → Type 0) (torn : P → List Message → Message → Type 0) (same : P → P → Type 0) (faults : P → ℕ) (old now last : P) (count next final : Count) (failed fails still : Bool) (xs ys zs : List Reading) where
-  pub ship_still : ShipsOn has torn same faults old old count count failed failed xs xs
-  ship_still = record { on = λ first was. was }
-
-  pub ships_both : ShipsOn has torn same faults old now count next failed fails xs ys → ShipsOn has torn same faults now last next final fails still ys zs
-      → ShipsOn has torn same faults old last count final failed still xs zs
-  ships_both a b = record { on = λ first was. b.on first (a.on first was) }
 
 -- ---- the close
 

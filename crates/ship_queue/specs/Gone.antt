@@ -1,5 +1,5 @@
 -- How reading and shipping have ended, but for the last record.
-use Rattle.std.specs.Prelude.{◌≡◌, ◌<◌, ℕ, true, List, [], ◌∷◌, Option, None, Err}
+use Rattle.std.specs.Prelude.{◌≡◌, ◌<◌, ℕ, List, [], ◌∷◌, Option, None, Err}
 use Rattle.crossbeam_queue.specs.Passes.{view}
 use Rattle.append_ring.specs.declared.pass.RingKey.{RingKey}
 use Rattle.append_ring.specs.Rules.{RingPlace}

@@ -126,11 +126,8 @@ impl Gate {
         if self.was_late.load(Ordering::SeqCst) != 0 {
             return false;
         }
-        self.moves.park_timeout(
-            rt,
-            (moves % HALF) as u32,
-            Duration::from_millis(PATIENCE),
-        );
+        self.moves
+            .park_timeout(rt, (moves % HALF) as u32, Duration::from_millis(PATIENCE));
         let is_late = self.worker.load(Ordering::SeqCst) == AWAY;
         if is_late {
             self.was_late.store(1, Ordering::SeqCst);

@@ -63,13 +63,7 @@ impl ReadingHalf {
     }
 
     /// Pushes the reading. False where the ring is full: then it is the next to be pushed.
-    fn push<R: Wait>(
-        &mut self,
-        rt: &R,
-        ring: &Ring<Reading>,
-        gate: &Gate,
-        reading: Reading,
-    ) -> bool
+    fn push<R: Wait>(&mut self, rt: &R, ring: &Ring<Reading>, gate: &Gate, reading: Reading) -> bool
         requires key { IsKeyOf ring.now self.old.key }
         requires whole { FitsItsLog reading }
         ensures key { IsKeyOf ring.now self.new.key }

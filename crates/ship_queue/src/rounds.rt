@@ -186,7 +186,15 @@ pub(crate) fn ship_read<R: Threads + Wait + Sync, D: Disk + Send, P: Peer>(
 ) -> Ending
     ensures { HasGone (IsTrue D.told) D.view D.faults P.has P.torn P.stays P.faults tail.old tail.new disk.old disk.new peer.old peer.new result }
 {
-    let Ok(Opened { ring, keys, key, consumer }) = Opened::new(alloc) else {
+    let Ok(
+        Opened {
+            ring,
+            keys,
+            key,
+            consumer,
+        },
+    ) = Opened::new(alloc)
+    else {
         return Ending::Refused(TailRefusal::Memory);
     };
     let gate = Gate::new();
@@ -202,7 +210,17 @@ pub(crate) fn ship_read<R: Threads + Wait + Sync, D: Disk + Send, P: Peer>(
         },
         has_failed: false,
     };
-    go_on(rt, alloc, &ring, &gate, tail, disk, &mut reader, peer, &mut shipper);
+    go_on(
+        rt,
+        alloc,
+        &ring,
+        &gate,
+        tail,
+        disk,
+        &mut reader,
+        peer,
+        &mut shipper,
+    );
     let ReadingHalf { key, stage } = reader;
     let (count, has_failed) = settle(rt, ring, &gate, keys, key, peer, shipper);
     if has_failed {

@@ -1,4 +1,4 @@
-use Rattle.std.proofs.Common.{◌≡◌, List, ap, subst}
+use Rattle.std.proofs.Common.{◌≡◌, List, subst}
 use Rattle.crossbeam_queue.specs.Passes.{view}
 use Rattle.ship_queue.specs.declared.reading.Reading.{Reading}
 use Rattle.ship_queue.specs.Halves.{ShipsOn}

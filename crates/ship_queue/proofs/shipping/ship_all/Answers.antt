@@ -1,4 +1,4 @@
-use Rattle.std.proofs.Common.{◌≡◌, ◌≢◌, ◌⊎◌, inl, inr, true, ◌+◌, ◌<◌, ◌∙◌, ℕ, List, Err, refl, sym, ap, subst, arith}
+use Rattle.std.proofs.Common.{◌≡◌, true, ◌∙◌, Err, refl, sym, ap, subst, arith}
 use Rattle.log_model.specs.Files.{Files}
 use Rattle.log_tail.specs.declared.refusal.TailRefusal.{TailRefusal}
 use Rattle.log_tail.specs.Position.{position_of}
@@ -7,8 +7,8 @@ use Rattle.ship_queue.specs.declared.error.ShipRefusal.TheVariants as ships
 use Rattle.ship_queue.specs.declared.rounds.Ending.TheVariants as endings
 use Rattle.ship_queue.specs.Course.{HasReadOn, IsAtEnd}
 use Rattle.ship_queue.specs.Shipping.{ShipsUpTo, IsStop}
-use Rattle.ship_queue.proofs.Ends.{err_of, never_peer, was_disk, was_damaged, was_no_position}
-use Rattle.ship_queue.proofs.Going.{all_texts, counted_on, ships_so_far, part_so_far, ships_all, part_at_end, torn_so_far, torn_at_end}
+use Rattle.ship_queue.proofs.Ends.{never_peer, was_disk, was_damaged, was_no_position}
+use Rattle.ship_queue.proofs.Going.{all_texts, ships_so_far, part_so_far, ships_all, part_at_end, torn_so_far, torn_at_end}
 use Rattle.ship_queue.proofs.Leads.{damaged_stuck, out_stuck, none_ahead, damage_shown, out_shown}
 use Rattle.ship_queue.proofs.Stops.{step_cut, step_so_far, step_all, step_at_end, end_stop}
 use Rattle.ship_queue.proofs.shipping.ship_all.Goals as goal
@@ -92,8 +92,8 @@ returns-in-Refused-clause-peer_cause g c =
 
 -- ---- the last record
 
-pub returns-in-AtEnd-clause-ships : goal.returns-in-AtEnd-clause-ships
-returns-in-AtEnd-clause-ships g c told ms h not_peer =
+pub returns-in_ok-confirm-in-AtEnd-clause-ships : goal.returns-in_ok-confirm-in-AtEnd-clause-ships
+returns-in_ok-confirm-in-AtEnd-clause-ships g c told ms h not_peer =
     let w = c.in-AtEnd.ensures in
     let files : Files = (g.D.Disk.view c.args.disk.now).files in
     let p : Position = c.args.tail.now in
@@ -101,29 +101,16 @@ returns-in-AtEnd-clause-ships g c told ms h not_peer =
     let same : q ≡ c.ship_read.new.tail = c.position-position.ensures in
     let read : HasReadOn files p q w.xs = subst (λ (r : Position). HasReadOn files p r w.xs) (sym same) (w.read told) in
     let end : IsAtEnd files q = subst (IsAtEnd files) (sym same) (w.stopped told).0 in
-    let s = ships_all g.P.Peer.has files p q c.args.peer.now c.ship_read.new.peer w.xs read ms h c.in-AtEnd.count.unrecorded c.in-AtEnd.count.within c.confirm.new.self w.shipped.sent c.in_ok-confirm.ensures.recorded end in
+    let s = ships_all g.P.Peer.has files p q c.args.peer.now c.ship_read.new.peer w.xs read ms h c.in-AtEnd.count.unrecorded c.in-AtEnd.count.within c.confirm.new.self w.shipped.sent c.in_ok-confirm-in-AtEnd.ensures.recorded end in
     (s.0, s.1, s.2, subst (ShipsUpTo files p s.0) same s.3, s.4)
 
-pub returns-in-AtEnd-clause-all : goal.returns-in-AtEnd-clause-all
-returns-in-AtEnd-clause-all g c told =
+pub returns-in_ok-confirm-in-AtEnd-clause-all : goal.returns-in_ok-confirm-in-AtEnd-clause-all
+returns-in_ok-confirm-in-AtEnd-clause-all g c told =
     let w = c.in-AtEnd.ensures in
     all_texts (g.D.Disk.view c.args.disk.now).files c.args.tail.now c.ship_read.new.tail w.xs (w.read told) (w.stopped told).0
 
-pub returns-in-AtEnd-clause-count : goal.returns-in-AtEnd-clause-count
-returns-in-AtEnd-clause-count g c told chronicle is =
-    let w = c.in-AtEnd.ensures in
-    counted_on (g.D.Disk.view c.args.disk.now).files c.args.tail.now c.ship_read.new.tail w.xs c.in-AtEnd.count.entries chronicle (w.read told) is ((w.stopped told).0.none chronicle is) w.shipped.number
-
-pub returns-in-AtEnd-clause-leads : goal.returns-in-AtEnd-clause-leads
-returns-in-AtEnd-clause-leads g c = c.in-AtEnd.ensures.leads
-
-pub returns-in-AtEnd-clause-tail : goal.returns-in-AtEnd-clause-tail
-returns-in-AtEnd-clause-tail g c told chronicle is =
-    let w = c.in-AtEnd.ensures in
-    (w.xs, (w.read told).read chronicle is)
-
-pub returns-in-AtEnd-clause-reached : goal.returns-in-AtEnd-clause-reached
-returns-in-AtEnd-clause-reached g c told going chronicle ms is h not_peer =
+pub returns-in_ok-confirm-in-AtEnd-clause-reached : goal.returns-in_ok-confirm-in-AtEnd-clause-reached
+returns-in_ok-confirm-in-AtEnd-clause-reached g c told going chronicle ms is h not_peer =
     let w = c.in-AtEnd.ensures in
     let files : Files = (g.D.Disk.view c.args.disk.now).files in
     let p : Position = c.args.tail.now in
@@ -131,41 +118,24 @@ returns-in-AtEnd-clause-reached g c told going chronicle ms is h not_peer =
     let same : q ≡ c.ship_read.new.tail = c.position-position.ensures in
     let read : HasReadOn files p q w.xs = subst (λ (r : Position). HasReadOn files p r w.xs) (sym same) (w.read told) in
     let end : IsStop files p q = subst (IsStop files p) (sym same) (end_stop files going p c.ship_read.new.tail (w.leads told) (w.stopped told).1) in
-    step_all g.P.Peer.has files p q c.args.peer.now c.ship_read.new.peer w.xs read ms h chronicle is c.in-AtEnd.count.unrecorded c.in-AtEnd.count.within w.shipped.sent c.confirm.new.self end c.in_ok-confirm.ensures.recorded
+    step_all g.P.Peer.has files p q c.args.peer.now c.ship_read.new.peer w.xs read ms h chronicle is c.in-AtEnd.count.unrecorded c.in-AtEnd.count.within w.shipped.sent c.confirm.new.self end c.in_ok-confirm-in-AtEnd.ensures.recorded
 
-pub returns-in-AtEnd-clause-damage : goal.returns-in-AtEnd-clause-damage
-returns-in-AtEnd-clause-damage g c told q name at ahead d =
+pub returns-in_ok-confirm-in-AtEnd-clause-damage : goal.returns-in_ok-confirm-in-AtEnd-clause-damage
+returns-in_ok-confirm-in-AtEnd-clause-damage g c told q name at ahead d =
     let w = c.in-AtEnd.ensures in
     let files : Files = (g.D.Disk.view c.args.disk.now).files in
     absurd (none_ahead files c.args.tail.now c.ship_read.new.tail q (w.leads told) (w.stopped told).1 (damaged_stuck files q name at d) ahead)
 
-pub returns-in-AtEnd-clause-out : goal.returns-in-AtEnd-clause-out
-returns-in-AtEnd-clause-out g c told q file has ahead out =
+pub returns-in_ok-confirm-in-AtEnd-clause-out : goal.returns-in_ok-confirm-in-AtEnd-clause-out
+returns-in_ok-confirm-in-AtEnd-clause-out g c told q file has ahead out =
     let w = c.in-AtEnd.ensures in
     let files : Files = (g.D.Disk.view c.args.disk.now).files in
     absurd (none_ahead files c.args.tail.now c.ship_read.new.tail q (w.leads told) (w.stopped told).1 (out_stuck files q file has out) ahead)
 
 -- ---- the last record fails
 
-pub returns-in_err-confirm-clause-leads : goal.returns-in_err-confirm-clause-leads
-returns-in_err-confirm-clause-leads g c = c.in-AtEnd.ensures.leads
-
-pub returns-in_err-confirm-clause-damage : goal.returns-in_err-confirm-clause-damage
-returns-in_err-confirm-clause-damage g c told q name at ahead d = inr (inr (inr (err_of c.from_residual.result ships.PeerFault c.from_residual.ensures.1)))
-
-pub returns-in_err-confirm-clause-out : goal.returns-in_err-confirm-clause-out
-returns-in_err-confirm-clause-out g c told q file has ahead out = inr (inr (inr (err_of c.from_residual.result ships.PeerFault c.from_residual.ensures.1)))
-
-pub returns-in_err-confirm-clause-ships : goal.returns-in_err-confirm-clause-ships
-returns-in_err-confirm-clause-ships g c told ms h not_peer = absurd (not_peer (err_of c.from_residual.result ships.PeerFault c.from_residual.ensures.1))
-
-pub returns-in_err-confirm-clause-tail : goal.returns-in_err-confirm-clause-tail
-returns-in_err-confirm-clause-tail g c told chronicle is =
-    let w = c.in-AtEnd.ensures in
-    (w.xs, (w.read told).read chronicle is)
-
-pub returns-in_err-confirm-clause-failed : goal.returns-in_err-confirm-clause-failed
-returns-in_err-confirm-clause-failed g c told chronicle ms ns is h k failed =
+pub returns-in_err-confirm-in-AtEnd-clause-failed : goal.returns-in_err-confirm-in-AtEnd-clause-failed
+returns-in_err-confirm-in-AtEnd-clause-failed g c told chronicle ms ns is h k failed =
     let w = c.in-AtEnd.ensures in
     let files : Files = (g.D.Disk.view c.args.disk.now).files in
     let p : Position = c.args.tail.now in
@@ -173,24 +143,10 @@ returns-in_err-confirm-clause-failed g c told chronicle ms ns is h k failed =
     let same : q ≡ c.ship_read.new.tail = c.position-position.ensures in
     let read : HasReadOn files p q w.xs = subst (λ (r : Position). HasReadOn files p r w.xs) (sym same) (w.read told) in
     part_at_end g.P.Peer.has files p q c.args.peer.now c.ship_read.new.peer w.xs read ms h c.in-AtEnd.count.unrecorded c.in-AtEnd.count.within c.confirm.new.self w.shipped.sent chronicle is ns
-    (λ ls hl. c.in_err-confirm.ensures.failed ls ns hl k (refl {a = true}))
+    (λ ls hl. c.in_err-confirm-in-AtEnd.ensures.failed ls ns hl k (refl {a = true}))
 
-pub returns-in_err-confirm-clause-stays : goal.returns-in_err-confirm-clause-stays
-returns-in_err-confirm-clause-stays g c = g.met.P.Peer.stays_on c.args.peer.now c.ship_read.new.peer c.confirm.new.self c.in-AtEnd.ensures.stays c.confirm.ensures.stays
-
-pub returns-in_err-confirm-clause-disk_cause : goal.returns-in_err-confirm-clause-disk_cause
-returns-in_err-confirm-clause-disk_cause g c =
-    let is_peer = err_of c.from_residual.result ships.PeerFault c.from_residual.ensures.1 in
-    record { later = c.in-AtEnd.ensures.disk_cause.later; risen = λ is. absurd (cc (is, is_peer)) }
-
-pub returns-in_err-confirm-clause-peer_cause : goal.returns-in_err-confirm-clause-peer_cause
-returns-in_err-confirm-clause-peer_cause g c =
-    let was = c.in-AtEnd.ensures.peer_cause.later in
-    let cause = c.in_err-confirm.ensures.cause in
-    record { later = omega (arith, was, cause.later); risen = λ is. omega (arith, was, cause.risen (refl {a = true})) }
-
-pub returns-in_err-confirm-clause-torn : goal.returns-in_err-confirm-clause-torn
-returns-in_err-confirm-clause-torn g c told ms h failed =
+pub returns-in_err-confirm-in-AtEnd-clause-torn : goal.returns-in_err-confirm-in-AtEnd-clause-torn
+returns-in_err-confirm-in-AtEnd-clause-torn g c told ms h failed =
     let w = c.in-AtEnd.ensures in
     let files : Files = (g.D.Disk.view c.args.disk.now).files in
     let p : Position = c.args.tail.now in
@@ -198,13 +154,10 @@ returns-in_err-confirm-clause-torn g c told ms h failed =
     let same : q ≡ c.ship_read.new.tail = c.position-position.ensures in
     let read : HasReadOn files p q w.xs = subst (λ (r : Position). HasReadOn files p r w.xs) (sym same) (w.read told) in
     torn_at_end g.P.Peer.has g.P.Peer.torn files p q c.args.peer.now c.ship_read.new.peer w.xs read ms h c.confirm.new.self c.in-AtEnd.count.unrecorded c.in-AtEnd.count.within w.shipped.sent
-    (λ ls hl. c.in_err-confirm.ensures.torn ls hl (refl {a = true}))
+    (λ ls hl. c.in_err-confirm-in-AtEnd.ensures.torn ls hl (refl {a = true}))
 
-pub returns-in_err-confirm-clause-reached : goal.returns-in_err-confirm-clause-reached
-returns-in_err-confirm-clause-reached g c told going chronicle ms is h not_peer = absurd (not_peer (err_of c.from_residual.result ships.PeerFault c.from_residual.ensures.1))
-
-pub returns-in_err-confirm-clause-reached_so_far : goal.returns-in_err-confirm-clause-reached_so_far
-returns-in_err-confirm-clause-reached_so_far g c told going chronicle ms ns is h k failed =
+pub returns-in_err-confirm-in-AtEnd-clause-reached_so_far : goal.returns-in_err-confirm-in-AtEnd-clause-reached_so_far
+returns-in_err-confirm-in-AtEnd-clause-reached_so_far g c told going chronicle ms ns is h k failed =
     let w = c.in-AtEnd.ensures in
     let files : Files = (g.D.Disk.view c.args.disk.now).files in
     let p : Position = c.args.tail.now in
@@ -213,7 +166,7 @@ returns-in_err-confirm-clause-reached_so_far g c told going chronicle ms ns is h
     let read : HasReadOn files p q w.xs = subst (λ (r : Position). HasReadOn files p r w.xs) (sym same) (w.read told) in
     let end : IsStop files p q = subst (IsStop files p) (sym same) (end_stop files going p c.ship_read.new.tail (w.leads told) (w.stopped told).1) in
     step_at_end g.P.Peer.has files p q c.args.peer.now c.ship_read.new.peer w.xs read ms h chronicle is c.in-AtEnd.count.unrecorded c.in-AtEnd.count.within w.shipped.sent c.confirm.new.self end ns k
-    (λ ls hl. c.in_err-confirm.ensures.failed ls ns hl k (refl {a = true}))
+    (λ ls hl. c.in_err-confirm-in-AtEnd.ensures.failed ls ns hl k (refl {a = true}))
 
 -- ---- the peer failed at an entry
 

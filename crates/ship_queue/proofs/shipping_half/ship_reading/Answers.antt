@@ -1,4 +1,4 @@
-use Rattle.std.proofs.Common.{ℕ, ◌+◌, ◌∙◌, Bool, List, length, true, refl, ap, subst}
+use Rattle.std.proofs.Common.{◌+◌, ◌∙◌, Bool, List, length, true, refl, ap, subst}
 use Rattle.log_model.specs.Entry.{Entry}
 use Rattle.log_tail.specs.Reads.{placed_behind}
 use Rattle.ship_queue.specs.Course.{counted}
