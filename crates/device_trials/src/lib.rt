@@ -6,6 +6,8 @@
 #[cfg(test)]
 mod accounts;
 #[cfg(test)]
+mod ahead;
+#[cfg(test)]
 mod bench;
 #[cfg(test)]
 mod compact_stops;

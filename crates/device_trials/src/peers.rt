@@ -8,6 +8,10 @@ use entry_frame::Entry;
 use log_tail::Position;
 use ship_queue::{MemPeer, Peer};
 use std::alloc::Global;
+use std::thread;
+
+/// How often a call gives the processor away first, so that who reads comes ahead of who ships.
+const TURNS: u64 = 20;
 
 /// Has in memory what it was told, and fails at one call: it may have been told that or not. It tells nothing to contracts.
 #[derive(Drop)]
@@ -35,6 +39,9 @@ impl FailPeer {
     fn count(&mut self) -> bool
         ensures { self.new.faults ≡ self.old.faults }
     {
+        for _turn in 0..TURNS {
+            thread::yield_now();
+        }
         self.calls = self.calls.saturating_add(1);
         self.calls == self.fails_at
     }

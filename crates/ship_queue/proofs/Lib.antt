@@ -10,3 +10,5 @@ pub mod Going
 mod Ends
 mod Leads
 mod Stops
+mod HalfLaws
+mod GoneLaws

@@ -1,5 +1,5 @@
 -- Positions that are recorded are such at which a reader stops.
-use Rattle.std.proofs.Common.{◌≡◌, ◌⊎◌, inl, inr, ℕ, ◌<◌, ◌≤◌, ◌+◌, Bool, true, List, [], ◌∷◌, ◌++◌, length, is_some, Contains, filter, Option, Some, None, refl, sym, ap, ◌∙◌, subst, arith, append_assoc}
+use Rattle.std.proofs.Common.{◌≡◌, ◌⊎◌, inl, inr, ℕ, ◌<◌, ◌≤◌, ◌+◌, true, List, [], ◌∷◌, ◌++◌, is_some, Contains, filter, Option, Some, None, refl, sym, ap, ◌∙◌, subst, arith, append_assoc}
 use Rattle.std.proofs.lemmas.Bool.{cases_order}
 use Rattle.std.proofs.lemmas.List.Elements.{Contains-append_left, Contains-append_right, All-contains, All-contains_itself, All-filter}
 use Rattle.std.proofs.lemmas.Option.{slice_get_within}
@@ -11,7 +11,7 @@ use Rattle.chronicle_model.proofs.Grown.{not_there}
 use Rattle.chronicle_model.proofs.Order.{here}
 use Rattle.log_tail.specs.Reads.{HasHigher, HasNoLog, IsRead}
 use Rattle.ship_queue.specs.Course.{LeadOver, LeadsTo, HasReadOn}
-use Rattle.ship_queue.specs.Messages.{Message, Entry_of, Record_of, shipped_in, recorded_from, recorded_in, position_behind, MayBeRecorded}
+use Rattle.ship_queue.specs.Messages.{Message, Record_of, shipped_in, recorded_from, recorded_in, position_behind, MayBeRecorded}
 use Rattle.ship_queue.specs.Sent.{AreSent, IsCut, HasSent, HasStopped}
 use Rattle.ship_queue.specs.Shipping.{IsOnward, IsStop, IsShipStep}
 use Rattle.ship_queue.proofs.Behind.{passes, stands, StandsBehind}

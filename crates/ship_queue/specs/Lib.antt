@@ -4,3 +4,5 @@ pub mod Sent
 pub mod Course
 pub mod Refusals
 pub mod Shipping
+pub mod Halves
+pub mod Gone

@@ -5,12 +5,17 @@
 #![tactic(auto)]
 
 mod error;
+mod gate;
+mod item;
 mod laws;
 mod memory_peer;
 mod peer;
 mod reading;
+mod reading_half;
+mod rounds;
 mod sending;
 mod shipping;
+mod shipping_half;
 
 pub use error::{ShipRefusal, Shipped};
 pub use laws::{part_ship_is_a_step, ship_is_a_part_ship};

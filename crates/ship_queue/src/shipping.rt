@@ -14,8 +14,7 @@ ghost use Rattle.ship_queue.specs.Shipping.{ShipsBeginning, ShipsUpTo, ShipsAll,
 
 use crate::error::{ShipRefusal, Shipped};
 use crate::peer::Peer;
-use crate::reading::read_next;
-use crate::sending::{Count, ship_list};
+use crate::rounds::{Ending, ship_read};
 use disk_images::Disk;
 use log_tail::Tail;
 use std::alloc::Global;
@@ -75,21 +74,16 @@ pub fn ship_all<R: Threads + Wait + Sync, D: Disk + Send, P: Peer>(
     ensures disk_cause { HasCause (D.faults disk.old) (D.faults disk.new) (IsErrOf result ShipRefusal.DiskFault) }
     ensures peer_cause { HasCause (P.faults peer.old) (P.faults peer.new) (IsErrOf result ShipRefusal.PeerFault) }
 {
-    let mut count = Count {
-        entries: 0,
-        unrecorded: 0,
-    };
-    for _round in rt.forever() {
-        let reading = read_next(alloc, tail, disk)?;
-        if reading.is_last {
+    match ship_read(rt, alloc, tail, disk, peer) {
+        Ending::AtEnd(count) => {
             let position = tail.position();
             peer.confirm(position)?;
-            return Ok(Shipped {
+            Ok(Shipped {
                 entries: count.entries,
                 position,
-            });
+            })
         }
-        ship_list(peer, &mut count, reading.at, reading.entries.as_slice())?;
+        Ending::Refused(e) => Err(ShipRefusal::from(e)),
+        Ending::PeerFailed => Err(ShipRefusal::PeerFault),
     }
-    unreachable!()
 }
