@@ -79,20 +79,18 @@ pub(crate) fn disk_of(alloc: Global, logs: Logs) -> Result<&'static mut MemDisk,
 
 /// How many logs a disk of many has, and how many entries each of them.
 pub(crate) const LOGS: u64 = 6;
+
 pub(crate) const IN_EACH: u64 = 2;
 
 /// A disk with many logs: all but the last have an end frame.
 pub(crate) fn disk_of_many(alloc: Global) -> Result<&'static mut MemDisk, Fail> {
     let disk = files::disk_of(alloc, &[], &[])?;
-    for number in 1..=LOGS {
+    for before in 0..LOGS {
+        let number = before.saturating_add(1);
+        let first = before.saturating_mul(IN_EACH);
+        let last = first.saturating_add(IN_EACH);
         let text = new_text(alloc)?;
-        let first = (number - 1).saturating_mul(IN_EACH);
-        write_entries(
-            text,
-            number,
-            first.saturating_add(1),
-            first.saturating_add(IN_EACH),
-        )?;
+        write_entries(text, number, first.saturating_add(1), last)?;
         if number < LOGS {
             text.extend_from_slice(&[0xA5, 2, 0, 0, 0, 8])?;
             text.extend_from_slice(&IN_EACH.to_be_bytes())?;
