@@ -1,6 +1,8 @@
 //! A disk with two logs: the first is closed and an old log by now, the second goes on. It is never dropped, nor are the texts: no trial
 //! shows how.
 
+ghost use Rattle.disk_fakes.specs.Views.{view_of};
+
 use crate::files::{self, add};
 use disk_fakes::MemDisk;
 use disk_images::{Name, NameKind};
@@ -82,21 +84,36 @@ pub(crate) const LOGS: u64 = 6;
 
 pub(crate) const IN_EACH: u64 = 2;
 
-/// A disk with many logs: all but the last have an end frame.
+/// Makes the log after so many others: its entries go on where theirs end, and it has an end frame unless it is the last one.
+fn add_log(alloc: Global, disk: &mut MemDisk, before: u64) -> Result<(), Fail>
+    requires none_gone { (m : _) → ¬ (view_of disk.old).gone m }
+    ensures none_gone { (m : _) → ¬ (view_of disk.new).gone m }
+{
+    let number = before.saturating_add(1);
+    let first = before.saturating_mul(IN_EACH);
+    let last = first.saturating_add(IN_EACH);
+    let text = new_text(alloc)?;
+    write_entries(text, number, first.saturating_add(1), last)?;
+    if number < LOGS {
+        text.extend_from_slice(&[0xA5, 2, 0, 0, 0, 8])?;
+        text.extend_from_slice(&IN_EACH.to_be_bytes())?;
+    }
+    text.push(0)?;
+    add(disk, named(NameKind::Log, number), text.as_slice())
+}
+
+fn add_logs(alloc: Global, disk: &mut MemDisk) -> Result<(), Fail>
+    requires none_gone { (m : _) → ¬ (view_of disk.old).gone m }
+{
+    for before in 0..LOGS {
+        add_log(alloc, disk, before)?;
+    }
+    Ok(())
+}
+
+/// A disk with many logs.
 pub(crate) fn disk_of_many(alloc: Global) -> Result<&'static mut MemDisk, Fail> {
     let disk = files::disk_of(alloc, &[], &[])?;
-    for before in 0..LOGS {
-        let number = before.saturating_add(1);
-        let first = before.saturating_mul(IN_EACH);
-        let last = first.saturating_add(IN_EACH);
-        let text = new_text(alloc)?;
-        write_entries(text, number, first.saturating_add(1), last)?;
-        if number < LOGS {
-            text.extend_from_slice(&[0xA5, 2, 0, 0, 0, 8])?;
-            text.extend_from_slice(&IN_EACH.to_be_bytes())?;
-        }
-        text.push(0)?;
-        add(disk, named(NameKind::Log, number), text.as_slice())?;
-    }
+    add_logs(alloc, disk)?;
     Ok(disk)
 }
