@@ -21,3 +21,7 @@ returns-clause-failed g c told first start later is failed ns has =
     followed g.P.Peer.has first start later old c.args.peer.now (position_of c.args.at) is c.shipped_begins_the_chronicle.ensures (g.D.Disk.view c.ship_all.new.disk).files (c.ship_all.ensures.looks told).1.files ns
     ((rw c.at-tail.ensures at c.ship_all.ensures.reached_so_far) told (going_now g.P.Peer.has first start later old c.args.peer.now (position_of c.args.at) is) m.chronicle m.messages ns
     (chronicle_now g.P.Peer.has first start later old c.args.peer.now (position_of c.args.at) is) is.told has failed)
+
+pub returns-clause-ships : goal.returns-clause-ships
+returns-clause-ships g c told ms has other =
+    let said = (rw c.at-tail.ensures at c.ship_all.ensures.ships) told ms has other in (said.0, said.1, said.2, said.4)
